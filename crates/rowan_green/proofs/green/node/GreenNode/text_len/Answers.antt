@@ -1,0 +1,12 @@
+use Rattle.std.proofs.Common.{◌≡◌, subst}
+use Rattle.rowan_green.specs.Fits.{FitsNode}
+use Rattle.rowan_green.specs.Term.{node_len}
+use Rattle.rowan_green.proofs.Sound.{AreSound-len, AreSound-fits}
+use Rattle.rowan_green.proofs.green.node.GreenNode.text_len.Goals as goal
+
+pub returns-clause-len : goal.returns-clause-len
+returns-clause-len c =
+    rw c.deref.ensures (subst (λ n. c.self.inside.data.value.text_len ≡ node_len n) c.self.view_is (AreSound-len (c.self.inside.data.value.kind.0) _ _ c.self.invariant))
+
+pub returns-clause-fits : goal.returns-clause-fits
+returns-clause-fits c = subst (λ n. FitsNode n) c.self.view_is (AreSound-fits (c.self.inside.data.value.kind.0) _ _ c.self.invariant)

@@ -1,0 +1,28 @@
+-- What the memory of a node says: its term, and what is stored beside it.
+use Rattle.std.specs.Prelude.{◌≡◌, ℕ, ◌+◌, ◌≤◌, List, [], ◌∷◌, map, length}
+use Rattle.rowan_green.specs.declared.green.node.NodeData.{NodeData}
+use Rattle.rowan_green.specs.declared.green.node.GreenChild.{GreenChild}
+use Rattle.rowan_green.specs.Term.{NodeTerm, Term, node_of, sum_of_lens, term_len}
+use Rattle.rowan_green.specs.Fits.{AreWithin, AllFit}
+
+-- the term of a child
+abbrev pub child_term : GreenChild → Term
+child_term c = c.element
+
+abbrev pub node_view : NodeData → NodeTerm
+node_view d = node_of d.kind.0 (map child_term d.children.items)
+
+-- each child's offset is the sum of the lengths before it
+abbrev pub HasOffsetsFrom : ℕ → List GreenChild → Type 0
+HasOffsetsFrom at [] = Unit {0}
+HasOffsetsFrom at (c ∷ cs) = (c.rel_offset ≡ at) × HasOffsetsFrom (at + term_len (child_term c)) cs
+
+-- a stored length and the stored offsets are those of the children, which are within the limits at every level
+pub record AreSound (len : ℕ) (cs : List GreenChild) : Type 0 where
+  pub sum : len ≡ sum_of_lens (map child_term cs)
+  pub offsets : HasOffsetsFrom 0 cs
+  pub within : AreWithin (map child_term cs)
+  pub fit : AllFit (map child_term cs)
+
+abbrev pub IsSound : NodeData → Type 0
+IsSound d = AreSound d.text_len d.children.items

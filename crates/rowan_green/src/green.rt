@@ -1,0 +1,13 @@
+//! Green values: immutable tokens and nodes, which know neither a place nor a parent, and are shared.
+
+mod element;
+mod node;
+mod token;
+
+pub use element::{GreenElement, GreenElementRef};
+pub use node::{GreenNode, GreenNodeData};
+pub use token::{GreenToken, GreenTokenData};
+
+/// The kind of a token or a node, as the number that a language gives it.
+#[derive(Clone, Copy, PartialEq, Eq, PartialOrd, Ord, Hash, Debug)]
+pub struct SyntaxKind(pub u16);

@@ -1,0 +1,87 @@
+ghost use Rattle.std.specs.Prelude.{◌≡◌, ◌≢◌, ◌<◌, ◌≤◌, length, IfOk, IfErr};
+ghost use Rattle.rowan_green.specs.Fits.{byte_limit, FitsToken};
+ghost use Rattle.rowan_green.specs.Term.{token_len};
+
+use std::alloc::{AllocError, Global};
+use std::marker::Model;
+use std::rc::Rc;
+
+use crate::fault::Fault;
+use crate::green::SyntaxKind;
+use crate::text::TextSize;
+
+/// A leaf of a tree: a kind and a text, which may be empty. A clone shares the text.
+#[derive(Drop)]
+pub struct GreenToken {
+    data: Rc<TokenData>,
+}
+
+#[derive(Drop)]
+struct TokenData {
+    kind: SyntaxKind,
+    text: String,
+}
+
+/// Rust's rowan has a type of its own for what a token refers to. Here it is the token.
+pub type GreenTokenData = GreenToken;
+
+impl Model for GreenToken {
+    ghost use Rattle.std.specs.Prelude.{◌≤◌, length, string_bytes};
+    ghost use Rattle.rowan_green.specs.Term.{TokenTerm};
+    ghost use Rattle.rowan_green.specs.Fits.{byte_limit};
+
+    ghost Value = { TokenTerm };
+
+    ghost view = { λ t. record { kind = t.data.value.kind.0; text = string_bytes t.data.value.text } };
+
+    ghost invariant = { λ t. length (string_bytes t.data.value.text) ≤ byte_limit };
+}
+
+impl GreenToken {
+    /// The token of a kind and a text. Refused with `TextTooLong` past 4,294,967,295 bytes, and else only for want of memory.
+    pub fn new(alloc: Global, kind: SyntaxKind, text: &str) -> Result<GreenToken, Fault>
+        ensures ok { IfOk result (λ t. t ≡ record { kind = kind.0; text = text.now }) }
+        ensures err { IfErr result (λ e. e ≢ Fault.Memory → e ≡ Fault.TextTooLong) }
+        ensures too_long { byte_limit < length text.now → result ≡ Err Fault.TextTooLong }
+        ensures fits { result ≡ Err Fault.TextTooLong → byte_limit < length text.now }
+    {
+        if text.len() > u32::MAX as usize {
+            return Err(Fault::TextTooLong);
+        }
+        let text = String::from_str(alloc, text)?;
+        let data = Rc::new(alloc, TokenData { kind, text })?;
+        Ok(GreenToken { data })
+    }
+
+    /// The kind of the token.
+    pub fn kind(&self) -> SyntaxKind
+        ensures { result.0 ≡ self.now.kind }
+    {
+        self.data.kind
+    }
+
+    /// The text of the token.
+    pub fn text(&self) -> &str
+        ensures { result.now ≡ self.now.text }
+    {
+        self.data.text.as_str()
+    }
+
+    /// The number of bytes of the token's text.
+    pub fn text_len(&self) -> TextSize
+        ensures len { result ≡ token_len self.now }
+        ensures fits { FitsToken self.now }
+    {
+        TextSize::from(self.data.text.len() as u32)
+    }
+}
+
+impl Clone for GreenToken {
+    ghost is_clone = { λ token copy. copy ≡ token };
+
+    fn clone(&self) -> Result<GreenToken, AllocError> {
+        Ok(GreenToken {
+            data: self.data.clone()?,
+        })
+    }
+}

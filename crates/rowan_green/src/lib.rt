@@ -1,0 +1,12 @@
+//! Green trees: immutable tokens and nodes that keep every byte of a source text, and the builder that makes them.
+#![tactic(auto)]
+
+mod fault;
+pub mod green;
+pub mod text;
+pub mod utility_types;
+
+pub use fault::Fault;
+pub use green::{GreenElement, GreenElementRef, GreenNode, GreenNodeData, GreenToken, GreenTokenData, SyntaxKind};
+pub use text::TextSize;
+pub use utility_types::NodeOrToken;

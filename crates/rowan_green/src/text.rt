@@ -1,0 +1,148 @@
+//! Sizes and ranges of text, in bytes of UTF-8.
+ghost use Rattle.std.specs.Prelude.{◌≡◌, ℕ, ◌+◌, ◌-◌, ◌<◌, ◌≤◌, ◌↔◌, IsTrue, List, length};
+ghost use Rattle.rowan_green.specs.Fits.{byte_limit};
+
+use std::fmt;
+use std::marker::Model;
+
+/// A length or an offset of text, in bytes. At most 4,294,967,295.
+#[derive(Clone, Copy, PartialEq, Eq, PartialOrd, Ord, Hash, Default)]
+pub struct TextSize {
+    raw: u32,
+}
+
+impl Model for TextSize {
+    ghost use Rattle.std.specs.Prelude.{ℕ};
+
+    ghost Value = { ℕ };
+
+    ghost view = { λ s. s.raw };
+
+    ghost inverse = { λ n. record { raw = n } };
+}
+
+impl TextSize {
+    /// The length of a text.
+    pub fn of<T: TextLen>(text: T) -> TextSize
+        requires { length (T.bytes text) ≤ byte_limit }
+        ensures { result ≡ length (T.bytes text) }
+    {
+        text.text_len()
+    }
+}
+
+impl fmt::Debug for TextSize {
+    fn fmt<W: fmt::Write>(&self, f: &mut fmt::Formatter<W>) -> fmt::Result {
+        let raw = self.raw;
+        write!(f, "{raw}")
+    }
+}
+
+impl From<u32> for TextSize {
+    ghost from_gives = { λ raw size. size ≡ raw };
+
+    fn from(raw: u32) -> TextSize {
+        TextSize { raw }
+    }
+}
+
+impl From<TextSize> for u32 {
+    ghost from_gives = { λ size raw. raw ≡ size };
+
+    fn from(size: TextSize) -> u32 {
+        size.raw
+    }
+}
+
+/// Text that has a length.
+pub trait TextLen: Copy {
+    ghost bytes: { Self → List ℕ };
+
+    /// The length of this text, which is within the limit of a `TextSize`.
+    fn text_len(self) -> TextSize
+        requires { length (bytes self) ≤ byte_limit }
+        ensures { result ≡ length (bytes self) };
+}
+
+impl TextLen for &str {
+    ghost bytes = { λ text. text.now };
+
+    fn text_len(self) -> TextSize {
+        TextSize::from(self.len() as u32)
+    }
+}
+
+/// A range of text: from a start to an end, which does not lie before it.
+#[derive(Clone, Copy, PartialEq, Eq, Hash)]
+pub struct TextRange {
+    start: TextSize,
+    end: TextSize,
+}
+
+impl Model for TextRange {
+    ghost use Rattle.std.specs.Prelude.{◌≤◌};
+    ghost use Rattle.rowan_green.specs.Span.{Span};
+
+    ghost Value = { Span };
+
+    ghost view = { λ r. record { start = r.start; end = r.end } };
+
+    ghost invariant = { λ r. r.start ≤ r.end };
+
+    ghost inverse = { λ s. record { start = s.start; end = s.end } };
+}
+
+impl TextRange {
+    /// The range from a start to an end.
+    pub fn new(start: TextSize, end: TextSize) -> TextRange
+        requires { start ≤ end }
+        ensures { result ≡ record { start = start; end = end } }
+    {
+        TextRange { start, end }
+    }
+
+    /// The range of a length from an offset on.
+    pub fn at(offset: TextSize, len: TextSize) -> TextRange
+        requires { offset + len ≤ byte_limit }
+        ensures { result ≡ record { start = offset; end = offset + len } }
+    {
+        let end = TextSize::from(offset.raw + len.raw);
+        TextRange { start: offset, end }
+    }
+
+    /// Where the range starts.
+    pub fn start(self) -> TextSize
+        ensures { result ≡ self.start }
+    {
+        self.start
+    }
+
+    /// Where the range ends: the offset of the first byte behind it.
+    pub fn end(self) -> TextSize
+        ensures { result ≡ self.end }
+    {
+        self.end
+    }
+
+    /// How many bytes the range has.
+    pub fn len(self) -> TextSize
+        ensures { result ≡ self.end - self.start }
+    {
+        TextSize::from(self.end.raw - self.start.raw)
+    }
+
+    /// Whether the range has no bytes.
+    pub fn is_empty(self) -> bool
+        ensures { IsTrue result ↔ (self.start ≡ self.end) }
+    {
+        self.start == self.end
+    }
+}
+
+impl fmt::Debug for TextRange {
+    fn fmt<W: fmt::Write>(&self, f: &mut fmt::Formatter<W>) -> fmt::Result {
+        let start = self.start.raw;
+        let end = self.end.raw;
+        write!(f, "{start}..{end}")
+    }
+}
