@@ -5,4 +5,5 @@ pub mod Fits
 pub mod Span
 pub mod Term
 pub mod View
+pub mod Weave
 pub mod Word

@@ -1,10 +1,13 @@
 -- Words: the symbols that spell terms, as brackets round leaves.
 --     A token spells itself. A node spells an opening with its kind, its children's words, and a closing.
 -- The items of a word are its openings that nothing closes, here called bare, and its whole terms.
--- A word has at most one list of items, since a closing is no item: `parts-unique` of `proofs/Words.antt`.
-use Rattle.std.specs.Prelude.{◌≡◌, ℕ, ◌+◌, List, [], ◌∷◌, ◌++◌, map, length}
+-- A word has at most one list of items, since a closing is no item: the law of `laws::word_has_one_reading`.
+use Rattle.std.specs.Prelude.{◌≡◌, ◌≢◌, ℕ, ◌+◌, ◌<◌, List, [], ◌∷◌, ◌++◌, map, length}
+use Rattle.rowan_green.specs.declared.fault.Fault.{Fault}
+use Rattle.rowan_green.specs.declared.fault.Fault.TheVariants.{TextTooLong, TooManyChildren, NothingOpen, NotOneElement, NotANode, Memory}
 use Rattle.rowan_green.specs.declared.utility_types.NodeOrToken.TheVariants.{Node, Token}
 use Rattle.rowan_green.specs.Term.{TokenTerm, NodeTerm, node, Forest, empty, node_then, token_then, Term, node_of}
+use Rattle.rowan_green.specs.Fits.{byte_limit, AreWithin, PassesLimit}
 
 pub data Symbol : Type 0 where
   Open : ℕ → Symbol
@@ -39,3 +42,68 @@ spelled (i ∷ is) = item_word i ++ spelled is
 
 pub record HasParts (w : List Symbol) (items : List Item) : Type 0 where
   pub spells : w ≡ spelled items
+
+-- ---- what the builder's calls do to the word
+
+-- why a token of this text is refused
+abbrev pub WhyNoToken : List ℕ → Fault → Type 0
+WhyNoToken text TextTooLong = byte_limit < length text
+WhyNoToken text Memory = Unit {0}
+WhyNoToken text _ = ⊥
+
+-- A closing goes to the end of w. It closes the innermost bare opening over the whole terms behind it, which are within the limits.
+pub record Closes (w w2 : List Symbol) : Type 0 where
+  pub before : List Item
+  pub kind : ℕ
+  pub children : List Term
+  pub parts : HasParts w (before ++ Bare kind ∷ map Whole children)
+  pub within : AreWithin children
+  pub closed : w2 ≡ w ++ Close ∷ []
+
+-- no opening of the word is bare
+pub record HasNoneOpen (w : List Symbol) : Type 0 where
+  pub wholes : List Term
+  pub parts : HasParts w (map Whole wholes)
+
+-- the node that a closing would close passes this limit
+pub record ClosingPasses (w : List Symbol) (fault : Fault) : Type 0 where
+  pub before : List Item
+  pub kind : ℕ
+  pub children : List Term
+  pub parts : HasParts w (before ++ Bare kind ∷ map Whole children)
+  pub passes : PassesLimit children fault
+
+-- why a closing is refused
+abbrev pub WhyNotClosed : List Symbol → Fault → Type 0
+WhyNotClosed w NothingOpen = HasNoneOpen w
+WhyNotClosed w TooManyChildren = ClosingPasses w TooManyChildren
+WhyNotClosed w TextTooLong = ClosingPasses w TextTooLong
+WhyNotClosed w Memory = Unit {0}
+WhyNotClosed w _ = ⊥
+
+-- the whole terms among items
+abbrev pub whole_terms : List Item → List Term
+whole_terms [] = []
+whole_terms (Bare k ∷ items) = whole_terms items
+whole_terms (Whole t ∷ items) = t ∷ whole_terms items
+
+-- the whole terms of the word, without its bare openings
+pub record HasTerms (w : List Symbol) (ts : List Term) : Type 0 where
+  pub items : List Item
+  pub parts : HasParts w items
+  pub terms : whole_terms items ≡ ts
+
+-- the word's one whole term is this node; openings that nothing closed are left out
+abbrev pub IsFinished : List Symbol → NodeTerm → Type 0
+IsFinished w n = HasTerms w (Node n ∷ [])
+
+-- why the word has no finished tree
+abbrev pub WhyUnfinished : List Symbol → Fault → Type 0
+WhyUnfinished w NotOneElement = (ts : List Term) × HasTerms w ts × (length ts ≢ 1)
+WhyUnfinished w NotANode = (t : TokenTerm) × HasTerms w (Token t ∷ [])
+WhyUnfinished w _ = ⊥
+
+-- a builder that was handed back: its word, and why it was refused
+pub record Refusal : Type 0 where
+  pub word : List Symbol
+  pub fault : Fault

@@ -1,11 +1,13 @@
 //! Green trees: immutable tokens and nodes that keep every byte of a source text, and the builder that makes them.
 #![tactic(auto)]
 
+pub mod builder;
 mod fault;
 pub mod green;
 pub mod text;
 pub mod utility_types;
 
+pub use builder::{GreenNodeBuilder, Unfinished};
 pub use fault::Fault;
 pub use green::{GreenElement, GreenElementRef, GreenNode, GreenNodeData, GreenToken, GreenTokenData, SyntaxKind};
 pub use text::TextSize;

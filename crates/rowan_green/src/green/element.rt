@@ -1,6 +1,8 @@
-ghost use Rattle.std.specs.Prelude.{◌≡◌};
+ghost use Rattle.std.specs.Prelude.{◌≡◌, IfOk};
 ghost use Rattle.rowan_green.specs.Term.{term_kind, term_len};
 ghost use Rattle.rowan_green.specs.Fits.{Fits};
+
+use std::alloc::AllocError;
 
 use crate::green::{GreenNode, GreenToken, SyntaxKind};
 use crate::text::TextSize;
@@ -31,6 +33,16 @@ impl GreenElement {
         match self {
             NodeOrToken::Node(node) => node.text_len(),
             NodeOrToken::Token(token) => token.text_len(),
+        }
+    }
+
+    // The same element, with the memory shared.
+    pub(crate) fn share(&self) -> Result<GreenElement, AllocError>
+        ensures { IfOk result (λ copy. copy ≡ self.now) }
+    {
+        match self {
+            NodeOrToken::Node(node) => Ok(NodeOrToken::Node(node.clone()?)),
+            NodeOrToken::Token(token) => Ok(NodeOrToken::Token(token.clone()?)),
         }
     }
 }

@@ -150,6 +150,19 @@ impl GreenNode {
         Ok(draft.finish(alloc, kind)?)
     }
 
+    // The node of a kind and these children, which stay with the caller too.
+    pub(crate) fn from_slice(alloc: Global, kind: SyntaxKind, children: &[GreenElement]) -> Result<GreenNode, Fault>
+        ensures ok { IfOk result (λ n. n ≡ node_of kind.0 children.now) }
+        ensures within { OnOk result (AreWithin children.now) }
+        ensures err { IfErr result (λ e. e ≢ Fault.Memory → PassesLimit children.now e) }
+    {
+        let mut draft = NodeDraft::new(Vec::with_capacity(alloc, children.len())?);
+        for child in children {
+            draft.push(child.share()?)?;
+        }
+        Ok(draft.finish(alloc, kind)?)
+    }
+
     /// The kind of the node.
     pub fn kind(&self) -> SyntaxKind
         ensures { result.0 ≡ node_kind self.now }
