@@ -57,7 +57,7 @@ mutual
   read-forest (token_then t f) items w = read-forest f (Whole (Token t) ∷ items) w
 
 -- the node that stands last, or a node of nothing
-abbrev last_node : List Item → NodeTerm
+abbrev pub last_node : List Item → NodeTerm
 last_node (Whole (Node n) ∷ items) = n
 last_node _ = node 0 empty
 

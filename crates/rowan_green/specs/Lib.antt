@@ -2,6 +2,7 @@ pub mod Coding
 pub mod Falls
 pub mod Fault
 pub mod Fits
+pub mod Path
 pub mod Span
 pub mod Term
 pub mod View

@@ -107,3 +107,10 @@ WhyUnfinished w _ = ⊥
 pub record Refusal : Type 0 where
   pub word : List Symbol
   pub fault : Fault
+
+-- the texts of a word's leaves, one after the other
+abbrev pub word_text : List Symbol → List ℕ
+word_text [] = []
+word_text (Open k ∷ w) = word_text w
+word_text (Leaf t ∷ w) = t.text ++ word_text w
+word_text (Close ∷ w) = word_text w

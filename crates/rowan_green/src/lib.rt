@@ -4,6 +4,7 @@
 pub mod builder;
 mod fault;
 pub mod green;
+pub mod laws;
 pub mod text;
 pub mod utility_types;
 
