@@ -6,7 +6,7 @@
 use Rattle.std.specs.Prelude.{◌≡◌, ℕ, ◌+◌, ◌&&◌, ◌||◌, Bool, true, false, List, [], ◌∷◌, ◌++◌, map, filter, sum_by, Option, Some, None, nat_lt, nat_eq, slice_get}
 use Rattle.rowan_green.specs.declared.utility_types.NodeOrToken.TheVariants.{Node, Token}
 use Rattle.rowan_green.specs.Span.{Span}
-use Rattle.rowan_green.specs.Term.{TokenTerm, NodeTerm, node, Forest, empty, node_then, token_then, Term, node_children, token_len, term_len}
+use Rattle.rowan_green.specs.Term.{TokenTerm, NodeTerm, node, Forest, empty, node_then, token_then, Term, node_children, token_len, term_len, term_text}
 
 abbrev pub Path : Type 0
 Path = List ℕ
@@ -59,6 +59,10 @@ offset t p = sum_by (λ l. token_len l.1) (filter (λ l. stands_before l.0 p) (l
 abbrev pub len_of : Option Term → ℕ
 len_of None = 0
 len_of (Some t) = term_len t
+
+abbrev pub text_of : Option Term → List ℕ
+text_of None = []
+text_of (Some t) = term_text t
 
 -- where the text of the subterm at a path lies
 abbrev pub range : Term → Path → Span

@@ -2,7 +2,7 @@
 #![tactic(auto)]
 
 pub mod builder;
-mod fault;
+pub mod fault;
 pub mod green;
 pub mod laws;
 pub mod text;

@@ -1,0 +1,6 @@
+pub mod Cursor
+pub mod CursorCode
+pub use Rattle.rowan_green.specs.Term
+pub use Rattle.rowan_green.specs.Fits
+pub use Rattle.rowan_green.specs.Path
+pub use Rattle.rowan_green.specs.Span

@@ -1,0 +1,4 @@
+//! Cursors: places in a green tree, which know their root and the way from it.
+#![tactic(auto)]
+
+pub mod cursor;
