@@ -1,0 +1,2 @@
+pub mod ParsingLemmas
+pub mod SexpRuns

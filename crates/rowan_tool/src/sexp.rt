@@ -1,0 +1,10 @@
+//! S-expressions: their kinds, their lexer and their parser.
+mod lang;
+mod lexer;
+mod parsed;
+mod parser;
+
+pub use lang::SyntaxKind;
+pub use lexer::{Token, lex};
+pub use parsed::Parse;
+pub use parser::parse;

@@ -1,0 +1,130 @@
+//! The lexer of s-expressions.
+ghost use Rattle.std.specs.Prelude.{◌≡◌, IfOk, IfErr, MatchOption, take, drop, []};
+ghost use Rattle.std.specs.Char.{is_not_whitespace};
+ghost use Rattle.std.specs.Str.{IsCharBoundary, NoCharPasses};
+ghost use Rattle.rowan_tool.specs.Sexp.{IsLexed, BeginsWith, IsStopped, is_delimiter};
+
+use rowan_green::Fault;
+use crate::sexp::lang::SyntaxKind;
+use std::alloc::Global;
+
+/// The kind of a token and its text, a slice of the text that was lexed.
+pub type Token<'a> = (SyntaxKind, &'a str);
+
+/// Cuts a text into its tokens, in order.
+///
+/// A `(` and a `)` are tokens of their own. A longest run of white space, in the sense of
+/// `char::is_whitespace`, is one token, and so is a longest run of other characters.
+///
+/// Fails with [`Fault::Memory`] alone, where there is no memory for the list.
+pub fn lex(alloc: Global, text: &str) -> Result<Vec<Token<'_>>, Fault>
+    ensures lexed { IfOk result (λ tokens. IsLexed text.now tokens.items) }
+    ensures memory { IfErr result (λ fault. fault ≡ Fault.Memory) }
+{
+    let mut tokens = Vec::new(alloc);
+    let mut rest = text;
+    while let Some((kind, len)) = first_token(rest) {
+        let (token, others) = rest.split_at(len);
+        tokens.push((kind, token))?;
+        rest = others;
+    }
+    Ok(tokens)
+}
+
+/// The kind of the first token of a text and its length in bytes, unless the text is empty.
+fn first_token(text: &str) -> Option<(SyntaxKind, usize)>
+    ensures { MatchOption result (text.now ≡ []) (λ first. BeginsWith text.now first.0 first.1) }
+{
+    match text.chars().next()? {
+        '(' => Some((SyntaxKind::L_PAREN, 1)),
+        ')' => Some((SyntaxKind::R_PAREN, 1)),
+        first if first.is_whitespace() => Some((SyntaxKind::WHITESPACE, whitespace_len(text))),
+        _ => Some((SyntaxKind::WORD, word_len(text))),
+    }
+}
+
+/// How many bytes of white space a text begins with.
+fn whitespace_len(text: &str) -> usize
+    ensures border { IsCharBoundary text.now result }
+    ensures run { NoCharPasses is_not_whitespace (take result text.now) }
+    ensures longest { IsStopped is_not_whitespace (drop result text.now) }
+{
+    match text.find(|c: char| !c.is_whitespace()) {
+        Some(len) => len,
+        None => text.len(),
+    }
+}
+
+/// How many bytes of a word a text begins with.
+fn word_len(text: &str) -> usize
+    ensures border { IsCharBoundary text.now result }
+    ensures run { NoCharPasses is_delimiter (take result text.now) }
+    ensures longest { IsStopped is_delimiter (drop result text.now) }
+{
+    match text.find(is_delimiter) {
+        Some(len) => len,
+        None => text.len(),
+    }
+}
+
+/// Whether a character ends a word.
+fn is_delimiter(c: char) -> bool
+    ensures { result ≡ is_delimiter c }
+{
+    c == '(' || c == ')' || c.is_whitespace()
+}
+
+#[cfg(test)]
+mod tests {
+    use super::lex;
+    use crate::sexp::lang::SyntaxKind::{self, L_PAREN, R_PAREN, WHITESPACE, WORD};
+    use std::test::Fail;
+
+    /// Texts with their tokens.
+    const TABLE: [(&str, &[(SyntaxKind, &str)]); 7] = [
+        ("", &[]),
+        ("()", &[(L_PAREN, "("), (R_PAREN, ")")]),
+        (
+            "(+ (* 15 2) 62)",
+            &[
+                (L_PAREN, "("),
+                (WORD, "+"),
+                (WHITESPACE, " "),
+                (L_PAREN, "("),
+                (WORD, "*"),
+                (WHITESPACE, " "),
+                (WORD, "15"),
+                (WHITESPACE, " "),
+                (WORD, "2"),
+                (R_PAREN, ")"),
+                (WHITESPACE, " "),
+                (WORD, "62"),
+                (R_PAREN, ")"),
+            ],
+        ),
+        (
+            "a\u{3000}b",
+            &[(WORD, "a"), (WHITESPACE, "\u{3000}"), (WORD, "b")],
+        ),
+        (" \n\t", &[(WHITESPACE, " \n\t")]),
+        ("é日本", &[(WORD, "é日本")]),
+        (
+            "))((",
+            &[
+                (R_PAREN, ")"),
+                (R_PAREN, ")"),
+                (L_PAREN, "("),
+                (L_PAREN, "("),
+            ],
+        ),
+    ];
+
+    #[test]
+    fn tokens_of_a_table(rt: HostRuntime) -> Result<(), Fail> {
+        for (text, expected) in TABLE {
+            let tokens = lex(rt.alloc(), text)?;
+            assert_eq!(rt; tokens.as_slice(), expected);
+        }
+        Ok(())
+    }
+}
