@@ -1,8 +1,13 @@
 pub mod Coding
 pub mod Falls
 pub mod Fault
+pub mod Feeds
 pub mod Fits
+pub mod Gives
+pub mod Lent
 pub mod Path
+pub mod Same
+pub mod Sizes
 pub mod Span
 pub mod Term
 pub mod View

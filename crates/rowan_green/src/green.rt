@@ -1,9 +1,11 @@
 //! Green values: immutable tokens and nodes, which know neither a place nor a parent, and are shared.
 
+mod children;
 mod element;
 mod node;
 mod token;
 
+pub use children::Children;
 pub use element::{GreenElement, GreenElementRef};
 pub use node::{GreenNode, GreenNodeData};
 pub use token::{GreenToken, GreenTokenData};

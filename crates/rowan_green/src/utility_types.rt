@@ -6,3 +6,18 @@ pub enum NodeOrToken<N, T> {
     Node(N),
     Token(T),
 }
+
+impl<N, T> NodeOrToken<N, T> {
+    ghost use Rattle.std.specs.Prelude.{◌≡◌};
+    ghost use Rattle.rowan_green.specs.Lent.{pointee};
+
+    /// The same, lent.
+    pub fn as_ref(&self) -> NodeOrToken<&N, &T>
+        ensures { pointee result ≡ self.now }
+    {
+        match self {
+            NodeOrToken::Node(node) => NodeOrToken::Node(node),
+            NodeOrToken::Token(token) => NodeOrToken::Token(token),
+        }
+    }
+}

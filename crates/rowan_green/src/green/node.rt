@@ -1,20 +1,20 @@
-ghost use Rattle.std.specs.Prelude.{◌≡◌, ◌≢◌, ◌<◌, ◌≤◌, [], ◌∷◌, ◌++◌, length, IfOk, IfErr, OnOk};
+ghost use Rattle.std.specs.Prelude.{◌≡◌, ◌≢◌, ◌+◌, ◌<◌, ◌≤◌, [], ◌∷◌, ◌++◌, length, IfOk, IfErr, OnOk, IfSome, IsNone, Some, ◌↔◌, map, take, slice_get};
 ghost use Rattle.std.specs.Iterator.{IsFiniteIterable};
 ghost use Rattle.std.specs.Iterator.Runs.{SomeRun, WholeRun};
 ghost use Rattle.rowan_green.specs.Fits.{byte_limit, FitsNode, ChildPasses, AreWithin, PassesLimit};
-ghost use Rattle.rowan_green.specs.Term.{node_of, node_len, node_kind};
+ghost use Rattle.rowan_green.specs.Term.{node_of, node_len, node_kind, node_children, node_size, sum_of_lens};
+ghost use Rattle.rowan_green.specs.Lent.{pointee};
 
+use crate::fault::Fault;
+use crate::green::{Children, GreenElement, GreenElementRef, SyntaxKind};
+use crate::text::TextSize;
+use crate::utility_types::NodeOrToken;
 use std::alloc::{AllocError, Global};
 use std::marker::Model;
 use std::rc::Rc;
 
-use crate::fault::Fault;
-use crate::green::{GreenElement, SyntaxKind};
-use crate::text::TextSize;
-
 /// An inner part of a tree: a kind and a list of children. A clone shares them.
 #[cycle(green)]
-#[derive(Drop)]
 pub struct GreenNode {
     data: Rc<NodeData>,
 }
@@ -29,9 +29,9 @@ struct NodeData {
 
 #[cycle(green)]
 #[derive(Drop)]
-struct GreenChild {
-    rel_offset: TextSize,
-    element: GreenElement,
+pub(super) struct GreenChild {
+    pub(super) rel_offset: TextSize,
+    pub(super) element: GreenElement,
 }
 
 /// The children of a node that is being made, within the limits so far.
@@ -97,11 +97,14 @@ impl NodeDraft {
         ensures within { AreWithin self }
     {
         let NodeDraft { text_len, children } = self;
-        let data = Rc::new(alloc, NodeData {
-            kind,
-            text_len,
-            children,
-        })?;
+        let data = Rc::new(
+            alloc,
+            NodeData {
+                kind,
+                text_len,
+                children,
+            },
+        )?;
         Ok(GreenNode { data })
     }
 }
@@ -134,7 +137,11 @@ impl GreenNode {
     /// The node of a kind and the children that an iterator gives. The first child at which a limit is passed decides how it
     /// is refused: `TooManyChildren` past 4,294,967,295 children, else `TextTooLong` past as many bytes of text; and else it is
     /// refused only for want of memory.
-    pub fn new<I: IntoIterator<Item = GreenElement>>(alloc: Global, kind: SyntaxKind, children: I) -> Result<GreenNode, Fault>
+    pub fn new<I: IntoIterator<Item = GreenElement>>(
+        alloc: Global,
+        kind: SyntaxKind,
+        children: I,
+    ) -> Result<GreenNode, Fault>
     where
         I::IntoIter: Drop,
         requires { IsFiniteIterable I.into_iter_gives I.IntoIter.can_next I.IntoIter.remaining children }
@@ -177,6 +184,82 @@ impl GreenNode {
     {
         self.data.text_len
     }
+
+    /// The children, in their order. Takes no memory.
+    pub fn children(&self) -> Children<'_>
+        ensures { result ≡ node_children self.now }
+    {
+        Children::new(self.data.children.as_slice())
+    }
+
+    /// The child at an index with its offset, which counts from the node's own start. `None` past the last child.
+    pub fn child_ref(&self, index: usize) -> Option<(TextSize, GreenElementRef<'_>)>
+        ensures some { IfSome result (λ p. (p.0 ≡ sum_of_lens (take index (node_children self.now)))
+            × (slice_get (node_children self.now) index ≡ Some (pointee p.1))) }
+        ensures none { IsNone result ↔ length (node_children self.now) ≤ index }
+    {
+        let child = self.data.children.get(index)?;
+        Some((child.rel_offset, child.element.as_ref()))
+    }
+}
+
+impl GreenNode {
+    ghost use Rattle.rowan_green.specs.View.{child_term};
+
+    // The children, where this was the last owner of them.
+    fn into_children(self) -> Option<Vec<GreenChild>>
+        ensures { IfSome result (λ v. map child_term v.items ≡ node_children self) }
+    {
+        let GreenNode { data } = self;
+        match Rc::into_inner(data) {
+            Some(data) => {
+                let NodeData {
+                    kind: _,
+                    text_len: _,
+                    children,
+                } = data;
+                Some(children)
+            }
+            None => None,
+        }
+    }
+}
+
+// A loop over a list of what is still to be dropped, so that a deep tree does not run out of stack. The list is that of the
+// node's own children, and grows by the children of each node in it.
+impl Drop for GreenNode {
+    #[cycle(drop)]
+    fn drop(self) {
+        let Some(mut rest) = self.into_children() else {
+            return;
+        };
+        while let Some(child) = rest.pop() {
+            child.drop_into(&mut rest);
+        }
+    }
+}
+
+impl GreenChild {
+    ghost use Rattle.rowan_green.specs.Sizes.{children_size, term_size};
+
+    // Drops the child, but for the children of its own, which go to the end of the list. Where the memory for that is
+    // refused, it drops them too.
+    #[cycle(drop)]
+    fn drop_into(self, rest: &mut Vec<GreenChild>)
+        ensures { children_size rest.new.items < children_size rest.old.items + term_size self.element }
+    {
+        let GreenChild {
+            rel_offset: _,
+            element,
+        } = self;
+        let NodeOrToken::Node(node) = element else {
+            return;
+        };
+        let Some(mut children) = node.into_children() else {
+            return;
+        };
+        let _ = rest.append(&mut children);
+    }
 }
 
 impl Clone for GreenNode {
@@ -186,5 +269,66 @@ impl Clone for GreenNode {
         Ok(GreenNode {
             data: self.data.clone()?,
         })
+    }
+}
+
+impl PartialEq for GreenNode {
+    ghost use Rattle.rowan_green.specs.Same.{same_node, same_node-laws};
+    ghost use Rattle.std.specs.Cmp.{partial_equiv_from_equiv};
+
+    ghost eq = { same_node };
+
+    ghost laws = { partial_equiv_from_equiv same_node-laws };
+
+    #[cycle(eq)]
+    fn eq(&self, other: &GreenNode) -> bool {
+        if self.kind() != other.kind() {
+            return false;
+        }
+        if self.text_len() != other.text_len() {
+            return false;
+        }
+        let children = self.data.children.as_slice();
+        let others = other.data.children.as_slice();
+        GreenChild::are_same(children, others)
+    }
+}
+
+impl Eq for GreenNode {
+    ghost use Rattle.rowan_green.specs.Same.{same_node-laws};
+
+    ghost laws = { same_node-laws };
+}
+
+impl GreenChild {
+    ghost use Rattle.std.specs.Prelude.{map};
+    ghost use lib.Pointwise.{pointwise};
+    ghost use Rattle.rowan_green.specs.View.{child_term};
+    ghost use Rattle.rowan_green.specs.Same.{same_term};
+
+    #[cycle(eq)]
+    fn is_same(&self, other: &GreenChild) -> bool
+        ensures { result ≡ same_term (child_term self.now) (child_term other.now) }
+    {
+        match (&self.element, &other.element) {
+            (NodeOrToken::Node(node), NodeOrToken::Node(other)) => *node == *other,
+            (NodeOrToken::Token(token), NodeOrToken::Token(other)) => *token == *other,
+            _ => false,
+        }
+    }
+
+    #[cycle(eq)]
+    fn are_same(children: &[GreenChild], others: &[GreenChild]) -> bool
+        ensures { result ≡ pointwise same_term (map child_term children.now) (map child_term others.now) }
+    {
+        if children.len() != others.len() {
+            return false;
+        }
+        for i in 0..children.len() {
+            if !children[i].is_same(&others[i]) {
+                return false;
+            }
+        }
+        true
     }
 }

@@ -1,14 +1,15 @@
-ghost use Rattle.std.specs.Prelude.{◌≡◌, ◌≢◌, ◌<◌, ◌≤◌, length, IfOk, IfErr};
+ghost use Rattle.std.specs.Prelude.{◌≡◌, ◌≢◌, ◌<◌, ◌≤◌, length, IfOk, IfErr, Some};
 ghost use Rattle.rowan_green.specs.Fits.{byte_limit, FitsToken};
 ghost use Rattle.rowan_green.specs.Term.{token_len};
-
-use std::alloc::{AllocError, Global};
-use std::marker::Model;
-use std::rc::Rc;
 
 use crate::fault::Fault;
 use crate::green::SyntaxKind;
 use crate::text::TextSize;
+use std::alloc::{AllocError, Global};
+use std::fmt;
+use std::hash::{Hash, Hasher};
+use std::marker::Model;
+use std::rc::Rc;
 
 /// A leaf of a tree: a kind and a text, which may be empty. A clone shares the text.
 #[derive(Drop)]
@@ -83,5 +84,56 @@ impl Clone for GreenToken {
         Ok(GreenToken {
             data: self.data.clone()?,
         })
+    }
+}
+
+impl PartialEq for GreenToken {
+    ghost use Rattle.rowan_green.specs.Same.{same_token, same_token-laws};
+    ghost use Rattle.std.specs.Cmp.{partial_equiv_from_equiv};
+
+    ghost eq = { same_token };
+
+    ghost laws = { partial_equiv_from_equiv same_token-laws };
+
+    fn eq(&self, other: &GreenToken) -> bool {
+        self.kind() == other.kind() && self.text() == other.text()
+    }
+}
+
+impl Eq for GreenToken {
+    ghost use Rattle.rowan_green.specs.Same.{same_token-laws};
+
+    ghost laws = { same_token-laws };
+}
+
+impl Hash for GreenToken {
+    ghost use Rattle.rowan_green.specs.Same.{same_token-decides};
+    ghost use Rattle.rowan_green.specs.Feeds.{fed_token};
+    ghost use Rattle.std.specs.Hash.{same_Alike};
+
+    ghost hash_input = { fed_token };
+
+    ghost respects_eq = { (same_Alike fed_token same_token-decides).fed };
+
+    fn hash<H: Hasher>(&self, state: &mut H) {
+        self.kind().hash(state);
+        self.text().hash(state);
+    }
+}
+
+impl fmt::Display for GreenToken {
+    ghost output = { λ token. Some token.text };
+
+    fn fmt<W: fmt::Write>(&self, f: &mut fmt::Formatter<W>) -> fmt::Result {
+        f.write_str(self.text())
+    }
+}
+
+impl fmt::Debug for GreenToken {
+    fn fmt<W: fmt::Write>(&self, f: &mut fmt::Formatter<W>) -> fmt::Result {
+        f.debug_struct("GreenToken")
+            .field("kind", &self.kind())
+            .field("text", &self.text())
+            .finish()
     }
 }

@@ -1,0 +1,40 @@
+-- A node is larger than its children together, and a list of children than each of them.
+use Rattle.std.proofs.Common.{◌≡◌, ℕ, ◌+◌, ◌*◌, ◌≤◌, ◌<◌, zero, suc, List, [], ◌∷◌, ◌++◌, length, get_or, refl, ap, arith}
+use Rattle.rowan_green.specs.declared.utility_types.NodeOrToken.TheVariants.{Node, Token}
+use Rattle.rowan_green.specs.declared.green.node.GreenChild.{GreenChild}
+use Rattle.rowan_green.specs.Term.{Term, NodeTerm, node, Forest, empty, node_then, token_then, node_children, node_size, forest_size, terms}
+use denote.Param.Weighed.{most, w_this}
+use Rattle.rowan_green.specs.declared.green.node.GreenNode.TheDeep.{size-GreenChild}
+use Rattle.rowan_green.specs.declared.green.node.NodeData.{NodeData}
+use Rattle.rowan_green.specs.View.{child_term, node_view}
+use Rattle.rowan_green.proofs.ChildList.{children-view}
+use Rattle.rowan_green.specs.Sizes.{term_size, terms_size, children_size}
+
+terms_size-terms : (f : Forest) → terms_size (terms f) ≡ forest_size f
+terms_size-terms empty = refl
+terms_size-terms (node_then n f) = omega (arith, terms_size-terms f)
+terms_size-terms (token_then t f) = omega (arith, terms_size-terms f)
+
+pub terms_size-node_children : (n : NodeTerm) → terms_size (node_children n) + 1 ≡ node_size n
+terms_size-node_children (node k f) = omega (arith, terms_size-terms f)
+
+pub children_size-append : (cs ds : List GreenChild) → children_size (cs ++ ds) ≡ children_size cs + children_size ds
+children_size-append [] ds = omega arith
+children_size-append (c ∷ cs) ds = omega (arith, children_size-append cs ds)
+
+size_le-term : (at : ℕ) (t : Term) → size-GreenChild (record { rel_offset = at; element = t }) ≤ 3 * term_size t + 1
+size_le-term at (Node n) = omega arith
+size_le-term at (Token t) = omega arith
+
+-- no child in the list is deeper than all of them together
+pub most_le-children_size : (cs : List GreenChild) → most (w_this.weight GreenChild size-GreenChild) cs ≤ 3 * children_size cs + 1
+most_le-children_size [] = omega arith
+most_le-children_size (c ∷ cs) = omega (arith, size_le-term c.rel_offset c.element, most_le-children_size cs)
+
+pub term_size_le-children_size : (cs : List GreenChild) (i : ℕ) (d : GreenChild) → i < length cs → term_size (child_term (get_or cs i d)) ≤ children_size cs
+term_size_le-children_size [] i d h = absurd (omega arith)
+term_size_le-children_size (c ∷ cs) zero d h = omega arith
+term_size_le-children_size (c ∷ cs) (suc i) d h = omega (arith, term_size_le-children_size cs i d (omega arith))
+
+pub children_size-node : (d : NodeData) (n : NodeTerm) → node_view d ≡ n → children_size d.children.items + 1 ≡ node_size n
+children_size-node d n e = omega (arith, ap terms_size (children-view d n e), terms_size-node_children n)

@@ -1,0 +1,17 @@
+-- The number of nodes and tokens that a list of children holds, at every level.
+use Rattle.std.specs.Prelude.{ℕ, ◌+◌, List, [], ◌∷◌, map}
+use Rattle.rowan_green.specs.declared.utility_types.NodeOrToken.TheVariants.{Node, Token}
+use Rattle.rowan_green.specs.declared.green.node.GreenChild.{GreenChild}
+use Rattle.rowan_green.specs.Term.{Term, node_size}
+use Rattle.rowan_green.specs.View.{child_term}
+
+abbrev pub term_size : Term → ℕ
+term_size (Node n) = node_size n + 1
+term_size (Token t) = 1
+
+abbrev pub terms_size : List Term → ℕ
+terms_size [] = 0
+terms_size (t ∷ ts) = term_size t + terms_size ts
+
+abbrev pub children_size : List GreenChild → ℕ
+children_size cs = terms_size (map child_term cs)

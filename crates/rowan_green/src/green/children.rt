@@ -1,0 +1,117 @@
+ghost use Rattle.std.specs.Prelude.{◌≡◌, [], ⊤, map};
+
+use std::alloc::AllocError;
+use std::fmt;
+use std::marker::Model;
+
+use crate::fault::Fault;
+use crate::green::GreenElement;
+use crate::green::node::GreenChild;
+
+/// The children of a node that are left, from both ends. An item is `Err(Fault::Memory)` where a child cannot be shared once
+/// more, and then nothing is left.
+#[derive(Drop)]
+pub struct Children<'a> {
+    rest: &'a [GreenChild],
+}
+
+impl<'a> Model for Children<'a> {
+    ghost use Rattle.std.specs.Prelude.{List, map};
+    ghost use Rattle.rowan_green.specs.Term.{Term};
+    ghost use Rattle.rowan_green.specs.Coding.{coded_term};
+    ghost use Rattle.std.specs.Coded.{coded_list};
+
+    ghost Value = { List Term };
+
+    ghost coded = { coded_list coded_term };
+
+    ghost use Rattle.rowan_green.specs.View.{child_term};
+
+    ghost view = { λ c. map child_term c.rest.now };
+}
+
+impl<'a> Children<'a> {
+    ghost use Rattle.rowan_green.specs.View.{child_term};
+
+    pub(super) fn new(rest: &'a [GreenChild]) -> Children<'a>
+        ensures { result ≡ map child_term rest.now }
+    {
+        Children { rest }
+    }
+
+    // What is left after a child that cannot be shared: nothing.
+    fn end(&mut self) -> Fault
+        ensures end { self.new ≡ [] }
+        ensures memory { result ≡ Fault.Memory }
+    {
+        self.rest = &[];
+        Fault::Memory
+    }
+}
+
+impl<'a> Iterator for Children<'a> {
+    type Item = Result<GreenElement, Fault>;
+
+    ghost use Rattle.std.specs.Prelude.{length};
+    ghost use Rattle.std.specs.Iterator.{at_most};
+    ghost use Rattle.rowan_green.specs.Gives.{GivesFirst};
+
+    ghost next_gives = { λ s r t. GivesFirst s r t };
+
+    ghost remaining = { λ s. at_most (length s) };
+
+    fn next(&mut self) -> Option<Result<GreenElement, Fault>> {
+        let (first, rest) = self.rest.split_first()?;
+        match first.element.clone() {
+            Ok(element) => {
+                self.rest = rest;
+                Some(Ok(element))
+            }
+            Err(_) => Some(Err(self.end())),
+        }
+    }
+
+    fn size_hint(&self) -> (usize, Option<usize>) {
+        (self.rest.len(), Some(self.rest.len()))
+    }
+}
+
+impl<'a> DoubleEndedIterator for Children<'a> {
+    ghost use Rattle.rowan_green.specs.Gives.{GivesLast};
+
+    ghost next_back_gives = { λ s r t. GivesLast s r t };
+
+    fn next_back(&mut self) -> Option<Result<GreenElement, Fault>> {
+        let (last, rest) = self.rest.split_last()?;
+        match last.element.clone() {
+            Ok(element) => {
+                self.rest = rest;
+                Some(Ok(element))
+            }
+            Err(_) => Some(Err(self.end())),
+        }
+    }
+}
+
+impl<'a> ExactSizeIterator for Children<'a> {
+    fn len(&self) -> usize {
+        self.rest.len()
+    }
+}
+
+impl<'a> Clone for Children<'a> {
+    ghost is_clone = { λ children copy. copy ≡ children };
+
+    ghost is_infallible = { λ _. ⊤ };
+
+    fn clone(&self) -> Result<Children<'a>, AllocError> {
+        Ok(Children { rest: self.rest })
+    }
+}
+
+impl<'a> fmt::Debug for Children<'a> {
+    fn fmt<W: fmt::Write>(&self, f: &mut fmt::Formatter<W>) -> fmt::Result {
+        let left = self.rest.len();
+        write!(f, "Children({left} left)")
+    }
+}

@@ -1,0 +1,66 @@
+-- What the program's arguments ask for, and what it does for an input.
+use Rattle.std.specs.Prelude.{◌≡◌, ◌≢◌, ℕ, ◌≤◌, List, [], ◌∷◌, length, map, codes, string_bytes, Option, Some, String}
+use Rattle.std.specs.Io.KnownBytes.{Appends}
+use Rattle.std.specs.declared.alloc.Global.{Global}
+use Rattle.rowan_tool.specs.Tree.{IsTree}
+use Rattle.rowan_tool.specs.declared.program.Command.{Command}
+use Rattle.rowan_tool.specs.declared.program.Command.TheVariants.{Tree}
+use Rattle.rowan_tool.specs.declared.program.Stop.{Stop}
+use Rattle.rowan_tool.specs.declared.tree.Fault.{Fault}
+use Rattle.rowan_tool.specs.declared.tree.Fault.TheVariants.{Memory}
+use Rattle.rowan_tool.specs.declared.program.Stop.TheVariants.{Usage, CannotRead, NotUtf8, TooLong, NoMemory, CannotWrite}
+
+-- the word that asks for the command
+abbrev pub word_of : Command → List ℕ
+word_of Tree = codes "tree"
+
+-- the arguments are that word alone
+abbrev pub AsksFor : List (String Global) → Command → Type 0
+AsksFor args command = map string_bytes args ≡ word_of command ∷ []
+
+-- the arguments ask for some command
+abbrev pub IsCommandLine : List (String Global) → Type 0
+IsCommandLine args = (command : Command) × AsksFor args command
+
+-- `shown` is what the command prints for the text
+abbrev pub IsPrinted : Command → List ℕ → List ℕ → Type 0
+IsPrinted Tree text shown = IsTree text shown
+
+-- the most bytes that an input may have
+abbrev pub longest_input : ℕ
+longest_input = 4294967295
+
+-- these bytes of an input were read to its end, within the limit: `rest` is what it has left
+pub record IsReadWhole (bytes : List ℕ) (rest : Option (List ℕ)) : Type 0 where
+  pub at_end : rest ≡ Some []
+  pub within : length bytes ≤ longest_input
+
+-- what the arguments ask for was printed for the text, and written after what the output held
+pub record IsAnswered (args : List (String Global)) (text : List ℕ) (old new : Option (List ℕ)) : Type 0 where
+  pub command : Command
+  pub asked : AsksFor args command
+  pub shown : List ℕ
+  pub printed : IsPrinted command text shown
+  pub written : Appends old new shown
+
+-- the exit status
+abbrev pub status_of : Stop → ℕ
+status_of Usage = 2
+status_of CannotRead = 1
+status_of NotUtf8 = 1
+status_of TooLong = 1
+status_of NoMemory = 1
+status_of CannotWrite = 1
+
+-- the line on standard error
+abbrev pub line_of : Stop → List ℕ
+line_of Usage = codes "usage: rowan tree|json|eval"
+line_of CannotRead = codes "rowan: cannot read standard input"
+line_of NotUtf8 = codes "rowan: input is not UTF-8"
+line_of TooLong = codes "rowan: text too long"
+line_of NoMemory = codes "rowan: out of memory"
+line_of CannotWrite = codes "rowan: cannot write standard output"
+
+-- memory stops the program as itself, and any other fault of what it prints as a text that is too long
+abbrev pub StopsFor : Fault → Stop → Type 0
+StopsFor fault stop = (fault ≡ Memory → stop ≡ NoMemory) × (fault ≢ Memory → stop ≡ TooLong)

@@ -1,0 +1,216 @@
+//! The program `rowan`: what its arguments ask for, what it reads and writes, and why it stops.
+ghost use Rattle.std.specs.Prelude.{◌≡◌, ◌≢◌, ◌↔◌, ◌<◌, ◌≤◌, ◌++◌, length, take, Ok, Err, IfOk, IfErr, IfSome, IfNone, OnOk, IsUtf8, string_bytes, vec_len};
+ghost use Rattle.std.specs.Io.KnownBytes.{Appends, Consumes, IsAtEnd};
+ghost use Rattle.rowan_tool.specs.Program.{AsksFor, IsCommandLine, IsPrinted, IsReadWhole, IsAnswered, longest_input, status_of, line_of};
+
+use crate::tree::{self, Fault};
+use std::alloc::{AllocError, Global};
+use std::io::{ErrorKind, Read, Write};
+
+/// The most bytes that an input may have, as every offset in a tree has 32 bits.
+const MAX_INPUT: usize = u32::MAX as usize;
+
+/// How many bytes one read asks for.
+const READ_SIZE: usize = 64 * 1024;
+
+/// What the arguments ask for.
+#[derive(Clone, Copy, PartialEq, Eq, Debug)]
+pub enum Command {
+    /// `tree`
+    Tree,
+}
+
+impl Command {
+    /// The command that the words ask for, if they are one.
+    fn from_args(args: &[String]) -> Option<Command>
+        ensures some { IfSome result (λ command. AsksFor args.now command) }
+        ensures none { IfNone result (¬ IsCommandLine args.now) }
+    {
+        if args.len() != 1 {
+            return None;
+        }
+        match args[0].as_str() {
+            "tree" => Some(Command::Tree),
+            _ => None,
+        }
+    }
+}
+
+/// Why the program stopped.
+#[derive(Clone, Copy, PartialEq, Eq, Debug)]
+pub enum Stop {
+    /// The arguments are no command. Nothing was read.
+    Usage,
+    /// A read failed.
+    CannotRead,
+    /// The whole input was read, and it is no text.
+    NotUtf8,
+    /// More than 4,294,967,295 bytes were read, and the rest was not.
+    TooLong,
+    /// Memory was refused.
+    NoMemory,
+    /// A write failed. Some of the output may have been written before it.
+    CannotWrite,
+}
+
+impl Stop {
+    /// The status that the program ends with.
+    pub fn status(self) -> u8
+        ensures { result ≡ status_of self }
+    {
+        match self {
+            Stop::Usage => 2,
+            _ => 1,
+        }
+    }
+
+    /// The line for standard error, without its newline.
+    pub fn line(self) -> &'static str
+        ensures { result.now ≡ line_of self }
+    {
+        match self {
+            Stop::Usage => "usage: rowan tree|json|eval",
+            Stop::CannotRead => "rowan: cannot read standard input",
+            Stop::NotUtf8 => "rowan: input is not UTF-8",
+            Stop::TooLong => "rowan: text too long",
+            Stop::NoMemory => "rowan: out of memory",
+            Stop::CannotWrite => "rowan: cannot write standard output",
+        }
+    }
+}
+
+impl From<AllocError> for Stop {
+    ghost use Rattle.rowan_tool.specs.declared.program.Stop.TheVariants.{NoMemory};
+
+    ghost from_gives = { λ _ stop. stop ≡ NoMemory };
+
+    fn from(_error: AllocError) -> Stop {
+        Stop::NoMemory
+    }
+}
+
+impl From<Fault> for Stop {
+    ghost use Rattle.rowan_tool.specs.Program.{StopsFor};
+
+    ghost from_gives = { StopsFor };
+
+    fn from(fault: Fault) -> Stop {
+        match fault {
+            Fault::Memory => Stop::NoMemory,
+            // `printed` gives no other fault than this one
+            _ => Stop::TooLong,
+        }
+    }
+}
+
+/// Does what the arguments ask for, the words after the program's name: reads the whole input,
+/// prints it and writes that to the output at once.
+///
+/// The arguments are looked at before anything is read, and an input past 4,294,967,295 bytes is too
+/// long whatever its bytes are. `CannotRead` comes only after a read that failed, and `CannotWrite` only
+/// after a write that failed.
+pub fn run<R: Read, W: Write>(
+    alloc: Global,
+    args: &[String],
+    input: &mut R,
+    output: &mut W,
+) -> Result<(), Stop>
+    ensures usage { (result ≡ Err Stop.Usage) ↔ (¬ IsCommandLine args.now) }
+    ensures unread { result ≡ Err Stop.Usage → input.new ≡ input.old }
+    ensures unwritten { IfErr result (λ stop. stop ≢ Stop.CannotWrite → output.new ≡ output.old) }
+
+    // Of an input whose bytes are known.
+    ensures too_long { result ≡ Err Stop.TooLong →
+        IfSome (R.remaining input.old) (λ bytes. longest_input < length bytes) }
+    ensures not_utf8 { result ≡ Err Stop.NotUtf8 →
+        IfSome (R.remaining input.old) (λ bytes.
+        IsReadWhole bytes (R.remaining input.new) × ¬ IsUtf8 bytes) }
+    ensures cannot_write { result ≡ Err Stop.CannotWrite →
+        IfSome (R.remaining input.old) (λ bytes.
+        IsReadWhole bytes (R.remaining input.new) × IsUtf8 bytes) }
+    ensures read { OnOk result (IfSome (R.remaining input.old) (λ bytes.
+        IsReadWhole bytes (R.remaining input.new) × IsUtf8 bytes)) }
+    ensures answered { OnOk result (IfSome (R.remaining input.old) (λ bytes.
+        IsAnswered args.now bytes (W.contents output.old) (W.contents output.new))) }
+{
+    let Some(command) = Command::from_args(args) else {
+        return Err(Stop::Usage);
+    };
+    let text = text_of(read_all(alloc, input)?)?;
+    let shown = printed(alloc, command, text.as_str())?;
+    write_whole(output, shown.as_str())
+}
+
+/// What the command prints for the text.
+fn printed(alloc: Global, command: Command, text: &str) -> Result<String, Fault>
+    ensures ok { IfOk result (λ shown. IsPrinted command text.now (string_bytes shown)) }
+    ensures err { IfErr result (λ fault. fault ≢ Fault.Memory →
+        (fault ≡ Fault.TextTooLong) × (longest_input < length text.now)) }
+{
+    match command {
+        Command::Tree => tree::tree(alloc, text),
+    }
+}
+
+/// Reads the input to its end.
+fn read_all<R: Read>(alloc: Global, input: &mut R) -> Result<Vec<u8>, Stop>
+    ensures ok { IfOk result (λ bytes. vec_len bytes ≤ longest_input) }
+    ensures all { IfOk result (λ bytes. IfSome (R.remaining input.old) (λ all.
+        (all ≡ bytes.items) × IsReadWhole all (R.remaining input.new))) }
+    ensures err { IfErr result (λ stop. stop ≢ Stop.CannotRead → stop ≢ Stop.NoMemory →
+        (stop ≡ Stop.TooLong)
+        × IfSome (R.remaining input.old) (λ all. longest_input < length all)) }
+{
+    let mut buffer = [0; READ_SIZE];
+    let mut bytes = Vec::new(alloc);
+    loop {
+        let count = read_some(input, &mut buffer)?;
+        if count == 0 {
+            return Ok(bytes);
+        }
+        if count > MAX_INPUT - bytes.len() {
+            return Err(Stop::TooLong);
+        }
+        bytes.extend_from_slice(&buffer[..count])?;
+    }
+}
+
+/// One read, made again where a signal interrupts it.
+fn read_some<R: Read>(input: &mut R, buffer: &mut [u8]) -> Result<usize, Stop>
+    ensures bound { IfOk result (λ count. count ≤ length buffer.new) }
+    ensures ok { IfOk result (λ count.
+        Consumes (R.remaining input.old) (R.remaining input.new) (take count buffer.new)) }
+    ensures end { result ≡ Ok 0 → 0 < length buffer.old → IsAtEnd (R.remaining input.new) }
+    ensures err { IfErr result (λ stop. stop ≡ Stop.CannotRead) }
+{
+    for _ in 0..u64::MAX {
+        match input.read(buffer) {
+            Ok(count) => return Ok(count),
+            Err(error) if error.kind() == ErrorKind::Interrupted => {}
+            Err(_) => return Err(Stop::CannotRead),
+        }
+    }
+    Err(Stop::CannotRead)
+}
+
+/// The bytes as text, in their own memory.
+fn text_of(bytes: Vec<u8>) -> Result<String, Stop>
+    ensures ok { IfOk result (λ text. string_bytes text ≡ bytes.items) }
+    ensures err { IfErr result (λ stop. (stop ≡ Stop.NotUtf8) × ¬ IsUtf8 bytes.items) }
+{
+    match String::from_utf8(bytes) {
+        Ok(text) => Ok(text),
+        Err(_) => Err(Stop::NotUtf8),
+    }
+}
+
+/// Writes the whole text.
+fn write_whole<W: Write>(output: &mut W, text: &str) -> Result<(), Stop>
+    ensures ok { OnOk result (Appends (W.contents output.old) (W.contents output.new) text.now) }
+    ensures err { IfErr result (λ stop. stop ≡ Stop.CannotWrite) }
+{
+    if output.write_all(text.as_bytes()).is_err() || output.flush().is_err() {
+        return Err(Stop::CannotWrite);
+    }
+    Ok(())
+}
