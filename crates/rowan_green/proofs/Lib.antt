@@ -5,3 +5,4 @@ pub mod Sound
 pub mod Terms
 pub mod WeaveLemmas
 pub mod Words
+pub mod Writes

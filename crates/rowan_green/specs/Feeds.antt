@@ -20,3 +20,8 @@ abbrev mutual
 abbrev pub fed_term : Term → List (List ℕ)
 fed_term (Node n) = fed.u8 0 ++ fed_node n
 fed_term (Token t) = fed.u8 1 ++ fed_token t
+
+-- for each of these terms in turn
+abbrev pub fed_terms : List Term → List (List ℕ)
+fed_terms [] = []
+fed_terms (t ∷ ts) = fed_term t ++ fed_terms ts

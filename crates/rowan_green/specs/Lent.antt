@@ -1,4 +1,4 @@
--- Nodes and tokens that are lent.
+-- A node or token that is lent, and functions of a node or a token.
 use Rattle.std.specs.Borrow.{Bor}
 use Rattle.rowan_green.specs.declared.utility_types.NodeOrToken.{NodeOrToken}
 use Rattle.rowan_green.specs.declared.utility_types.NodeOrToken.TheVariants.{Node, Token}
@@ -7,3 +7,8 @@ use Rattle.rowan_green.specs.declared.utility_types.NodeOrToken.TheVariants.{Nod
 abbrev pub pointee : {N T : Type 0} → NodeOrToken (Bor N) (Bor T) → NodeOrToken N T
 pointee (Node n) = Node n.now
 pointee (Token t) = Token t.now
+
+-- what one of two functions gives
+abbrev pub by_kind : {N T A : Type 0} → (N → A) → (T → A) → NodeOrToken N T → A
+by_kind f g (Node n) = f n
+by_kind f g (Token t) = g t

@@ -5,6 +5,7 @@ ghost use Rattle.rowan_green.specs.Path.{range};
 ghost use Rattle.rowan_cursor.specs.Cursor.{StandsAt, last_place};
 
 use std::alloc::Global;
+use std::fmt;
 use std::marker::Model;
 
 use rowan_green::fault::Fault;
@@ -65,5 +66,16 @@ impl SyntaxNode {
         ensures { StandsAt self.now result.now }
     {
         &self.green
+    }
+}
+
+impl fmt::Display for SyntaxNode {
+    ghost use Rattle.std.specs.Prelude.{Some};
+    ghost use Rattle.rowan_cursor.specs.Cursor.{text_at};
+
+    ghost output = { λ n. Some (text_at n) };
+
+    fn fmt<W: fmt::Write>(&self, f: &mut fmt::Formatter<W>) -> fmt::Result {
+        self.green.fmt(f)
     }
 }

@@ -10,6 +10,9 @@ use crate::green::{Children, GreenElement, GreenElementRef, SyntaxKind};
 use crate::text::TextSize;
 use crate::utility_types::NodeOrToken;
 use std::alloc::{AllocError, Global};
+use std::fmt;
+use std::fmt::Display;
+use std::hash::{Hash, Hasher};
 use std::marker::Model;
 use std::rc::Rc;
 
@@ -330,5 +333,96 @@ impl GreenChild {
             }
         }
         true
+    }
+}
+
+impl Hash for GreenNode {
+    ghost use Rattle.rowan_green.specs.Same.{same_node-decides};
+    ghost use Rattle.rowan_green.specs.Feeds.{fed_node};
+    ghost use Rattle.std.specs.Hash.{same_Alike};
+
+    ghost hash_input = { fed_node };
+
+    ghost respects_eq = { (same_Alike fed_node same_node-decides).fed };
+
+    #[cycle(hash)]
+    fn hash<H: Hasher>(&self, state: &mut H) {
+        self.kind().hash(state);
+        let children = self.data.children.as_slice();
+        children.len().hash(state);
+        GreenChild::hash_all(children, state);
+    }
+}
+
+impl GreenChild {
+    ghost use Rattle.std.specs.Prelude.{map, fold};
+    ghost use Rattle.rowan_green.specs.View.{child_term};
+    ghost use Rattle.rowan_green.specs.Feeds.{fed_term, fed_terms};
+
+    #[cycle(hash)]
+    fn hash<H: Hasher>(&self, state: &mut H)
+        ensures { state.new ≡ fold H.write state.old (fed_term (child_term self.now)) }
+    {
+        match &self.element {
+            NodeOrToken::Node(node) => {
+                state.write_u8(0);
+                node.hash(state);
+            }
+            NodeOrToken::Token(token) => {
+                state.write_u8(1);
+                token.hash(state);
+            }
+        }
+    }
+
+    #[cycle(hash)]
+    fn hash_all<H: Hasher>(children: &[GreenChild], state: &mut H)
+        ensures { state.new ≡ fold H.write state.old (fed_terms (map child_term children.now)) }
+    {
+        for child in children {
+            child.hash(state);
+        }
+    }
+}
+
+impl fmt::Display for GreenNode {
+    ghost use Rattle.std.specs.Prelude.{Some};
+    ghost use Rattle.rowan_green.specs.Term.{node_text};
+
+    ghost output = { λ node. Some (node_text node) };
+
+    #[cycle(display)]
+    fn fmt<W: fmt::Write>(&self, f: &mut fmt::Formatter<W>) -> fmt::Result {
+        for child in self.data.children.as_slice() {
+            child.display(f)?;
+        }
+        Ok(())
+    }
+}
+
+impl GreenChild {
+    ghost use Rattle.std.specs.Prelude.{Some};
+    ghost use Rattle.std.specs.Fmt.{DisplaysOnOk};
+    ghost use Rattle.rowan_green.specs.View.{child_term};
+    ghost use Rattle.rowan_green.specs.Term.{term_text};
+
+    #[cycle(display)]
+    fn display<W: fmt::Write>(&self, f: &mut fmt::Formatter<W>) -> fmt::Result
+        ensures { DisplaysOnOk W.write_str_gives f.old result (Some (term_text (child_term self.now))) f.new }
+    {
+        match &self.element {
+            NodeOrToken::Node(node) => node.fmt(f),
+            NodeOrToken::Token(token) => token.fmt(f),
+        }
+    }
+}
+
+impl fmt::Debug for GreenNode {
+    fn fmt<W: fmt::Write>(&self, f: &mut fmt::Formatter<W>) -> fmt::Result {
+        f.debug_struct("GreenNode")
+            .field("kind", &self.kind())
+            .field("text_len", &self.text_len())
+            .field("n_children", &self.data.children.len())
+            .finish()
     }
 }

@@ -1,9 +1,8 @@
-use Rattle.std.proofs.Common.{◌≡◌, ◌<◌, ◌≤◌, ◌==◌, ◌&&◌, ◌∙◌, Bool, true, false, not, true≢false, map, length, List, ℕ, refl, sym, ap, subst, arith, rules}
+use Rattle.std.proofs.Common.{◌≡◌, ◌==◌, ◌&&◌, ◌∙◌, Bool, true, false, not, true≢false, map, ℕ, refl, sym, ap, arith}
 use lib.Pointwise.{pointwise}
-use Rattle.rowan_green.specs.declared.green.node.NodeData.{NodeData}
 use Rattle.rowan_green.specs.Term.{NodeTerm, node, node_kind, node_len, node_children}
 use Rattle.rowan_green.specs.Sizes.{children_size, term_size}
-use Rattle.rowan_green.specs.View.{child_term, node_view}
+use Rattle.rowan_green.specs.View.{child_term}
 use Rattle.rowan_green.specs.Same.{same_node, same_term, same_forest, same_forest-pointwise, same_node-decides}
 use Rattle.std.proofs.lemmas.Bool.Decides.{Decides-eqb}
 use Rattle.rowan_green.proofs.ChildList.{children-view}

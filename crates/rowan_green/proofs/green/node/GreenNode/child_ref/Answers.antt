@@ -1,7 +1,4 @@
-use Rattle.std.proofs.Common.{◌≡◌, ◌≤◌, map, length, take, Some, sym, ap, ◌∙◌, arith, subst, rules, List}
-use Rattle.std.specs.Prelude.{slice_get}
-use Rattle.rowan_green.specs.declared.green.node.GreenChild.{GreenChild}
-use Rattle.rowan_green.specs.Term.{Term, node_children, sum_of_lens}
+use Rattle.std.proofs.Common.{map, length, Some, sym, ap, ◌∙◌, arith, subst, rules}
 use Rattle.rowan_green.specs.View.{child_term, HasOffsetsFrom}
 use Rattle.rowan_green.proofs.ChildList.{children-view, length-children, child-at, IsChildAt}
 use Rattle.rowan_green.proofs.green.node.GreenNode.child_ref.Goals as goal

@@ -1,0 +1,30 @@
+-- What a node feeds a hasher, and its text, by its list of children.
+use Rattle.std.proofs.Common.{◌≡◌, ℕ, ◌+◌, ◌<◌, List, [], ◌∷◌, ◌++◌, length, map, take, get_or, refl, ◌∙◌, ap}
+use Rattle.std.specs.Hash as fed
+use Rattle.std.proofs.lemmas.List.{map_more, append-nil}
+use Rattle.rowan_green.proofs.Terms.{joined_text-append}
+use Rattle.rowan_green.specs.declared.green.node.GreenChild.{GreenChild}
+use Rattle.rowan_green.specs.Term.{NodeTerm, node, Forest, empty, node_then, token_then, node_kind, node_children, terms, node_text, forest_text, term_text, joined_text}
+use Rattle.rowan_green.specs.View.{child_term}
+use Rattle.rowan_green.specs.Feeds.{fed_node, fed_token, fed_forest, fed_terms}
+
+fed_forest-terms : (f : Forest) → fed_forest f ≡ fed_terms (terms f)
+fed_forest-terms empty = refl
+fed_forest-terms (node_then n f) = ap (λ ws. fed.u8 0 ++ fed_node n ++ ws) (fed_forest-terms f)
+fed_forest-terms (token_then t f) = ap (λ ws. fed.u8 1 ++ fed_token t ++ ws) (fed_forest-terms f)
+
+pub fed_node-children : (n : NodeTerm) → fed_node n ≡ fed.u16 (node_kind n) ++ fed.usize (length (node_children n)) ++ fed_terms (node_children n)
+fed_node-children (node k f) = ap (λ ws. fed.u16 k ++ fed.usize (length (terms f)) ++ ws) (fed_forest-terms f)
+
+forest_text-terms : (f : Forest) → forest_text f ≡ joined_text (terms f)
+forest_text-terms empty = refl
+forest_text-terms (node_then n f) = ap (λ bs. node_text n ++ bs) (forest_text-terms f)
+forest_text-terms (token_then t f) = ap (λ bs. t.text ++ bs) (forest_text-terms f)
+
+pub node_text-children : (n : NodeTerm) → node_text n ≡ joined_text (node_children n)
+node_text-children (node k f) = forest_text-terms f
+
+pub joined_text-take : (cs : List GreenChild) (i : ℕ) (c : GreenChild) → i < length cs → joined_text (map child_term (take (i + 1) cs)) ≡ joined_text (map child_term (take i cs)) ++ term_text (child_term (get_or cs i c))
+joined_text-take cs i c h =
+    ap joined_text (map_more child_term cs i c h) ∙ joined_text-append (map child_term (take i cs)) (child_term (get_or cs i c) ∷ [])
+    ∙ ap (λ bs. joined_text (map child_term (take i cs)) ++ bs) (append-nil (term_text (child_term (get_or cs i c))))
