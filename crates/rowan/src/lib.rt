@@ -1,13 +1,21 @@
-// A library with one function.
+//! Lossless syntax trees, proved: what a parser, a formatter or a linter uses.
+//!
+//! A parser makes a [`GreenNode`] by the calls of a [`GreenNodeBuilder`], and names its kinds by a [`Language`]. A
+//! [`SyntaxNode`] is a place in the tree.
 #![tactic(auto)]
 
-ghost use Rattle.std.specs.Prelude.{◌≡◌};
-ghost use Rattle.rowan.specs.Echo.{echo_of};
+pub use rowan_api::api;
+pub use rowan_cursor::cursor;
+pub use rowan_green::builder;
+pub use rowan_green::fault;
+pub use rowan_green::green;
+pub use rowan_green::laws;
+pub use rowan_green::text;
+pub use rowan_green::utility_types;
 
-// The `ensures` clause is the contract: what `echo` returns is `echo_of` of its argument, a definition
-// in `specs/Echo.antt`, which a caller's clause can cite too.
-pub fn echo(x: usize) -> usize
-    ensures { result ≡ echo_of x }
-{
-    x
-}
+pub use api::{Language, SyntaxNode};
+pub use builder::{GreenNodeBuilder, Unfinished};
+pub use fault::Fault;
+pub use green::{Children, GreenElement, GreenElementRef, GreenNode, GreenNodeData, GreenToken, GreenTokenData, SyntaxKind};
+pub use text::{TextLen, TextRange, TextSize};
+pub use utility_types::NodeOrToken;

@@ -1,13 +1,6 @@
-// A library with one function.
+//! Cursors with the kinds of a language.
 #![tactic(auto)]
 
-ghost use Rattle.std.specs.Prelude.{◌≡◌};
-ghost use Rattle.rowan_api.specs.Echo.{echo_of};
+pub mod api;
 
-// The `ensures` clause is the contract: what `echo` returns is `echo_of` of its argument, a definition
-// in `specs/Echo.antt`, which a caller's clause can cite too.
-pub fn echo(x: usize) -> usize
-    ensures { result ≡ echo_of x }
-{
-    x
-}
+pub use rowan_cursor::cursor;

@@ -1,0 +1,85 @@
+ghost use Rattle.std.specs.Prelude.{◌≡◌, [], IfOk, IfErr};
+ghost use Rattle.rowan_green.specs.declared.utility_types.NodeOrToken.TheVariants.{Node};
+ghost use Rattle.rowan_green.specs.Term.{NodeTerm, node_kind};
+ghost use Rattle.rowan_green.specs.Path.{range};
+ghost use Rattle.rowan_cursor.specs.Cursor.{StandsAt};
+
+use std::alloc::Global;
+use std::fmt;
+use std::marker::{Model, PhantomData};
+
+use rowan_cursor::cursor;
+use rowan_green::fault::Fault;
+use rowan_green::green::GreenNode;
+use rowan_green::text::TextRange;
+
+use crate::api::language::Language;
+use crate::api::printed;
+
+/// A node in a tree of a language: a root, and the way from it to the node.
+#[derive(Drop)]
+pub struct SyntaxNode<L> {
+    raw: cursor::SyntaxNode,
+    language: PhantomData<L>,
+}
+
+impl<L> Model for SyntaxNode<L> {
+    ghost use Rattle.rowan_cursor.specs.Cursor.{Cursor};
+    ghost use Rattle.rowan_cursor.specs.CursorCode.{coded_cursor};
+
+    ghost Value = { Cursor };
+
+    ghost coded = { coded_cursor };
+
+    ghost view = { λ n. n.raw };
+
+    ghost inverse = { λ c. record { raw = c; language = record { } } };
+}
+
+impl<L: Language> SyntaxNode<L> {
+    /// The cursor at the root of a green tree. Refused only for want of memory.
+    pub fn new_root(alloc: Global, green: GreenNode) -> Result<SyntaxNode<L>, Fault>
+        ensures ok { IfOk result (λ n. n ≡ record { root = green; path = [] }) }
+        ensures err { IfErr result (λ e. e ≡ Fault.Memory) }
+    {
+        Ok(SyntaxNode {
+            raw: cursor::SyntaxNode::new_root(alloc, green)?,
+            language: PhantomData,
+        })
+    }
+
+    /// The kind of the node.
+    pub fn kind(&self) -> L::Kind
+        ensures { (n : NodeTerm) → StandsAt self.now n → result ≡ L.meaning (node_kind n) }
+    {
+        L::kind_from_raw(self.raw.kind())
+    }
+
+    /// Where the node's text lies in the text of the root, in bytes.
+    pub fn text_range(&self) -> TextRange
+        ensures { result ≡ range (Node self.now.root) self.now.path }
+    {
+        self.raw.text_range()
+    }
+
+    /// The node and all that is in it as text, a line for each node and token in the order of the source. A line has two
+    /// spaces for each level below this node, the name of the kind and the range, as `KIND@start..end` with offsets in the
+    /// root; for a token also the text in quotes, as `{:?}` writes it. Of a text of 25 bytes or more only the part before the
+    /// first border at byte 21 or later is shown, followed by a space and three points. Refused only for want of memory.
+    pub fn debug_tree(&self, alloc: Global) -> Result<String, Fault>
+        ensures { IfErr result (λ e. e ≡ Fault.Memory) }
+    {
+        Ok(printed::tree::<L>(alloc, self.raw.green(), self.raw.text_range().start())?)
+    }
+}
+
+impl<L> fmt::Display for SyntaxNode<L> {
+    ghost use Rattle.std.specs.Prelude.{Some};
+    ghost use Rattle.rowan_cursor.specs.Cursor.{text_at};
+
+    ghost output = { λ n. Some (text_at n) };
+
+    fn fmt<W: fmt::Write>(&self, f: &mut fmt::Formatter<W>) -> fmt::Result {
+        self.raw.fmt(f)
+    }
+}

@@ -1,0 +1,65 @@
+use std::alloc::Global;
+
+use rowan_green::Fault;
+use rowan_tool::sexp;
+
+/// What is done with a deep tree.
+#[derive(Clone, Copy, PartialEq, Eq, Debug)]
+pub enum Operation {
+    /// Parse it, and drop it.
+    Parse,
+    /// Compare it with another.
+    Compare,
+    /// Write its text.
+    Show,
+}
+
+impl Operation {
+    /// The operation and the number of levels that the words ask for.
+    pub fn from_words(words: &[String]) -> Option<(Operation, usize)> {
+        if words.len() != 3 || words[0].as_str() != "depth" {
+            return None;
+        }
+        let operation = match words[1].as_str() {
+            "parse" => Operation::Parse,
+            "compare" => Operation::Compare,
+            "show" => Operation::Show,
+            _ => return None,
+        };
+        let levels = words[2].as_str().parse::<usize>().ok()?;
+        Some((operation, levels))
+    }
+
+    /// Does it, and answers how many bytes the tree has.
+    pub fn run(self, alloc: Global, levels: usize) -> Result<usize, Fault> {
+        let text = nested(alloc, levels)?;
+        let tree = sexp::parse(alloc, text.as_str())?;
+        match self {
+            Operation::Parse => Ok(text.len()),
+            Operation::Compare => {
+                let other = sexp::parse(alloc, text.as_str())?;
+                if tree.green() == other.green() {
+                    Ok(text.len())
+                } else {
+                    Err(Fault::NotFound)
+                }
+            }
+            Operation::Show => {
+                let shown = tree.green().to_string(alloc)?;
+                Ok(shown.len())
+            }
+        }
+    }
+}
+
+/// That many lists, one in the other.
+fn nested(alloc: Global, levels: usize) -> Result<String, Fault> {
+    let mut text = String::new(alloc);
+    for _ in 0..levels {
+        text.push('(')?;
+    }
+    for _ in 0..levels {
+        text.push(')')?;
+    }
+    Ok(text)
+}
