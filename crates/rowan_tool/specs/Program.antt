@@ -2,12 +2,11 @@
 use Rattle.std.specs.Prelude.{◌≡◌, ◌≢◌, ℕ, ◌≤◌, List, [], ◌∷◌, length, map, codes, string_bytes, Option, Some, String}
 use Rattle.std.specs.Io.KnownBytes.{Appends}
 use Rattle.std.specs.declared.alloc.Global.{Global}
-use Rattle.rowan_tool.specs.Tree.{IsTree}
 use Rattle.rowan_tool.specs.declared.program.Command.{Command}
 use Rattle.rowan_tool.specs.declared.program.Command.TheVariants.{Tree}
 use Rattle.rowan_tool.specs.declared.program.Stop.{Stop}
-use Rattle.rowan_tool.specs.declared.tree.Fault.{Fault}
-use Rattle.rowan_tool.specs.declared.tree.Fault.TheVariants.{Memory}
+use Rattle.rowan_green.specs.declared.fault.Fault.{Fault}
+use Rattle.rowan_green.specs.declared.fault.Fault.TheVariants.{Memory}
 use Rattle.rowan_tool.specs.declared.program.Stop.TheVariants.{Usage, CannotRead, NotUtf8, TooLong, NoMemory, CannotWrite}
 
 -- the word that asks for the command
@@ -22,10 +21,6 @@ AsksFor args command = map string_bytes args ≡ word_of command ∷ []
 abbrev pub IsCommandLine : List (String Global) → Type 0
 IsCommandLine args = (command : Command) × AsksFor args command
 
--- `shown` is what the command prints for the text
-abbrev pub IsPrinted : Command → List ℕ → List ℕ → Type 0
-IsPrinted Tree text shown = IsTree text shown
-
 -- the most bytes that an input may have
 abbrev pub longest_input : ℕ
 longest_input = 4294967295
@@ -35,12 +30,9 @@ pub record IsReadWhole (bytes : List ℕ) (rest : Option (List ℕ)) : Type 0 wh
   pub at_end : rest ≡ Some []
   pub within : length bytes ≤ longest_input
 
--- what the arguments ask for was printed for the text, and written after what the output held
-pub record IsAnswered (args : List (String Global)) (text : List ℕ) (old new : Option (List ℕ)) : Type 0 where
-  pub command : Command
-  pub asked : AsksFor args command
+-- one text was written after what the output held
+pub record IsAnswered (old new : Option (List ℕ)) : Type 0 where
   pub shown : List ℕ
-  pub printed : IsPrinted command text shown
   pub written : Appends old new shown
 
 -- the exit status

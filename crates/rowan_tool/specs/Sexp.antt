@@ -1,5 +1,5 @@
 -- The tokens of an s-expression.
-use Rattle.std.specs.Prelude.{◌≡◌, ℕ, ◌<◌, ◌==◌, Bool, true, false, ◌||◌, List, [], ◌∷◌, ◌++◌, length, take, drop, codes, ⊤}
+use Rattle.std.specs.Prelude.{◌≡◌, ℕ, ◌<◌, ◌==◌, Bool, true, false, ◌||◌, List, [], ◌∷◌, ◌++◌, length, take, drop, codes, ⊤, if◌then◌else◌}
 use Rattle.std.specs.Char.{is_whitespace, is_not_whitespace, encode_utf8}
 use Rattle.std.specs.List.{flat_map, AllByRecursion}
 use Rattle.std.specs.Str.{NoCharPasses, IsCharBoundary}
@@ -17,6 +17,29 @@ number_of ERROR = 4
 number_of LIST = 5
 number_of ATOM = 6
 number_of ROOT = 7
+
+-- the kind that a raw kind means: the one with its number, or ERROR
+abbrev pub kind_of : ℕ → SyntaxKind
+kind_of n =
+    if n == 0 then L_PAREN
+    else (if n == 1 then R_PAREN
+    else (if n == 2 then WORD
+    else (if n == 3 then WHITESPACE
+    else (if n == 5 then LIST
+    else (if n == 6 then ATOM
+    else (if n == 7 then ROOT
+    else ERROR))))))
+
+-- how the kinds are called
+abbrev pub name_of : SyntaxKind → List ℕ
+name_of L_PAREN = codes "L_PAREN"
+name_of R_PAREN = codes "R_PAREN"
+name_of WORD = codes "WORD"
+name_of WHITESPACE = codes "WHITESPACE"
+name_of ERROR = codes "ERROR"
+name_of LIST = codes "LIST"
+name_of ATOM = codes "ATOM"
+name_of ROOT = codes "ROOT"
 
 -- a token: its kind and its text
 abbrev pub LexedToken : Type 0

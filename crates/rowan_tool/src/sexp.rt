@@ -4,7 +4,7 @@ mod lexer;
 mod parsed;
 mod parser;
 
-pub use lang::SyntaxKind;
+pub use lang::{Lang, SyntaxKind};
 pub use lexer::{Token, lex};
 pub use parsed::Parse;
 pub use parser::parse;

@@ -2,7 +2,8 @@
 ghost use Rattle.std.specs.Prelude.{◌≡◌};
 ghost use Rattle.rowan_tool.specs.Sexp.{number_of};
 
-use rowan_green::green;
+use rowan::Language;
+use rowan::green;
 
 /// The kind of a token or a node of an s-expression.
 #[allow(non_camel_case_types)]
@@ -32,5 +33,50 @@ impl SyntaxKind {
         ensures { result.0 ≡ number_of self }
     {
         green::SyntaxKind(self as u16)
+    }
+}
+
+/// The language of s-expressions. It stands for its kinds and is never made.
+#[derive(Clone, Copy, PartialEq, Eq, PartialOrd, Ord, Hash, Debug)]
+pub enum Lang {}
+
+impl Language for Lang {
+    ghost use Rattle.rowan_tool.specs.Sexp.{kind_of, name_of};
+
+    type Kind = SyntaxKind;
+
+    ghost meaning = { kind_of };
+
+    ghost name = { name_of };
+
+    /// The kind of a number, and `ERROR` for a number that no kind has.
+    fn kind_from_raw(raw: green::SyntaxKind) -> SyntaxKind {
+        match raw.0 {
+            0 => SyntaxKind::L_PAREN,
+            1 => SyntaxKind::R_PAREN,
+            2 => SyntaxKind::WORD,
+            3 => SyntaxKind::WHITESPACE,
+            5 => SyntaxKind::LIST,
+            6 => SyntaxKind::ATOM,
+            7 => SyntaxKind::ROOT,
+            _ => SyntaxKind::ERROR,
+        }
+    }
+
+    fn kind_to_raw(kind: SyntaxKind) -> green::SyntaxKind {
+        kind.to_raw()
+    }
+
+    fn kind_name(kind: SyntaxKind) -> &'static str {
+        match kind {
+            SyntaxKind::L_PAREN => "L_PAREN",
+            SyntaxKind::R_PAREN => "R_PAREN",
+            SyntaxKind::WORD => "WORD",
+            SyntaxKind::WHITESPACE => "WHITESPACE",
+            SyntaxKind::ERROR => "ERROR",
+            SyntaxKind::LIST => "LIST",
+            SyntaxKind::ATOM => "ATOM",
+            SyntaxKind::ROOT => "ROOT",
+        }
     }
 }

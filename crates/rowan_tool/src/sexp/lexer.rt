@@ -4,7 +4,7 @@ ghost use Rattle.std.specs.Char.{is_not_whitespace};
 ghost use Rattle.std.specs.Str.{IsCharBoundary, NoCharPasses};
 ghost use Rattle.rowan_tool.specs.Sexp.{IsLexed, BeginsWith, IsStopped, is_delimiter};
 
-use rowan_green::Fault;
+use rowan::Fault;
 use crate::sexp::lang::SyntaxKind;
 use std::alloc::Global;
 

@@ -1,8 +1,11 @@
-ghost use Rattle.std.specs.Prelude.{◌≡◌};
+ghost use Rattle.std.specs.Prelude.{◌≡◌, [], IfOk, IfErr};
 
+use std::alloc::Global;
 use std::marker::Model;
 
-use rowan_green::GreenNode;
+use rowan::{Fault, GreenNode, SyntaxNode};
+
+use crate::sexp::lang::Lang;
 
 /// The tree of a text.
 #[derive(Drop)]
@@ -33,5 +36,13 @@ impl Parse {
         ensures { result.now ≡ self.now }
     {
         &self.green
+    }
+
+    /// The cursor at the root. Refused only for want of memory.
+    pub fn syntax(&self, alloc: Global) -> Result<SyntaxNode<Lang>, Fault>
+        ensures ok { IfOk result (λ n. n ≡ record { root = self.now; path = [] }) }
+        ensures err { IfErr result (λ e. e ≡ Fault.Memory) }
+    {
+        SyntaxNode::new_root(alloc, self.green.clone()?)
     }
 }

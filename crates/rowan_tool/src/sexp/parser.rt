@@ -8,7 +8,7 @@ ghost use Rattle.rowan_tool.specs.Sexp.{IsTextOf, number_of};
 
 use std::alloc::Global;
 
-use rowan_green::{Fault, GreenNode, GreenNodeBuilder};
+use rowan::{Fault, GreenNode, GreenNodeBuilder};
 
 use crate::sexp::lang::SyntaxKind;
 use crate::sexp::lexer::lex;
