@@ -10,6 +10,7 @@ pub mod Same
 pub mod Sizes
 pub mod Span
 pub mod Term
+pub mod TokenText
 pub mod View
 pub mod Weave
 pub mod Word

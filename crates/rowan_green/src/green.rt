@@ -4,6 +4,7 @@ mod children;
 mod element;
 mod node;
 mod token;
+mod token_text;
 
 pub use children::Children;
 pub use element::{GreenElement, GreenElementRef};

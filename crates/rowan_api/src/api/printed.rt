@@ -127,10 +127,21 @@ fn push_indent(text: &mut String, level: usize) -> Result<(), AllocError> {
 // The text in quotes, where a long one is cut and ends in points.
 fn push_quoted(text: &mut String, quoted: &str) -> Result<(), AllocError> {
     if quoted.len() < LONG {
+        if is_plain(quoted) {
+            text.push('"')?;
+            text.push_str(quoted)?;
+            return text.push('"');
+        }
         return write!(text, "{quoted:?}");
     }
     let shown = (CUT..LONG).find_map(|end| quoted.get(..end)).unwrap_or(quoted);
     write!(text, "{shown:?}")?;
     text.pop();
     text.push_str(" ...\"")
+}
+
+// Whether each byte stands for itself between quotes.
+fn is_plain(text: &str) -> bool {
+    text.bytes()
+        .all(|byte| (b' '..=b'~').contains(&byte) && byte != b'"' && byte != b'\\')
 }

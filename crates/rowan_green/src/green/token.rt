@@ -4,6 +4,7 @@ ghost use Rattle.rowan_green.specs.Term.{token_len};
 
 use crate::fault::Fault;
 use crate::green::SyntaxKind;
+use crate::green::token_text::TokenText;
 use crate::text::TextSize;
 use std::alloc::{AllocError, Global};
 use std::fmt;
@@ -20,22 +21,22 @@ pub struct GreenToken {
 #[derive(Drop)]
 struct TokenData {
     kind: SyntaxKind,
-    text: String,
+    text: TokenText,
 }
 
 /// Rust's rowan has a type of its own for what a token refers to. Here it is the token.
 pub type GreenTokenData = GreenToken;
 
 impl Model for GreenToken {
-    ghost use Rattle.std.specs.Prelude.{◌≤◌, length, string_bytes};
+    ghost use Rattle.std.specs.Prelude.{◌≤◌, length};
     ghost use Rattle.rowan_green.specs.Term.{TokenTerm};
     ghost use Rattle.rowan_green.specs.Fits.{byte_limit};
 
     ghost Value = { TokenTerm };
 
-    ghost view = { λ t. record { kind = t.data.value.kind.0; text = string_bytes t.data.value.text } };
+    ghost view = { λ t. record { kind = t.data.value.kind.0; text = t.data.value.text } };
 
-    ghost invariant = { λ t. length (string_bytes t.data.value.text) ≤ byte_limit };
+    ghost invariant = { λ t. length t.data.value.text ≤ byte_limit };
 }
 
 impl GreenToken {
@@ -49,7 +50,7 @@ impl GreenToken {
         if text.len() > u32::MAX as usize {
             return Err(Fault::TextTooLong);
         }
-        let text = String::from_str(alloc, text)?;
+        let text = TokenText::new(alloc, text)?;
         let data = Rc::new(alloc, TokenData { kind, text })?;
         Ok(GreenToken { data })
     }
@@ -73,7 +74,7 @@ impl GreenToken {
         ensures len { result ≡ token_len self.now }
         ensures fits { FitsToken self.now }
     {
-        TextSize::from(self.data.text.len() as u32)
+        TextSize::from(self.data.text.as_str().len() as u32)
     }
 }
 
