@@ -1,8 +1,8 @@
 -- What a printer has left to print, in nodes that are open one in the other.
-use Rattle.std.proofs.Common.{◌≡◌, ℕ, zero, suc, ◌+◌, ◌<◌, List, [], ◌∷◌, ◌++◌, drop, Some, ap, subst, sym, add-one, arith}
+use Rattle.std.proofs.Common.{◌≡◌, ℕ, zero, suc, ◌+◌, List, [], ◌∷◌, ◌++◌, drop, Some, ap, add-one, arith}
 use Rattle.std.specs.Prelude.{slice_get}
 use Rattle.rowan_green.specs.Sizes.{term_size, terms_size}
-use Rattle.rowan_green.specs.Term.{Term, NodeTerm, node_children}
+use Rattle.rowan_green.specs.Term.{Term}
 use Rattle.rowan_api.specs.declared.api.printed.OpenNode.{OpenNode}
 use Rattle.rowan_api.specs.Printed.{size_left}
 

@@ -2,5 +2,6 @@
 #![tactic(auto)]
 
 pub mod api;
+pub mod laws;
 
 pub use rowan_cursor::cursor;

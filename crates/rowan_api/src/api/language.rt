@@ -1,9 +1,8 @@
 ghost use Rattle.std.specs.Prelude.{◌≡◌, ℕ, List};
 
+use rowan_green::green::SyntaxKind;
 use std::fmt;
 use std::hash::Hash;
-
-use rowan_green::green::SyntaxKind;
 
 /// The kinds of a language: what each raw kind means, and how it is called.
 ///
@@ -20,18 +19,11 @@ pub trait Language: Sized + Copy + fmt::Debug + Eq + Ord + Hash {
     fn kind_from_raw(raw: SyntaxKind) -> Self::Kind
         ensures { result ≡ meaning raw.0 };
 
-    /// A raw kind that means the kind. Where several raw kinds do, always the same one.
+    /// A raw kind that means the kind.
     fn kind_to_raw(kind: Self::Kind) -> SyntaxKind
         ensures { meaning result.0 ≡ kind };
 
     /// How the kind is called in printed trees.
     fn kind_name(kind: Self::Kind) -> &'static str
         ensures { result.now ≡ name kind };
-}
-
-/// A kind is what its raw kind means.
-pub fn kind_keeps_its_raw<L: Language>(kind: L::Kind) -> L::Kind
-    ensures { result ≡ kind }
-{
-    L::kind_from_raw(L::kind_to_raw(kind))
 }

@@ -4,17 +4,15 @@ ghost use Rattle.rowan_green.specs.Term.{NodeTerm, node_kind};
 ghost use Rattle.rowan_green.specs.Path.{range};
 ghost use Rattle.rowan_cursor.specs.Cursor.{StandsAt};
 
-use std::alloc::Global;
-use std::fmt;
-use std::marker::{Model, PhantomData};
-
+use crate::api::language::Language;
+use crate::api::printed;
 use rowan_cursor::cursor;
 use rowan_green::fault::Fault;
 use rowan_green::green::GreenNode;
 use rowan_green::text::TextRange;
-
-use crate::api::language::Language;
-use crate::api::printed;
+use std::alloc::Global;
+use std::fmt;
+use std::marker::{Model, PhantomData};
 
 /// A node in a tree of a language: a root, and the way from it to the node.
 #[derive(Drop)]
@@ -33,7 +31,7 @@ impl<L> Model for SyntaxNode<L> {
 
     ghost view = { λ n. n.raw };
 
-    ghost inverse = { λ c. record { raw = c; language = record { } } };
+    ghost inverse = { λ c. record { raw = c; language = record {} } };
 }
 
 impl<L: Language> SyntaxNode<L> {
@@ -69,7 +67,7 @@ impl<L: Language> SyntaxNode<L> {
     pub fn debug_tree(&self, alloc: Global) -> Result<String, Fault>
         ensures { IfErr result (λ e. e ≡ Fault.Memory) }
     {
-        Ok(printed::tree::<L>(alloc, self.raw.green(), self.raw.text_range().start())?)
+        Ok(printed::tree::<L>(alloc, self.raw.green(), self.text_range().start())?)
     }
 }
 

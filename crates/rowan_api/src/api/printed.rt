@@ -6,21 +6,21 @@ ghost use Rattle.rowan_green.specs.Term.{node_size, node_children};
 ghost use Rattle.rowan_green.specs.Fits.{child_limit};
 ghost use Rattle.rowan_api.specs.Printed.{size_left};
 
-use std::alloc::{AllocError, Global};
-
+use crate::api::language::Language;
 use itoa::Buffer;
 use rowan_green::green::{GreenElementRef, GreenNode, GreenToken, SyntaxKind};
 use rowan_green::text::TextSize;
 use rowan_green::utility_types::NodeOrToken;
-
-use crate::api::language::Language;
+use std::alloc::{AllocError, Global};
 
 // Two spaces for each of the levels that one push indents.
 const INDENT: &str = "                                                                ";
+
 const LEVELS: usize = 32;
 
 // A text of at least so many bytes is cut, at the first border from `CUT` on.
 const LONG: usize = 25;
+
 const CUT: usize = 21;
 
 // A node whose line is printed, and the next of its children.
@@ -36,7 +36,8 @@ impl<'a> OpenNode<'a> {
     fn new(node: &'a GreenNode, start: u32) -> OpenNode<'a>
         ensures { size_left result.node.now result.next + 1 ≡ node_size node.now }
     {
-        let _fits = node.text_len();
+        // Says that the number of children is within its limit, so that their places can be counted.
+        let _ = node.text_len();
         OpenNode {
             node,
             start,
@@ -62,7 +63,11 @@ impl<'a> OpenNode<'a> {
 }
 
 // The lines of a node and all that is in it. The start is the offset of its text in that of the root.
-pub(super) fn tree<L: Language>(alloc: Global, node: &GreenNode, start: TextSize) -> Result<String, AllocError> {
+pub(super) fn tree<L: Language>(
+    alloc: Global,
+    node: &GreenNode,
+    start: TextSize,
+) -> Result<String, AllocError> {
     let mut text = String::new(alloc);
     let mut parents: Vec<OpenNode<'_>> = Vec::new(alloc);
     let start = u32::from(start);
@@ -91,20 +96,42 @@ pub(super) fn tree<L: Language>(alloc: Global, node: &GreenNode, start: TextSize
     }
 }
 
-fn push_node<L: Language>(text: &mut String, level: usize, node: &GreenNode, start: u32) -> Result<(), AllocError> {
+fn push_node<L: Language>(
+    text: &mut String,
+    level: usize,
+    node: &GreenNode,
+    start: u32,
+) -> Result<(), AllocError> {
     push_head::<L>(text, level, node.kind(), start, u32::from(node.text_len()))?;
     text.push('\n')
 }
 
-fn push_token<L: Language>(text: &mut String, level: usize, token: &GreenToken, start: u32) -> Result<(), AllocError> {
-    push_head::<L>(text, level, token.kind(), start, u32::from(token.text_len()))?;
+fn push_token<L: Language>(
+    text: &mut String,
+    level: usize,
+    token: &GreenToken,
+    start: u32,
+) -> Result<(), AllocError> {
+    push_head::<L>(
+        text,
+        level,
+        token.kind(),
+        start,
+        u32::from(token.text_len()),
+    )?;
     text.push(' ')?;
     push_quoted(text, token.text())?;
     text.push('\n')
 }
 
 // The indentation, the name of the kind and the range.
-fn push_head<L: Language>(text: &mut String, level: usize, kind: SyntaxKind, start: u32, len: u32) -> Result<(), AllocError> {
+fn push_head<L: Language>(
+    text: &mut String,
+    level: usize,
+    kind: SyntaxKind,
+    start: u32,
+    len: u32,
+) -> Result<(), AllocError> {
     push_indent(text, level)?;
     text.push_str(L::kind_name(L::kind_from_raw(kind)))?;
     let mut digits = Buffer::new();
@@ -118,10 +145,8 @@ fn push_indent(text: &mut String, level: usize) -> Result<(), AllocError> {
     for _ in 0..level / LEVELS {
         text.push_str(INDENT)?;
     }
-    match INDENT.get(..2 * (level % LEVELS)) {
-        Some(indent) => text.push_str(indent),
-        None => Ok(()),
-    }
+    let (indent, _) = INDENT.split_at(2 * (level % LEVELS));
+    text.push_str(indent)
 }
 
 // The text in quotes, where a long one is cut and ends in points.
@@ -134,7 +159,9 @@ fn push_quoted(text: &mut String, quoted: &str) -> Result<(), AllocError> {
         }
         return write!(text, "{quoted:?}");
     }
-    let shown = (CUT..LONG).find_map(|end| quoted.get(..end)).unwrap_or(quoted);
+    let shown = (CUT..LONG)
+        .find_map(|end| quoted.get(..end))
+        .unwrap_or(quoted);
     write!(text, "{shown:?}")?;
     text.pop();
     text.push_str(" ...\"")

@@ -1,6 +1,3 @@
-use Rattle.std.proofs.Common.{ap, arith}
-use Rattle.rowan_green.specs.Lent.{pointee}
-use Rattle.rowan_green.specs.Sizes.{term_size}
 use Rattle.rowan_green.specs.Term.{node_children}
 use Rattle.rowan_api.proofs.Frames.{terms_size-child}
 use Rattle.rowan_api.proofs.api.printed.OpenNode.split_child.Goals as goal

@@ -1,0 +1,5 @@
+//! Tests of the typed layer.
+#![tactic(auto)]
+
+#[cfg(test)]
+mod printed;
