@@ -4,18 +4,15 @@
 //! [`SyntaxNode`] is a place in the tree.
 #![tactic(auto)]
 
-pub use rowan_api::api;
-pub use rowan_cursor::cursor;
-pub use rowan_green::builder;
-pub use rowan_green::fault;
-pub use rowan_green::green;
-pub use rowan_green::laws;
-pub use rowan_green::text;
-pub use rowan_green::utility_types;
-
 pub use api::{Language, SyntaxNode};
 pub use builder::{GreenNodeBuilder, Unfinished};
 pub use fault::Fault;
-pub use green::{Children, GreenElement, GreenElementRef, GreenNode, GreenNodeData, GreenToken, GreenTokenData, SyntaxKind};
+pub use green::{
+    Children, GreenElement, GreenElementRef, GreenNode, GreenNodeData, GreenToken, GreenTokenData,
+    SyntaxKind,
+};
+pub use rowan_api::api;
+pub use rowan_cursor::cursor;
+pub use rowan_green::{builder, fault, green, laws, text, utility_types};
 pub use text::{TextLen, TextRange, TextSize};
 pub use utility_types::NodeOrToken;

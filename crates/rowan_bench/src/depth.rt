@@ -1,6 +1,6 @@
 use std::alloc::Global;
 
-use rowan_green::Fault;
+use rowan::Fault;
 use rowan_tool::sexp;
 
 /// What is done with a deep tree.

@@ -1,9 +1,9 @@
 -- What is stored beside a node's children stays right when a child is added.
-use Rattle.std.proofs.Common.{◌≡◌, ℕ, ◌+◌, ◌<◌, ◌≤◌, List, [], ◌∷◌, ◌++◌, map, length, refl, sym, ◌∙◌, ap, subst, arith, length-append}
+use Rattle.std.proofs.Common.{◌≡◌, ℕ, ◌+◌, ◌<◌, ◌≤◌, List, [], ◌∷◌, ◌++◌, map, length, refl, sym, ◌∙◌, ap, arith, length-append}
 use Rattle.std.proofs.lemmas.List.{length-map}
 use Rattle.rowan_green.specs.declared.green.node.GreenChild.{GreenChild}
-use Rattle.rowan_green.specs.Term.{Term, node_of, node_len, term_len, sum_of_lens}
-use Rattle.rowan_green.specs.Fits.{AreWithin, Fits, FitsNode, AllFit, byte_limit, child_limit}
+use Rattle.rowan_green.specs.Term.{node_of, node_len, term_len, sum_of_lens}
+use Rattle.rowan_green.specs.Fits.{Fits, FitsNode, byte_limit, child_limit}
 use Rattle.rowan_green.specs.View.{child_term, HasOffsetsFrom, AreSound}
 use Rattle.rowan_green.proofs.Terms.{node_len-node_of, sum_of_lens-append, FitsNode-node_of, AllFit-push}
 
@@ -24,9 +24,9 @@ AreSound-push len len' cs cs' c s e room f more fits e' =
       offsets = HasOffsetsFrom-push 0 cs c s.offsets (omega (arith, s.sum));
       within = rw map-push record {
         count = omega (arith, length-append ts (t ∷ []), length-map cs child_term);
-        text = omega (arith, s.sum, sum_of_lens-append ts (t ∷ []))
+        text = omega (arith, s.sum, sum_of_lens-append ts (t ∷ []));
       };
-      fit = rw map-push (AllFit-push ts t s.fit f)
+      fit = rw map-push (AllFit-push ts t s.fit f);
     }
 
 pub AreSound-empty : AreSound 0 []

@@ -1,7 +1,7 @@
 -- Laws of terms: the two forms of a list of children, and the lengths of what is joined.
-use Rattle.std.proofs.Common.{◌≡◌, ℕ, ◌+◌, ◌≤◌, List, [], ◌∷◌, ◌++◌, length, refl, sym, ◌∙◌, ap, arith, append_assoc, length-append}
+use Rattle.std.proofs.Common.{◌≡◌, ℕ, ◌+◌, List, [], ◌∷◌, ◌++◌, length, refl, sym, ◌∙◌, ap, arith, append_assoc, length-append}
 use Rattle.rowan_green.specs.declared.utility_types.NodeOrToken.TheVariants.{Node, Token}
-use Rattle.rowan_green.specs.Term.{NodeTerm, Forest, empty, node_then, token_then, Term, terms, forest, put_first, node_of, node_children, forest_text, term_text, joined_text, node_len, term_len, sum_of_lens}
+use Rattle.rowan_green.specs.Term.{Forest, empty, node_then, token_then, Term, terms, forest, node_of, forest_text, term_text, joined_text, node_len, term_len, sum_of_lens}
 use Rattle.rowan_green.specs.Fits.{AreWithin, Fits, FitsNode, FitForest, AllFit}
 
 pub terms-forest : (ts : List Term) → terms (forest ts) ≡ ts

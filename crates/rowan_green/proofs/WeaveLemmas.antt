@@ -1,5 +1,5 @@
 -- How the items of a builder change: with one more element, with one more opening, and with the innermost opening closed.
-use Rattle.std.proofs.Common.{◌≡◌, ◌≢◌, ℕ, zero, suc, ◌+◌, ◌-◌, ◌<◌, ◌≤◌, List, [], ◌∷◌, ◌++◌, map, length, take, drop, refl, sym, ◌∙◌, ap, subst, arith, append_assoc, length-append, length-drop, length-take, Some, slice_get, get_or}
+use Rattle.std.proofs.Common.{◌≡◌, ◌≢◌, ℕ, zero, suc, ◌+◌, ◌-◌, ◌≤◌, List, [], ◌∷◌, ◌++◌, map, length, take, drop, refl, sym, ◌∙◌, ap, subst, arith, append_assoc, length-append, length-drop, length-take, Some, slice_get, get_or}
 use Rattle.std.proofs.lemmas.List.{append-nil, map-append, take-append-le, drop-append-le, take-take, drop-take, drop-drop, take-append-drop}
 use Rattle.std.proofs.Math.Seq.{take-append_seam}
 use Rattle.std.proofs.Math.ListN.{drop_of_length-le}
@@ -7,9 +7,9 @@ use Rattle.rowan_green.specs.declared.fault.Fault.{Fault}
 use Rattle.rowan_green.specs.declared.fault.Fault.TheVariants.{TextTooLong, TooManyChildren, CheckpointPast, CheckpointBefore, NothingOpen, NotOneElement, NotANode, OtherKind, NotFound, Memory, UnknownMark, NotOneList}
 use Rattle.rowan_green.specs.declared.builder.OpenNode.{OpenNode}
 use Rattle.rowan_green.specs.declared.utility_types.NodeOrToken.TheVariants.{Node, Token}
-use Rattle.rowan_green.specs.Term.{TokenTerm, NodeTerm, Term, node, node_of, forest}
+use Rattle.rowan_green.specs.Term.{TokenTerm, NodeTerm, Term, node_of, forest}
 use Rattle.rowan_green.specs.Fits.{AreWithin, PassesLimit}
-use Rattle.rowan_green.specs.Word.{Symbol, Open, Leaf, Close, forest_word, node_word, term_word, Item, Bare, Whole, item_word, spelled, whole_terms, HasParts, HasTerms, Closes, WhyNotClosed}
+use Rattle.rowan_green.specs.Word.{Symbol, Open, Leaf, Close, forest_word, node_word, Item, Bare, Whole, item_word, spelled, whole_terms, HasParts, HasTerms, Closes, WhyNotClosed}
 use Rattle.rowan_green.specs.Weave.{weave, AreInOrder}
 
 pub spelled-append : (xs ys : List Item) → spelled (xs ++ ys) ≡ spelled xs ++ spelled ys
@@ -130,8 +130,8 @@ pub spelled-start : (os : List OpenNode) (ts : List Term) (o : OpenNode) → Are
 spelled-start os ts o h e =
     let places : AreInOrder 0 (os ++ o ∷ []) (length ts) = AreInOrder-push 0 os o (length ts) (AreInOrder-grow 0 os (length ts) o.first_child h (omega arith)) (omega arith) in
     ap spelled (weave-last os o ts places ∙ ap (λ n. weave 0 os (take n ts) ++ Bare o.kind.0 ∷ map Whole (drop n ts)) e
-      ∙ ap (λ us. weave 0 os us ++ Bare o.kind.0 ∷ map Whole (drop (length ts) ts)) (take_whole ts)
-      ∙ ap (λ us. weave 0 os ts ++ Bare o.kind.0 ∷ map Whole us) (drop_of_length-le ts (omega arith)))
+    ∙ ap (λ us. weave 0 os us ++ Bare o.kind.0 ∷ map Whole (drop (length ts) ts)) (take_whole ts)
+    ∙ ap (λ us. weave 0 os ts ++ Bare o.kind.0 ∷ map Whole us) (drop_of_length-le ts (omega arith)))
     ∙ spelled-append (weave 0 os ts) (Bare o.kind.0 ∷ [])
 
 pub spelled-finish : (os : List OpenNode) (o : OpenNode) (ts : List Term) → AreInOrder 0 (os ++ o ∷ []) (length ts) →
@@ -200,9 +200,9 @@ module _ (os : List OpenNode) (ts : List Term) (o : OpenNode) where
     parts = LastOpen-parts w h spells;
     within = within;
     closed =
-      ap (λ ps. spelled (weave 0 ps ts')) e ∙ ap (λ us. spelled (weave 0 outer us)) (f ∙ ap (λ m. take o.first_child ts ++ Node m ∷ []) g)
-      ∙ spelled-finish outer o ts (LastOpen-split h)
-      ∙ ap (λ ps. spelled (weave 0 ps ts) ++ Close ∷ []) (sym (last_parts os o h.last)) ∙ ap (λ v. v ++ Close ∷ []) spells
+        ap (λ ps. spelled (weave 0 ps ts')) e ∙ ap (λ us. spelled (weave 0 outer us)) (f ∙ ap (λ m. take o.first_child ts ++ Node m ∷ []) g)
+        ∙ spelled-finish outer o ts (LastOpen-split h)
+        ∙ ap (λ ps. spelled (weave 0 ps ts) ++ Close ∷ []) (sym (last_parts os o h.last)) ∙ ap (λ v. v ++ Close ∷ []) spells;
   }
 
 -- the terms of a builder's word are its elements

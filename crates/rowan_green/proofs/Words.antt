@@ -1,9 +1,9 @@
 -- Laws of words: each has one reading, and its text is that of its whole terms.
-use Rattle.std.proofs.Common.{◌≡◌, ℕ, List, [], ◌∷◌, ◌++◌, map, refl, sym, ◌∙◌, ap, append_assoc}
+use Rattle.std.proofs.Common.{◌≡◌, List, [], ◌∷◌, ◌++◌, refl, sym, ◌∙◌, ap, append_assoc}
 use Rattle.std.proofs.lemmas.List.{append-nil}
 use Rattle.rowan_green.specs.declared.utility_types.NodeOrToken.TheVariants.{Node, Token}
-use Rattle.rowan_green.specs.Term.{TokenTerm, NodeTerm, node, Forest, empty, node_then, token_then, Term, node_text, forest_text, term_text, joined_text}
-use Rattle.rowan_green.specs.Word.{Symbol, Open, Leaf, Close, node_word, forest_word, term_word, Item, Bare, Whole, item_word, spelled, HasParts, whole_terms, HasTerms, word_text}
+use Rattle.rowan_green.specs.Term.{NodeTerm, node, Forest, empty, node_then, token_then, Term, node_text, forest_text, joined_text}
+use Rattle.rowan_green.specs.Word.{Symbol, Open, Leaf, Close, node_word, forest_word, Item, Bare, Whole, item_word, spelled, HasParts, whole_terms, HasTerms, word_text}
 use Rattle.rowan_green.specs.Coding.{read, read-node, last_node, last_node-word}
 use Rattle.rowan_green.proofs.WeaveLemmas.{spelled-append}
 
@@ -67,5 +67,5 @@ word_text-parts w items h = ap word_text h.spells ∙ word_text-spelled items
 -- one more item behind a word's items
 pub parts-more : (v w x : List Symbol) (items : List Item) (i : Item) → HasParts v items → w ≡ v ++ x → x ≡ item_word i → HasParts w (items ++ i ∷ [])
 parts-more v w x items i h e f = record {
-  spells = e ∙ ap (λ u. u ++ x) h.spells ∙ ap (λ u. spelled items ++ u) (f ∙ sym (append-nil (item_word i))) ∙ sym (spelled-append items (i ∷ []))
+  spells = e ∙ ap (λ u. u ++ x) h.spells ∙ ap (λ u. spelled items ++ u) (f ∙ sym (append-nil (item_word i))) ∙ sym (spelled-append items (i ∷ []));
 }

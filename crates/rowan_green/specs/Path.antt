@@ -3,7 +3,7 @@
 --     The leaves of a term are its tokens, each with its path, in the order of the text.
 --     The offset of a path is the sum of the lengths of the leaves before it, and its range goes on for the length of its subterm.
 -- Paths are in the order of a dictionary: a path stands before its own extensions.
-use Rattle.std.specs.Prelude.{◌≡◌, ℕ, ◌+◌, ◌&&◌, ◌||◌, Bool, true, false, List, [], ◌∷◌, ◌++◌, map, filter, sum_by, Option, Some, None, nat_lt, nat_eq, slice_get}
+use Rattle.std.specs.Prelude.{ℕ, ◌+◌, ◌&&◌, ◌||◌, Bool, true, false, List, [], ◌∷◌, ◌++◌, map, filter, sum_by, Option, Some, None, nat_lt, nat_eq, slice_get}
 use Rattle.rowan_green.specs.declared.utility_types.NodeOrToken.TheVariants.{Node, Token}
 use Rattle.rowan_green.specs.Span.{Span}
 use Rattle.rowan_green.specs.Term.{TokenTerm, NodeTerm, node, Forest, empty, node_then, token_then, Term, node_children, token_len, term_len, term_text}

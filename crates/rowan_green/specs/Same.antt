@@ -31,11 +31,12 @@ same_term _ _ = false
 pub same_token-decides : (t u : TokenTerm) → Decides (same_token t u) (t ≡ u)
 same_token-decides t u =
     let texts = bytes_decides t.text u.text in
-    let kinds = Decides-eqb t.kind u.kind in
-    ((λ h.
-        let p = and_parts (t.kind == u.kind) (pointwise ◌==◌ t.text u.text) h in
-        ap (λ k. record { kind = k; text = t.text }) (kinds.0 p.0) ∙ ap (λ s. record { kind = u.kind; text = s }) (texts.0 p.1)),
-     (λ e. and_from (t.kind == u.kind) (pointwise ◌==◌ t.text u.text) (kinds.1 (ap (λ x. x.kind) e)) (texts.1 (ap (λ x. x.text) e))))
+    let kinds = Decides-eqb t.kind u.kind in (
+      (λ h.
+          let p = and_parts (t.kind == u.kind) (pointwise ◌==◌ t.text u.text) h in
+          ap (λ k. record { kind = k; text = t.text }) (kinds.0 p.0) ∙ ap (λ s. record { kind = u.kind; text = s }) (texts.0 p.1)),
+      (λ e. and_from (t.kind == u.kind) (pointwise ◌==◌ t.text u.text) (kinds.1 (ap (λ x. x.kind) e)) (texts.1 (ap (λ x. x.text) e))),
+    )
 
 mutual
   same_node-refl : (n : NodeTerm) → same_node n n ≡ true

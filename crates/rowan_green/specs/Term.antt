@@ -2,7 +2,7 @@
 --     A token is a raw kind and a text, as the bytes of its UTF-8.
 --     A node is a raw kind and a list of children, each a node or a token. It has no place and no parent.
 -- The text of a node is the texts of its children, one after the other, and a length is the number of bytes of a text.
-use Rattle.std.specs.Prelude.{◌≡◌, ℕ, ◌+◌, List, [], ◌∷◌, ◌++◌, length}
+use Rattle.std.specs.Prelude.{ℕ, ◌+◌, List, [], ◌∷◌, ◌++◌, length}
 use Rattle.rowan_green.specs.declared.utility_types.NodeOrToken.{NodeOrToken}
 use Rattle.rowan_green.specs.declared.utility_types.NodeOrToken.TheVariants.{Node, Token}
 

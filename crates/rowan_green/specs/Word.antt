@@ -2,11 +2,11 @@
 --     A token spells itself. A node spells an opening with its kind, its children's words, and a closing.
 -- The items of a word are its openings that nothing closes, here called bare, and its whole terms.
 -- A word has at most one list of items, since a closing is no item: the law of `laws::word_has_one_reading`.
-use Rattle.std.specs.Prelude.{◌≡◌, ◌≢◌, ℕ, ◌+◌, ◌<◌, List, [], ◌∷◌, ◌++◌, map, length}
+use Rattle.std.specs.Prelude.{◌≡◌, ◌≢◌, ℕ, ◌<◌, List, [], ◌∷◌, ◌++◌, map, length}
 use Rattle.rowan_green.specs.declared.fault.Fault.{Fault}
 use Rattle.rowan_green.specs.declared.fault.Fault.TheVariants.{TextTooLong, TooManyChildren, NothingOpen, NotOneElement, NotANode, Memory}
 use Rattle.rowan_green.specs.declared.utility_types.NodeOrToken.TheVariants.{Node, Token}
-use Rattle.rowan_green.specs.Term.{TokenTerm, NodeTerm, node, Forest, empty, node_then, token_then, Term, node_of}
+use Rattle.rowan_green.specs.Term.{TokenTerm, NodeTerm, node, Forest, empty, node_then, token_then, Term}
 use Rattle.rowan_green.specs.Fits.{byte_limit, AreWithin, PassesLimit}
 
 pub data Symbol : Type 0 where

@@ -3,12 +3,11 @@ ghost use Rattle.std.specs.Prelude.{◌≡◌, ◌<◌, [], ◌∷◌, ◌++◌,
 ghost use Rattle.rowan_green.specs.Fits.{byte_limit};
 ghost use Rattle.rowan_green.specs.Word.{Open, Leaf, Close, WhyNoToken, Closes, WhyNotClosed, IsFinished, WhyUnfinished};
 
-use std::alloc::Global;
-use std::marker::{Model, PhantomData};
-
 use crate::fault::Fault;
 use crate::green::{GreenElement, GreenNode, GreenToken, SyntaxKind};
 use crate::utility_types::NodeOrToken;
+use std::alloc::Global;
+use std::marker::{Model, PhantomData};
 
 // A node that is not finished: its kind, and the number of elements that were finished before it.
 #[derive(Clone, Copy)]

@@ -6,24 +6,20 @@ ghost use Rattle.rowan_green.specs.Word.{Symbol, Item, HasParts, HasTerms, node_
 /// A word has at most one list of items: bare openings and whole terms.
 pub fn word_has_one_reading()
     ensures { (w : List Symbol) (xs ys : List Item) → HasParts w xs → HasParts w ys → xs ≡ ys }
-{
-}
+{}
 
 /// The word of a node determines the node.
 pub fn word_determines_node()
     ensures { (m n : NodeTerm) → node_word m ≡ node_word n → m ≡ n }
-{
-}
+{}
 
 /// The text of a node is its children's texts, one after the other, and its length the sum of their lengths.
 pub fn node_has_its_children_text()
     ensures text { (k : ℕ) (ts : List Term) → node_text (node_of k ts) ≡ joined_text ts }
     ensures len { (k : ℕ) (ts : List Term) → node_len (node_of k ts) ≡ sum_of_lens ts }
-{
-}
+{}
 
 /// The text of a word's whole terms is the texts of its leaves, in order: a finished tree has the text of the accepted tokens.
 pub fn word_keeps_text()
     ensures { (w : List Symbol) (ts : List Term) → HasTerms w ts → word_text w ≡ joined_text ts }
-{
-}
+{}

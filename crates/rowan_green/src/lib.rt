@@ -10,6 +10,9 @@ pub mod utility_types;
 
 pub use builder::{GreenNodeBuilder, Unfinished};
 pub use fault::Fault;
-pub use green::{Children, GreenElement, GreenElementRef, GreenNode, GreenNodeData, GreenToken, GreenTokenData, SyntaxKind};
+pub use green::{
+    Children, GreenElement, GreenElementRef, GreenNode, GreenNodeData, GreenToken, GreenTokenData,
+    SyntaxKind,
+};
 pub use text::{TextLen, TextRange, TextSize};
 pub use utility_types::NodeOrToken;

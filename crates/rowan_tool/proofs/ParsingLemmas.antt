@@ -58,8 +58,12 @@ whole_terms-open before k ts = whole_terms-append before (Bare k ∷ map Whole t
 -- the children of a node that is open are part of the text
 children_le-text : (w : List Symbol) (items before : List Item) (k : ℕ) (ts : List Term) → HasParts w items → items ≡ before ++ Bare k ∷ map Whole ts → sum_of_lens ts ≤ length (word_text w)
 children_le-text w items before k ts h e =
-    omega (arith, ap length (word_text-parts w items h ∙ ap (λ is. joined_text (whole_terms is)) e ∙ ap joined_text (whole_terms-open before k ts)),
-      length-joined_text (whole_terms before ++ ts), sum_of_lens-append (whole_terms before) ts)
+    omega (
+      arith,
+      ap length (word_text-parts w items h ∙ ap (λ is. joined_text (whole_terms is)) e ∙ ap joined_text (whole_terms-open before k ts)),
+      length-joined_text (whole_terms before ++ ts),
+      sum_of_lens-append (whole_terms before) ts,
+    )
 
 children_filled : (items before : List Item) (k : ℕ) (ts : List Term) → AreFilled (whole_terms items) → items ≡ before ++ Bare k ∷ map Whole ts → AreFilled (whole_terms before) × AreFilled ts
 children_filled items before k ts h e = AreFilled-split (whole_terms before) ts (subst AreFilled (ap whole_terms e ∙ whole_terms-open before k ts) h)
@@ -128,7 +132,7 @@ IsInRoot-more v w n t h e text filled = record {
   opened = bare_count-append h.items (Whole t ∷ []) ∙ omega (arith, h.opened);
   few = omega (arith, h.few, ap length (ap word_text e ∙ word_text-append v (term_word t)), length-append (word_text v) (word_text (term_word t)));
   filled = subst AreFilled (sym (whole_terms-append h.items (Whole t ∷ []))) (AreFilled-join (whole_terms h.items) (t ∷ []) h.filled (filled, tt));
-  ends = EndsWhole-append h.items t
+  ends = EndsWhole-append h.items t;
 }
 
 pub word_text-more : (v w : List Symbol) (t : Term) → w ≡ v ++ term_word t → word_text (term_word t) ≡ term_text t → word_text w ≡ word_text v ++ term_text t
@@ -142,9 +146,9 @@ IsInRoot-opens v u w n k t h e f filled = record {
   opened = omega (arith, bare_count-append (h.items ++ Bare k ∷ []) (Whole (Token t) ∷ []), bare_count-append h.items (Bare k ∷ []), h.opened);
   few = omega (arith, h.few, ap length (word_text-opens v u w k t e f), length-append (word_text v) t.text);
   filled =
-    subst AreFilled (sym (whole_terms-append (h.items ++ Bare k ∷ []) (Whole (Token t) ∷ []) ∙ ap (λ ts. ts ++ Token t ∷ []) (whole_terms-append h.items (Bare k ∷ []) ∙ append-nil (whole_terms h.items))))
+      subst AreFilled (sym (whole_terms-append (h.items ++ Bare k ∷ []) (Whole (Token t) ∷ []) ∙ ap (λ ts. ts ++ Token t ∷ []) (whole_terms-append h.items (Bare k ∷ []) ∙ append-nil (whole_terms h.items))))
       (AreFilled-join (whole_terms h.items) (Token t ∷ []) h.filled (filled, tt));
-  ends = EndsWhole-append (h.items ++ Bare k ∷ []) (Token t)
+  ends = EndsWhole-append (h.items ++ Bare k ∷ []) (Token t);
 }
   where
     word_text-opens : (v u w : List Symbol) (k : ℕ) (t : TokenTerm) → u ≡ v ++ Open k ∷ [] → w ≡ u ++ Leaf t ∷ [] → word_text w ≡ word_text v ++ t.text
@@ -167,7 +171,7 @@ IsInRoot-closes v w n h some c = from c.before c.kind c.children (parts-unique v
           opened = omega (arith, bare_count-append before (Whole node ∷ []), ap bare_count same, bare_count-append before (Bare k ∷ map Whole ts), bare_count-map ts, h.opened);
           few = omega (arith, h.few, ap length (word_text-closes v w c));
           filled = subst AreFilled (sym (whole_terms-append before (Whole node ∷ []))) (AreFilled-join (whole_terms before) (node ∷ []) both.0 (filled_node ts both.1 (subst EndsWhole same h.ends), tt));
-          ends = EndsWhole-append before node
+          ends = EndsWhole-append before node;
         }
       where
         filled_node : (us : List Term) → AreFilled us → EndsWhole (before ++ Bare k ∷ map Whole us) → 0 < node_len (node_of k us)

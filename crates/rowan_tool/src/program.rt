@@ -3,12 +3,10 @@ ghost use Rattle.std.specs.Prelude.{◌≡◌, ◌≢◌, ◌↔◌, ◌<◌, �
 ghost use Rattle.std.specs.Io.KnownBytes.{Appends, Consumes, IsAtEnd};
 ghost use Rattle.rowan_tool.specs.Program.{AsksFor, IsCommandLine, IsReadWhole, IsAnswered, longest_input, status_of, line_of};
 
+use crate::sexp;
+use rowan::Fault;
 use std::alloc::{AllocError, Global};
 use std::io::{ErrorKind, Read, Write};
-
-use rowan::Fault;
-
-use crate::sexp;
 
 /// The most bytes that an input may have, as every offset in a tree has 32 bits.
 const MAX_INPUT: usize = u32::MAX as usize;

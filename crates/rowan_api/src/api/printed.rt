@@ -169,6 +169,5 @@ fn push_quoted(text: &mut String, quoted: &str) -> Result<(), AllocError> {
 
 // Whether each byte stands for itself between quotes.
 fn is_plain(text: &str) -> bool {
-    text.bytes()
-        .all(|byte| (b' '..=b'~').contains(&byte) && byte != b'"' && byte != b'\\')
+    text.bytes().all(|byte| (b' '..=b'~').contains(&byte) && byte != b'"' && byte != b'\\')
 }

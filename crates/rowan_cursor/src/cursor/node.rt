@@ -4,13 +4,12 @@ ghost use Rattle.rowan_green.specs.Term.{NodeTerm, node_kind};
 ghost use Rattle.rowan_green.specs.Path.{range};
 ghost use Rattle.rowan_cursor.specs.Cursor.{StandsAt, last_place};
 
-use std::alloc::Global;
-use std::fmt;
-use std::marker::Model;
-
 use rowan_green::fault::Fault;
 use rowan_green::green::{GreenNode, SyntaxKind};
 use rowan_green::text::{TextRange, TextSize};
+use std::alloc::Global;
+use std::fmt;
+use std::marker::Model;
 
 /// A node in a tree: a root, and the way from it to the node.
 #[derive(Drop)]

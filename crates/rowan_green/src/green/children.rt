@@ -1,12 +1,12 @@
 ghost use Rattle.std.specs.Prelude.{◌≡◌, [], ⊤, map};
 
-use std::alloc::AllocError;
-use std::fmt;
-use std::marker::Model;
-
 use crate::fault::Fault;
 use crate::green::GreenElement;
 use crate::green::node::GreenChild;
+use std::alloc::AllocError;
+use std::fmt;
+use std::iter::FusedIterator;
+use std::marker::Model;
 
 /// The children of a node that are left, from both ends. An item is `Err(Fault::Memory)` where a child cannot be shared once
 /// more, and then nothing is left.
@@ -98,6 +98,8 @@ impl<'a> ExactSizeIterator for Children<'a> {
         self.rest.len()
     }
 }
+
+impl<'a> FusedIterator for Children<'a> {}
 
 impl<'a> Clone for Children<'a> {
     ghost is_clone = { λ children copy. copy ≡ children };

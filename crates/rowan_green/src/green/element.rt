@@ -3,8 +3,6 @@ ghost use Rattle.rowan_green.specs.Lent.{pointee};
 ghost use Rattle.rowan_green.specs.Term.{term_kind, term_len};
 ghost use Rattle.rowan_green.specs.Fits.{Fits};
 
-use std::alloc::AllocError;
-
 use crate::fault::Fault;
 use crate::green::{GreenNode, GreenToken, SyntaxKind};
 use crate::text::TextSize;
@@ -35,16 +33,6 @@ impl GreenElement {
         match self {
             NodeOrToken::Node(node) => node.text_len(),
             NodeOrToken::Token(token) => token.text_len(),
-        }
-    }
-
-    // The same element, with the memory shared.
-    pub(crate) fn share(&self) -> Result<GreenElement, AllocError>
-        ensures { IfOk result (λ copy. copy ≡ self.now) }
-    {
-        match self {
-            NodeOrToken::Node(node) => Ok(NodeOrToken::Node(node.clone()?)),
-            NodeOrToken::Token(token) => Ok(NodeOrToken::Token(token.clone()?)),
         }
     }
 }

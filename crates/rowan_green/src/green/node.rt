@@ -10,8 +10,7 @@ use crate::green::{Children, GreenElement, GreenElementRef, SyntaxKind};
 use crate::text::TextSize;
 use crate::utility_types::NodeOrToken;
 use std::alloc::{AllocError, Global};
-use std::fmt;
-use std::fmt::Display;
+use std::fmt::{self, Display};
 use std::hash::{Hash, Hasher};
 use std::marker::Model;
 use std::rc::Rc;
@@ -161,14 +160,18 @@ impl GreenNode {
     }
 
     // The node of a kind and these children, which stay with the caller too.
-    pub(crate) fn from_slice(alloc: Global, kind: SyntaxKind, children: &[GreenElement]) -> Result<GreenNode, Fault>
+    pub(crate) fn from_slice(
+        alloc: Global,
+        kind: SyntaxKind,
+        children: &[GreenElement],
+    ) -> Result<GreenNode, Fault>
         ensures ok { IfOk result (λ n. n ≡ node_of kind.0 children.now) }
         ensures within { OnOk result (AreWithin children.now) }
         ensures err { IfErr result (λ e. e ≢ Fault.Memory → PassesLimit children.now e) }
     {
         let mut draft = NodeDraft::new(Vec::with_capacity(alloc, children.len())?);
         for child in children {
-            draft.push(child.share()?)?;
+            draft.push(child.as_ref().to_owned()?)?;
         }
         Ok(draft.finish(alloc, kind)?)
     }

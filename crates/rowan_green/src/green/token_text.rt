@@ -1,9 +1,8 @@
 ghost use Rattle.std.specs.Prelude.{◌≡◌, length, IfOk};
 
+use arrayvec::ArrayString;
 use std::alloc::{AllocError, Global};
 use std::marker::Model;
-
-use arrayvec::ArrayString;
 
 // The longest text that takes no memory of its own: most words, names and blanks of a source.
 const SHORT_LEN: usize = 16;

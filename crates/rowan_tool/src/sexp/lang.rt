@@ -2,8 +2,7 @@
 ghost use Rattle.std.specs.Prelude.{◌≡◌};
 ghost use Rattle.rowan_tool.specs.Sexp.{number_of};
 
-use rowan::Language;
-use rowan::green;
+use rowan::{Language, green};
 
 /// The kind of a token or a node of an s-expression.
 #[allow(non_camel_case_types)]

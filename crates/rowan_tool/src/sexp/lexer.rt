@@ -4,8 +4,8 @@ ghost use Rattle.std.specs.Char.{is_not_whitespace};
 ghost use Rattle.std.specs.Str.{IsCharBoundary, NoCharPasses};
 ghost use Rattle.rowan_tool.specs.Sexp.{IsLexed, BeginsWith, IsStopped, is_delimiter};
 
-use rowan::Fault;
 use crate::sexp::lang::SyntaxKind;
+use rowan::Fault;
 use std::alloc::Global;
 
 /// The kind of a token and its text, a slice of the text that was lexed.

@@ -1,11 +1,9 @@
 ghost use Rattle.std.specs.Prelude.{◌≡◌, [], IfOk, IfErr};
 
+use crate::sexp::lang::Lang;
+use rowan::{Fault, GreenNode, SyntaxNode};
 use std::alloc::Global;
 use std::marker::Model;
-
-use rowan::{Fault, GreenNode, SyntaxNode};
-
-use crate::sexp::lang::Lang;
 
 /// The tree of a text.
 #[derive(Drop)]

@@ -6,13 +6,11 @@ ghost use Rattle.rowan_green.specs.Word.{Open, Leaf, Close, word_text};
 ghost use Rattle.rowan_tool.specs.Parsing.{IsInRoot, IsTree};
 ghost use Rattle.rowan_tool.specs.Sexp.{IsTextOf, number_of};
 
-use std::alloc::Global;
-
-use rowan::{Fault, GreenNode, GreenNodeBuilder};
-
 use crate::sexp::lang::SyntaxKind;
 use crate::sexp::lexer::lex;
 use crate::sexp::parsed::Parse;
+use rowan::{Fault, GreenNode, GreenNodeBuilder};
+use std::alloc::Global;
 
 /// Parses a text. The tree holds each byte of it: a list that is never closed runs to the end of the text, and a parenthesis
 /// that closes no list stands in a node of its own. Refused with `TextTooLong` for a text of more than 4,294,967,295 bytes,

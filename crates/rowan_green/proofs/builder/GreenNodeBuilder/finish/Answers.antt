@@ -1,8 +1,6 @@
-use Rattle.std.proofs.Common.{◌≡◌, ◌≢◌, ◌++◌, ◌∷◌, get_or, [], List, length, refl, sym, ◌∙◌, ap, subst, arith}
+use Rattle.std.proofs.Common.{◌≡◌, ◌++◌, ◌∷◌, get_or, [], refl, ◌∙◌, ap, subst, arith}
 use Rattle.rowan_green.specs.declared.utility_types.NodeOrToken.TheVariants.{Node, Token}
 use Rattle.rowan_green.specs.Term.{Term}
-use Rattle.rowan_green.specs.Word.{Symbol, spelled, HasTerms}
-use Rattle.rowan_green.specs.Weave.{weave}
 use Rattle.rowan_green.proofs.WeaveLemmas.{HasTerms-weave, alone_at, alone_last}
 use Rattle.rowan_green.proofs.builder.GreenNodeBuilder.finish.Goals as goal
 

@@ -1,14 +1,9 @@
-use Rattle.std.proofs.Common.{◌≡◌, ◌≤◌, ◌+◌, ◌-◌, ◌++◌, ◌∷◌, [], List, length, take, drop, Some, slice_get, sym, ◌∙◌, ap, subst, arith, length-append, length-take, map}
-use Rattle.std.specs.Result.{IfErr}
+use Rattle.std.proofs.Common.{◌-◌, ◌++◌, ◌∷◌, [], take, drop, ◌∙◌, ap, subst, arith}
 use Rattle.std.proofs.lemmas.Result.{err_from_is_err_and}
-use Rattle.rowan_green.specs.declared.fault.Fault.{Fault}
-use Rattle.rowan_green.specs.declared.builder.OpenNode.{OpenNode}
 use Rattle.rowan_green.specs.declared.utility_types.NodeOrToken.TheVariants.{Node}
 use Rattle.rowan_green.specs.Fits.{AreWithin, PassesLimit}
-use Rattle.rowan_green.specs.Term.{Term, NodeTerm, node_of}
-use Rattle.rowan_green.specs.Word.{Symbol, Close, Bare, Whole, spelled, HasParts, Closes, WhyNotClosed}
-use Rattle.rowan_green.specs.Weave.{weave, AreInOrder}
-use Rattle.rowan_green.proofs.WeaveLemmas.{last_parts, LastOpen, LastOpen-place, LastOpen-parts, LastOpen-closes, LastOpen-order, LastOpen-refuses}
+use Rattle.rowan_green.specs.Term.{node_of}
+use Rattle.rowan_green.proofs.WeaveLemmas.{LastOpen, LastOpen-place, LastOpen-closes, LastOpen-order, LastOpen-refuses}
 use Rattle.rowan_green.proofs.builder.GreenNodeBuilder.finish_node.Goals as goal
 
 pub split_at-requires : goal.split_at-requires

@@ -1,4 +1,4 @@
-use Rattle.std.proofs.Common.{◌≡◌, ◌++◌, ◌∷◌, [], List, length, sym, ◌∙◌, ap, subst, arith}
+use Rattle.std.proofs.Common.{◌++◌, ◌∷◌, [], List, length, sym, ◌∙◌, ap, subst, arith}
 use Rattle.rowan_green.specs.declared.builder.OpenNode.{OpenNode}
 use Rattle.rowan_green.specs.Word.{Open, spelled}
 use Rattle.rowan_green.specs.Weave.{weave, AreInOrder}
@@ -11,7 +11,7 @@ invariant_of-self-2 c =
     let o : OpenNode = record { kind = c.args.kind; first_child = c.len-first_child.result } in
     let P : List OpenNode → Type 0 = λ os. AreInOrder 0 os (length s.finished.items) in
     subst P (sym c.in_ok-push.ensures.items)
-      (AreInOrder-push 0 s.parents.items o (length s.finished.items) (AreInOrder-grow 0 s.parents.items (length s.finished.items) o.first_child c.self.invariant (omega (arith, s.finished.ok.0))) (omega (arith, s.finished.ok.0)))
+    (AreInOrder-push 0 s.parents.items o (length s.finished.items) (AreInOrder-grow 0 s.parents.items (length s.finished.items) o.first_child c.self.invariant (omega (arith, s.finished.ok.0))) (omega (arith, s.finished.ok.0)))
 
 pub returns-clause-ok : goal.returns-clause-ok
 returns-clause-ok c =

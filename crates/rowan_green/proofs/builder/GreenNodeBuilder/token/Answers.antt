@@ -1,4 +1,4 @@
-use Rattle.std.proofs.Common.{◌≡◌, ◌++◌, ◌∷◌, [], length, ◌∙◌, ap, arith, length-append}
+use Rattle.std.proofs.Common.{◌++◌, ◌∷◌, [], length, ◌∙◌, ap, arith, length-append}
 use Rattle.rowan_green.specs.declared.utility_types.NodeOrToken.TheVariants.{Token}
 use Rattle.rowan_green.specs.Word.{Leaf, spelled}
 use Rattle.rowan_green.specs.Weave.{weave}

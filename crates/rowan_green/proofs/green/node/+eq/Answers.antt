@@ -1,6 +1,6 @@
-use Rattle.std.proofs.Common.{◌≡◌, ◌==◌, ◌&&◌, ◌∙◌, Bool, true, false, not, true≢false, map, ℕ, refl, sym, ap, arith}
+use Rattle.std.proofs.Common.{◌≡◌, ◌==◌, ◌&&◌, ◌∙◌, Bool, true, false, not, true≢false, map, ℕ, refl, sym, ap, arith, List}
 use lib.Pointwise.{pointwise}
-use Rattle.rowan_green.specs.Term.{NodeTerm, node, node_kind, node_len, node_children}
+use Rattle.rowan_green.specs.Term.{Term, NodeTerm, node, node_kind, node_len, node_children}
 use Rattle.rowan_green.specs.Sizes.{children_size, term_size}
 use Rattle.rowan_green.specs.View.{child_term}
 use Rattle.rowan_green.specs.Same.{same_node, same_term, same_forest, same_forest-pointwise, same_node-decides}
@@ -20,6 +20,10 @@ differ f a b h = when_not (same_node a b) (λ e. h (ap f ((same_node-decides a b
 same_node-children : (a b : NodeTerm) → node_kind a ≡ node_kind b → same_node a b ≡ pointwise same_term (node_children a) (node_children b)
 same_node-children (node k f) (node j g) e =
     ap (λ r. r && same_forest f g) ((Decides-eqb k j).1 e) ∙ same_forest-pointwise f g
+
+same_node-answer : (r : Bool) (a b : NodeTerm) (ts us : List Term) → node_kind a ≡ node_kind b → ts ≡ node_children a → us ≡ node_children b → r ≡ pointwise same_term ts us → r ≡ same_node a b
+same_node-answer r a b ts us k x y e =
+    e ∙ ap (λ vs. pointwise same_term vs us) x ∙ ap (λ vs. pointwise same_term (node_children a) vs) y ∙ sym (same_node-children a b k)
 
 tested_differ : (x y : ℕ) → true ≡ not (x == y) → ¬ (x ≡ y)
 tested_differ x y h e = true≢false (h ∙ ap not ((Decides-eqb x y).1 e))
@@ -49,5 +53,4 @@ GreenNodePartialEq::eq-returns t c =
     let x = ap (map child_term) items ∙ children-view c.self.inside.data.value c.args.self.now c.self.view_is in
     let y = ap (map child_term) others ∙ children-view c.other.inside.data.value c.args.other.now c.other.view_is in
     let kinds = sym c.kind.ensures ∙ tested_same c.kind.result.0 c.kind-2.result.0 c.if-ne.ensures ∙ c.kind-2.ensures in
-    c.are_same.ensures ∙ ap (λ ts. pointwise same_term ts (map child_term c.as_slice-others.result.now)) x ∙ ap (λ ts. pointwise same_term (node_children c.args.self.now) ts) y
-    ∙ sym (same_node-children c.args.self.now c.args.other.now kinds)
+    same_node-answer c.are_same.result c.args.self.now c.args.other.now (map child_term c.as_slice-children.result.now) (map child_term c.as_slice-others.result.now) kinds x y c.are_same.ensures

@@ -20,5 +20,5 @@ loop-list-preserved c =
     let e : n - 1 ≡ c.args.open_lists - (c.loop-list._list + 1) = omega arith in
     record {
       in_root = subst (λ k. IsInRoot w k) e (IsInRoot-closes v w n c.loop-list.invariant.in_root (omega arith) closes);
-      same_text = word_text-closes v w closes ∙ c.loop-list.invariant.same_text
+      same_text = word_text-closes v w closes ∙ c.loop-list.invariant.same_text;
     }

@@ -6,5 +6,5 @@ use Rattle.rowan_tool.proofs.sexp.parser.close_lists.Given as goal
 abbrev pub invariant-loop-list : goal.invariant-loop-list
 invariant-loop-list l = record {
   in_root : IsInRoot l.builder (l.fn.open_lists - l._list);
-  same_text : word_text l.builder ≡ word_text l.initial.builder
+  same_text : word_text l.builder ≡ word_text l.initial.builder;
 }

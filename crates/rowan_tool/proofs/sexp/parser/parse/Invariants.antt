@@ -7,5 +7,5 @@ use Rattle.rowan_tool.proofs.sexp.parser.parse.Given as goal
 abbrev pub invariant-loop-token : goal.invariant-loop-token
 invariant-loop-token l = record {
   in_root : IsInRoot l.builder l.open_lists;
-  so_far : word_text l.builder ≡ joined (take l.token-index l.token-items)
+  so_far : word_text l.builder ≡ joined (take l.token-index l.token-items);
 }

@@ -12,9 +12,9 @@ returns-in_err-finish_node-in-R_PAREN-clause-err c =
     let some = IsTextOf-some c.args.kind c.args.text.now c.requires.token in
     let w = c.token-in-R_PAREN.new.self in
     rw (p.1, p.2) (IsInRoot-refuses w c.args.open_lists c.in_err-finish_node-in-R_PAREN.field-0.0
-      (IsInRoot-token c.args.builder.now w c.args.open_lists t c.requires.in_root c.in_ok-token-in-R_PAREN.ensures.ok some)
-      (omega (arith, c.requires.room, length-word_text-token c.args.builder.now w t c.in_ok-token-in-R_PAREN.ensures.ok))
-      c.in_err-finish_node-in-R_PAREN.ensures.err)
+    (IsInRoot-token c.args.builder.now w c.args.open_lists t c.requires.in_root c.in_ok-token-in-R_PAREN.ensures.ok some)
+    (omega (arith, c.requires.room, length-word_text-token c.args.builder.now w t c.in_ok-token-in-R_PAREN.ensures.ok))
+    c.in_err-finish_node-in-R_PAREN.ensures.err)
 
 pub returns-in_ok-token-in-L_PAREN-clause-ok : goal.returns-in_ok-token-in-L_PAREN-clause-ok
 returns-in_ok-token-in-L_PAREN-clause-ok c =
@@ -34,8 +34,8 @@ returns-in_ok-finish_node-in-R_PAREN-clause-ok c =
     let some = IsTextOf-some c.args.kind c.args.text.now c.requires.token in
     let w = c.token-in-R_PAREN.new.self in
     IsInRoot-closes w c.finish_node.new.self c.args.open_lists
-      (IsInRoot-token c.args.builder.now w c.args.open_lists t c.requires.in_root c.in_ok-token-in-R_PAREN.ensures.ok some)
-      c.if-open_lists-gt0.true c.in_ok-finish_node-in-R_PAREN.ensures.ok
+    (IsInRoot-token c.args.builder.now w c.args.open_lists t c.requires.in_root c.in_ok-token-in-R_PAREN.ensures.ok some)
+    c.if-open_lists-gt0.true c.in_ok-finish_node-in-R_PAREN.ensures.ok
 
 pub returns-in_ok-finish_node-in-R_PAREN-clause-text : goal.returns-in_ok-finish_node-in-R_PAREN-clause-text
 returns-in_ok-finish_node-in-R_PAREN-clause-text c =

@@ -16,4 +16,4 @@ range-root n from len e f =
 pub returns : goal.returns
 returns c =
     subst (λ (p : Cursor). c.at.result ≡ range (Node p.root) p.path) c.self.view_is
-      (c.at.ensures ∙ range-root c.self.inside.green c.from.result c.text_len.result c.from.ensures c.text_len.ensures.len)
+    (c.at.ensures ∙ range-root c.self.inside.green c.from.result c.text_len.result c.from.ensures c.text_len.ensures.len)

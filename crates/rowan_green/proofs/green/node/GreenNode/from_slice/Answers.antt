@@ -1,8 +1,7 @@
-use Rattle.std.proofs.Common.{◌≡◌, suc, ◌+◌, ◌<◌, ◌++◌, ◌∷◌, [], List, length, take, drop, sym, ◌∙◌, ap, subst, arith, get_or, add-one, drop-cons}
-use Rattle.std.specs.Result.{IfErr}
+use Rattle.std.proofs.Common.{◌≡◌, suc, ◌+◌, ◌<◌, ◌++◌, ◌∷◌, length, take, drop, sym, ◌∙◌, ap, subst, arith, get_or, add-one, drop-cons}
 use Rattle.std.proofs.lemmas.Result.{err_from_is_err_and}
 use Rattle.std.proofs.lemmas.List.{take-append-drop}
-use Rattle.rowan_green.specs.Fits.{AreWithin, ChildPasses, PassesLimit}
+use Rattle.rowan_green.specs.Fits.{AreWithin, ChildPasses}
 use Rattle.rowan_green.specs.Term.{Term}
 use Rattle.rowan_green.proofs.green.node.GreenNode.from_slice.Goals as goal
 
@@ -11,9 +10,9 @@ returns-in_err-push-clause-err c =
     let p = err_from_is_err_and c.from_residual-in_err-push.result c.from_residual-in_err-push.ensures.1 in
     let xs = c.args.children.now in
     let i = c.loop-child.child-index in
-    let x : Term = c.in_ok-share.field-0 in
+    let x : Term = c.in_ok-to_owned.field-0 in
     let here : i < length xs = omega (arith, c.loop-child-test.true) in
-    let item : x ≡ get_or xs i x = subst (λ (y : Term). y ≡ get_or xs i y) (sym c.in_ok-share.ensures) c.child-item.is in
+    let item : x ≡ get_or xs i x = subst (λ (y : Term). y ≡ get_or xs i y) (sym (c.in_ok-to_owned.ensures.ok ∙ c.as_ref.ensures)) c.child-item.is in
     let at : drop i xs ≡ x ∷ drop (i + 1) xs = rw (add-one, drop-cons xs i x) (ap (λ y. y ∷ drop (suc i) xs) (sym item)) in
     rw (p.1, p.2) (λ not_memory. record {
       before = take i xs;
@@ -21,5 +20,5 @@ returns-in_err-push-clause-err c =
       after = drop (i + 1) xs;
       parts = sym (take-append-drop i xs) ∙ ap (λ ys. take i xs ++ ys) at;
       within = subst AreWithin c.loop-child.invariant c.push.ensures.within_before;
-      passes = subst (λ ts. ChildPasses ts x c.in_err-push.field-0.0) c.loop-child.invariant (c.in_err-push.ensures.err not_memory)
+      passes = subst (λ ts. ChildPasses ts x c.in_err-push.field-0.0) c.loop-child.invariant (c.in_err-push.ensures.err not_memory);
     })

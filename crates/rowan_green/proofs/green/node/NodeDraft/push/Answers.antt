@@ -1,8 +1,5 @@
-use Rattle.std.proofs.Common.{◌≡◌, ◌<◌, ◌≤◌, ◌+◌, ◌++◌, ◌∷◌, [], List, length, refl, sym, arith, subst}
+use Rattle.std.proofs.Common.{refl, arith}
 use Rattle.rowan_green.specs.declared.green.node.GreenChild.{GreenChild}
-use Rattle.rowan_green.specs.Fits.{AreWithin, Fits, byte_limit, child_limit}
-use Rattle.rowan_green.specs.View.{child_term, AreSound}
-use Rattle.rowan_green.specs.Term.{term_len}
 use Rattle.rowan_green.proofs.Sound.{AreSound-push}
 use Rattle.rowan_green.proofs.green.node.NodeDraft.push.Goals as goal
 
