@@ -1,12 +1,12 @@
 -- How the items of a parser's builder change: with one more term, with one more open list, and with a list closed.
-use Rattle.std.proofs.Common.{◌≡◌, ℕ, ◌+◌, ◌-◌, ◌<◌, ◌≤◌, List, [], ◌∷◌, ◌++◌, map, length, refl, sym, ◌∙◌, ap, subst, arith, append_assoc, length-append}
+use Rattle.std.proofs.Common.{◌≡◌, ℕ, ◌+◌, ◌-◌, ◌<◌, ◌≤◌, List, [], ◌∷◌, ◌++◌, map, length, refl, sym, ◌∙◌, ap, subst, arith, length-append}
 use Rattle.std.proofs.lemmas.List.{append-nil}
 use Rattle.rowan_green.specs.declared.fault.Fault.{Fault}
 use Rattle.rowan_green.specs.declared.fault.Fault.TheVariants.{TextTooLong, TooManyChildren, CheckpointPast, CheckpointBefore, NothingOpen, NotOneElement, NotANode, OtherKind, NotFound, Memory, UnknownMark, NotOneList}
 use Rattle.rowan_green.specs.declared.utility_types.NodeOrToken.TheVariants.{Node, Token}
-use Rattle.rowan_green.specs.Fits.{byte_limit, child_limit, ChildPasses, PassesLimit}
+use Rattle.rowan_green.specs.Fits.{byte_limit, ChildPasses, PassesLimit}
 use Rattle.rowan_green.specs.Term.{TokenTerm, NodeTerm, Term, node_of, node_text, node_len, term_text, term_len, joined_text, sum_of_lens}
-use Rattle.rowan_green.specs.Word.{Symbol, Open, Leaf, Close, term_word, Item, Bare, Whole, item_word, spelled, HasParts, whole_terms, HasTerms, word_text, HasNoneOpen, Closes, ClosingPasses, WhyNotClosed, WhyUnfinished, IsFinished}
+use Rattle.rowan_green.specs.Word.{Symbol, Open, Leaf, Close, term_word, Item, Bare, Whole, HasParts, whole_terms, HasTerms, word_text, Closes, WhyNotClosed, WhyUnfinished, IsFinished}
 use Rattle.rowan_green.proofs.Terms.{node_len-node_of, sum_of_lens-append, length-joined_text}
 use Rattle.rowan_green.proofs.WeaveLemmas.{whole_terms-append, whole_terms-map, spelled-close}
 use Rattle.rowan_green.proofs.Words.{parts-unique, parts-more, word_text-append, word_text-parts, word_text-terms}

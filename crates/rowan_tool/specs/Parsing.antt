@@ -1,6 +1,6 @@
 -- What a parser's builder holds between two tokens: a root that is open, in it some open lists, and between them whole terms
 -- that are not empty.
-use Rattle.std.specs.Prelude.{◌≡◌, ℕ, ◌+◌, ◌<◌, ◌≤◌, List, [], ◌∷◌, ◌++◌, length}
+use Rattle.std.specs.Prelude.{◌≡◌, ℕ, ◌+◌, ◌<◌, ◌≤◌, List, [], ◌∷◌, length}
 use Rattle.rowan_green.specs.declared.utility_types.NodeOrToken.TheVariants.{Node}
 use Rattle.rowan_green.specs.Term.{NodeTerm, Term, term_len}
 use Rattle.rowan_green.specs.Word.{Symbol, Item, Bare, Whole, HasParts, whole_terms, word_text}

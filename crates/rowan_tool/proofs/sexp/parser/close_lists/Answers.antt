@@ -1,6 +1,5 @@
-use Rattle.std.proofs.Common.{◌≡◌, ◌≤◌, ◌+◌, ◌-◌, length, ap, ◌∙◌, subst, arith}
+use Rattle.std.proofs.Common.{◌≡◌, ◌+◌, ◌-◌, length, ap, ◌∙◌, subst, arith}
 use Rattle.std.proofs.lemmas.Result.{err_from_is_err_and}
-use Rattle.rowan_green.specs.Word.{word_text}
 use Rattle.rowan_tool.specs.Parsing.{IsInRoot}
 use Rattle.rowan_tool.proofs.ParsingLemmas.{IsInRoot-refuses, IsInRoot-closes, word_text-closes}
 use Rattle.rowan_tool.proofs.sexp.parser.close_lists.Goals as goal

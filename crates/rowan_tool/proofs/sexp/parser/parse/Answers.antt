@@ -1,6 +1,5 @@
-use Rattle.std.proofs.Common.{◌≡◌, ◌+◌, ◌<◌, ◌≤◌, List, [], length, ap, ◌∙◌, arith}
+use Rattle.std.proofs.Common.{◌≡◌, [], length, ap, ◌∙◌, arith}
 use Rattle.std.proofs.lemmas.List.Folds.{length-flat_map-take}
-use Rattle.rowan_green.specs.Word.{word_text}
 use Rattle.rowan_tool.specs.declared.sexp.lang.SyntaxKind.TheVariants.{L_PAREN}
 use Rattle.rowan_tool.specs.Sexp.{LexedToken, joined}
 use Rattle.rowan_tool.proofs.sexp.parser.parse.Goals as goal

@@ -1,7 +1,6 @@
-use Rattle.std.proofs.Common.{◌≡◌, ◌+◌, ◌++◌, length, ap, ◌∙◌, arith}
+use Rattle.std.proofs.Common.{◌++◌, ap, ◌∙◌, arith}
 use Rattle.std.proofs.lemmas.Result.{err_from_is_err_and}
 use Rattle.rowan_green.specs.Term.{TokenTerm}
-use Rattle.rowan_green.specs.Word.{word_text}
 use Rattle.rowan_tool.proofs.ParsingLemmas.{IsTextOf-some, IsInRoot-opens, IsInRoot-closes, IsInRoot-refuses, IsInRoot-token, IsInRoot-alone, word_text-open, word_text-closes, word_text-token, word_text-alone, length-word_text-token}
 use Rattle.rowan_tool.proofs.sexp.parser.place.Goals as goal
 

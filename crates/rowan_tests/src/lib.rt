@@ -1,0 +1,23 @@
+//! Tests of green trees, their builder and the cursors over them.
+#![tactic(auto)]
+
+#[cfg(test)]
+mod builder;
+#[cfg(test)]
+mod children;
+#[cfg(test)]
+mod cursor;
+#[cfg(test)]
+mod equality;
+#[cfg(test)]
+mod faults;
+#[cfg(test)]
+mod fixture;
+#[cfg(test)]
+mod limits;
+#[cfg(test)]
+mod nodes;
+#[cfg(test)]
+mod text;
+#[cfg(test)]
+mod tokens;

@@ -1,0 +1,13 @@
+//! Tests of the s-expressions and of the program that prints their trees.
+#![tactic(auto)]
+
+#[cfg(test)]
+mod lexer;
+#[cfg(test)]
+mod parser;
+#[cfg(test)]
+mod printed;
+#[cfg(test)]
+mod program;
+#[cfg(test)]
+mod streams;
