@@ -1,7 +1,6 @@
-use std::alloc::Global;
-
 use rowan::Fault;
 use rowan_tool::sexp;
+use std::alloc::Global;
 
 /// What is done with a deep tree.
 #[derive(Clone, Copy, PartialEq, Eq, Debug)]

@@ -3,10 +3,9 @@
 
 mod depth;
 
+use depth::Operation;
 use std::env;
 use std::process::ExitCode;
-
-use depth::Operation;
 
 const HELP: &str = "\
 usage: rowan_bench depth parse|compare|show LEVELS

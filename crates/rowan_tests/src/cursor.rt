@@ -1,7 +1,7 @@
 //! Cursors at the root of a tree.
 use crate::fixture::tree;
-use rowan::cursor::SyntaxNode;
 use rowan::SyntaxKind;
+use rowan::cursor::SyntaxNode;
 use rowan::text::{TextRange, TextSize};
 use std::test::Fail;
 
