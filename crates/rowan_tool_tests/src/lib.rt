@@ -2,6 +2,8 @@
 #![tactic(auto)]
 
 #[cfg(test)]
+mod lang;
+#[cfg(test)]
 mod lexer;
 #[cfg(test)]
 mod parser;

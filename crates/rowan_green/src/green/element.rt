@@ -19,10 +19,7 @@ impl GreenElement {
     pub fn kind(&self) -> SyntaxKind
         ensures { result.0 ≡ term_kind self.now }
     {
-        match self {
-            NodeOrToken::Node(node) => node.kind(),
-            NodeOrToken::Token(token) => token.kind(),
-        }
+        self.as_ref().kind()
     }
 
     /// The number of bytes of its text.
@@ -30,10 +27,7 @@ impl GreenElement {
         ensures len { result ≡ term_len self.now }
         ensures fits { Fits self.now }
     {
-        match self {
-            NodeOrToken::Node(node) => node.text_len(),
-            NodeOrToken::Token(token) => token.text_len(),
-        }
+        self.as_ref().text_len()
     }
 }
 
