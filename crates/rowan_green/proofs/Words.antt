@@ -1,11 +1,13 @@
 -- Laws of words: each has one reading, and its text is that of its whole terms.
-use Rattle.std.proofs.Common.{◌≡◌, List, [], ◌∷◌, ◌++◌, refl, sym, ◌∙◌, ap, append_assoc}
+use Rattle.std.proofs.Common.{◌≡◌, ℕ, ◌-◌, List, [], ◌∷◌, ◌++◌, length, map, take, drop, refl, sym, ◌∙◌, ap, append_assoc}
 use Rattle.std.proofs.lemmas.List.{append-nil}
 use Rattle.rowan_green.specs.declared.utility_types.NodeOrToken.TheVariants.{Node, Token}
 use Rattle.rowan_green.specs.Term.{NodeTerm, node, Forest, empty, node_then, token_then, Term, node_text, forest_text, joined_text}
-use Rattle.rowan_green.specs.Word.{Symbol, Open, Leaf, Close, node_word, forest_word, Item, Bare, Whole, item_word, spelled, HasParts, whole_terms, HasTerms, word_text}
+use Rattle.rowan_green.specs.Word.{Symbol, Open, Leaf, Close, node_word, forest_word, Item, Bare, Whole, item_word, spelled, HasParts, HasNoneOpen, whole_terms, HasTerms, word_text}
 use Rattle.rowan_green.specs.Coding.{read, read-node, last_node, last_node-word}
-use Rattle.rowan_green.proofs.WeaveLemmas.{spelled-append}
+use Rattle.rowan_green.specs.declared.builder.OpenNode.{OpenNode}
+use Rattle.rowan_green.specs.Weave.{weave}
+use Rattle.rowan_green.proofs.WeaveLemmas.{spelled-append, LastOpen, LastOpen-parts}
 
 -- the items, the first of them deepest, on these
 abbrev turned : List Item → List Item → List Item
@@ -69,3 +71,16 @@ pub parts-more : (v w x : List Symbol) (items : List Item) (i : Item) → HasPar
 parts-more v w x items i h e f = record {
   spells = e ∙ ap (λ u. u ++ x) h.spells ∙ ap (λ u. spelled items ++ u) (f ∙ sym (append-nil (item_word i))) ∙ sym (spelled-append items (i ∷ []));
 }
+
+not_wholes : (before : List Item) (k : ℕ) (ts us : List Term) → before ++ Bare k ∷ map Whole ts ≡ map Whole us → ⊥
+not_wholes [] k ts [] e = cc
+not_wholes [] k ts (u ∷ us) e = cc
+not_wholes (b ∷ before) k ts [] e = cc
+not_wholes (b ∷ before) k ts (u ∷ us) e = let rest : before ++ Bare k ∷ map Whole ts ≡ map Whole us = cc in not_wholes before k ts us rest
+
+-- where an opening is bare, it is not so that none is
+pub not_HasNoneOpen : (os : List OpenNode) (ts : List Term) (o : OpenNode) (w : List Symbol) → LastOpen os ts o → spelled (weave 0 os ts) ≡ w → HasNoneOpen w → ⊥
+not_HasNoneOpen os ts o w h e none =
+    let outer = take (length os - 1) os in
+    not_wholes (weave 0 outer (take o.first_child ts)) o.kind.0 (drop o.first_child ts) none.wholes
+      (parts-unique w (weave 0 outer (take o.first_child ts) ++ Bare o.kind.0 ∷ map Whole (drop o.first_child ts)) (map Whole none.wholes) (LastOpen-parts os ts o w h e) none.parts)

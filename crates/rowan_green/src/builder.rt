@@ -1,7 +1,7 @@
 //! The builder of green trees: calls in the order of the text, as brackets round tokens.
 ghost use Rattle.std.specs.Prelude.{◌≡◌, ◌<◌, [], ◌∷◌, ◌++◌, length, IfOk, IfErr, OnOk, OnErr};
 ghost use Rattle.rowan_green.specs.Fits.{byte_limit};
-ghost use Rattle.rowan_green.specs.Word.{Open, Leaf, Close, WhyNoToken, Closes, WhyNotClosed, IsFinished, WhyUnfinished};
+ghost use Rattle.rowan_green.specs.Word.{Open, Leaf, Close, WhyNoToken, HasNoneOpen, Closes, WhyNotClosed, IsFinished, WhyUnfinished};
 
 use crate::fault::Fault;
 use crate::green::{GreenElement, GreenNode, GreenToken, SyntaxKind};
@@ -88,6 +88,7 @@ impl<'cache> GreenNodeBuilder<'cache> {
     pub fn finish_node(&mut self) -> Result<(), Fault>
         ensures ok { OnOk result (Closes self.old self.new) }
         ensures err { IfErr result (WhyNotClosed self.old) }
+        ensures nothing_open { HasNoneOpen self.old → result ≡ Err Fault.NothingOpen }
         ensures unchanged { OnErr result (self.new ≡ self.old) }
     {
         let Some(open) = self.parents.last().copied() else {

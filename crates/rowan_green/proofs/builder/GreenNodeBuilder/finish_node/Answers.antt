@@ -4,6 +4,7 @@ use Rattle.rowan_green.specs.declared.utility_types.NodeOrToken.TheVariants.{Nod
 use Rattle.rowan_green.specs.Fits.{AreWithin, PassesLimit}
 use Rattle.rowan_green.specs.Term.{node_of}
 use Rattle.rowan_green.proofs.WeaveLemmas.{LastOpen, LastOpen-place, LastOpen-closes, LastOpen-order, LastOpen-refuses}
+use Rattle.rowan_green.proofs.Words.{not_HasNoneOpen}
 use Rattle.rowan_green.proofs.builder.GreenNodeBuilder.finish_node.Goals as goal
 
 pub split_at-requires : goal.split_at-requires
@@ -35,3 +36,21 @@ returns-clause-ok c =
     let placed = c.in_ok-push.ensures.items ∙ ap (λ ts. ts ++ Node c.in_ok-node.node ∷ []) (c.truncate.ensures.items ∙ ap (λ ts. take c.in-Some.open.first_child ts) c.in_ok-reserve.ensures.items) in
     let given = c.split_at.ensures.back ∙ ap (λ ts. drop c.in-Some.open.first_child ts) (c.as_slice.ensures.value ∙ c.in_ok-reserve.ensures.items) in
     LastOpen-closes s.parents.items s.finished.items c.in-Some.open c.pop.new.self.items c.push.new.self.items c.in_ok-node.node c.args.self.now at c.self.view_is popped placed (c.in_ok-node.ensures.ok ∙ ap (λ ts. node_of c.in-Some.open.kind.0 ts) given) (subst AreWithin given c.in_ok-node.ensures.within)
+
+pub returns-in_err-reserve-clause-nothing_open : goal.returns-in_err-reserve-clause-nothing_open
+returns-in_err-reserve-clause-nothing_open c = λ none.
+    let s = c.self.inside in
+    let at : LastOpen s.parents.items s.finished.items c.in-Some.open = record { last = cc; order = c.self.invariant } in
+    absurd (not_HasNoneOpen s.parents.items s.finished.items c.in-Some.open c.args.self.now at c.self.view_is none)
+
+pub returns-in_err-node-clause-nothing_open : goal.returns-in_err-node-clause-nothing_open
+returns-in_err-node-clause-nothing_open c = λ none.
+    let s = c.self.inside in
+    let at : LastOpen s.parents.items s.finished.items c.in-Some.open = record { last = cc; order = c.self.invariant } in
+    absurd (not_HasNoneOpen s.parents.items s.finished.items c.in-Some.open c.args.self.now at c.self.view_is none)
+
+pub returns-clause-nothing_open : goal.returns-clause-nothing_open
+returns-clause-nothing_open c = λ none.
+    let s = c.self.inside in
+    let at : LastOpen s.parents.items s.finished.items c.in-Some.open = record { last = cc; order = c.self.invariant } in
+    absurd (not_HasNoneOpen s.parents.items s.finished.items c.in-Some.open c.args.self.now at c.self.view_is none)
