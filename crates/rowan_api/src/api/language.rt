@@ -6,7 +6,7 @@ use std::hash::Hash;
 
 /// The kinds of a language: what each raw kind means, and how it is called.
 ///
-/// The type that implements it stands for the language. It is never made.
+/// The type that implements it stands for the language; its values say nothing.
 pub trait Language: Sized + Copy + fmt::Debug + Eq + Ord + Hash {
     /// The kinds of the language.
     type Kind: Sized + Copy + fmt::Debug + Eq + Ord + Hash;

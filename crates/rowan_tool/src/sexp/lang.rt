@@ -35,9 +35,9 @@ impl SyntaxKind {
     }
 }
 
-/// The language of s-expressions. It stands for its kinds and is never made.
+/// The language of s-expressions. It stands for its kinds; its one value says nothing.
 #[derive(Clone, Copy, PartialEq, Eq, PartialOrd, Ord, Hash, Debug)]
-pub enum Lang {}
+pub struct Lang;
 
 impl Language for Lang {
     ghost use Rattle.rowan_tool.specs.Sexp.{kind_of, name_of};
