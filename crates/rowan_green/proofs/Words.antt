@@ -83,4 +83,4 @@ pub not_HasNoneOpen : (os : List OpenNode) (ts : List Term) (o : OpenNode) (w : 
 not_HasNoneOpen os ts o w h e none =
     let outer = take (length os - 1) os in
     not_wholes (weave 0 outer (take o.first_child ts)) o.kind.0 (drop o.first_child ts) none.wholes
-      (parts-unique w (weave 0 outer (take o.first_child ts) ++ Bare o.kind.0 ∷ map Whole (drop o.first_child ts)) (map Whole none.wholes) (LastOpen-parts os ts o w h e) none.parts)
+    (parts-unique w (weave 0 outer (take o.first_child ts) ++ Bare o.kind.0 ∷ map Whole (drop o.first_child ts)) (map Whole none.wholes) (LastOpen-parts os ts o w h e) none.parts)
