@@ -6,3 +6,4 @@ pub mod Terms
 pub mod WeaveLemmas
 pub mod Words
 pub mod Writes
+pub mod WrapLemmas

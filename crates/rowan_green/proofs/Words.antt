@@ -72,7 +72,7 @@ parts-more v w x items i h e f = record {
   spells = e ∙ ap (λ u. u ++ x) h.spells ∙ ap (λ u. spelled items ++ u) (f ∙ sym (append-nil (item_word i))) ∙ sym (spelled-append items (i ∷ []));
 }
 
-not_wholes : (before : List Item) (k : ℕ) (ts us : List Term) → before ++ Bare k ∷ map Whole ts ≡ map Whole us → ⊥
+pub not_wholes : (before : List Item) (k : ℕ) (ts us : List Term) → before ++ Bare k ∷ map Whole ts ≡ map Whole us → ⊥
 not_wholes [] k ts [] e = cc
 not_wholes [] k ts (u ∷ us) e = cc
 not_wholes (b ∷ before) k ts [] e = cc

@@ -14,3 +14,8 @@ weave at (o ∷ os) ts =
 abbrev pub AreInOrder : ℕ → List OpenNode → ℕ → Type 0
 AreInOrder at [] end = at ≤ end
 AreInOrder at (o ∷ os) end = (at ≤ o.first_child) × AreInOrder o.first_child os end
+
+-- the place of the last of the open nodes, or `at`
+abbrev pub last_place : ℕ → List OpenNode → ℕ
+last_place at [] = at
+last_place at (o ∷ os) = last_place o.first_child os

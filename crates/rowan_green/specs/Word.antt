@@ -2,9 +2,9 @@
 --     A token spells itself. A node spells an opening with its kind, its children's words, and a closing.
 -- The items of a word are its openings that nothing closes, here called bare, and its whole terms.
 -- A word has at most one list of items, since a closing is no item: the law of `laws::word_has_one_reading`.
-use Rattle.std.specs.Prelude.{◌≡◌, ◌≢◌, ℕ, ◌<◌, List, [], ◌∷◌, ◌++◌, map, length}
+use Rattle.std.specs.Prelude.{◌≡◌, ◌≢◌, ℕ, ◌+◌, ◌<◌, List, [], ◌∷◌, ◌++◌, map, length}
 use Rattle.rowan_green.specs.declared.fault.Fault.{Fault}
-use Rattle.rowan_green.specs.declared.fault.Fault.TheVariants.{TextTooLong, TooManyChildren, NothingOpen, NotOneElement, NotANode, Memory}
+use Rattle.rowan_green.specs.declared.fault.Fault.TheVariants.{TextTooLong, TooManyChildren, CheckpointPast, CheckpointBefore, NothingOpen, NotOneElement, NotANode, Memory}
 use Rattle.rowan_green.specs.declared.utility_types.NodeOrToken.TheVariants.{Node, Token}
 use Rattle.rowan_green.specs.Term.{TokenTerm, NodeTerm, node, Forest, empty, node_then, token_then, Term}
 use Rattle.rowan_green.specs.Fits.{byte_limit, AreWithin, PassesLimit}
@@ -80,6 +80,48 @@ WhyNotClosed w TooManyChildren = ClosingPasses w TooManyChildren
 WhyNotClosed w TextTooLong = ClosingPasses w TextTooLong
 WhyNotClosed w Memory = Unit {0}
 WhyNotClosed w _ = ⊥
+
+-- how many whole terms stand among items
+abbrev pub count : List Item → ℕ
+count [] = 0
+count (Bare k ∷ items) = count items
+count (Whole t ∷ items) = count items + 1
+
+-- the word has this many whole terms
+pub record HasCount (w : List Symbol) (n : ℕ) : Type 0 where
+  pub items : List Item
+  pub parts : HasParts w items
+  pub counted : count items ≡ n
+
+-- An opening goes directly before whole term number c, counted from 0: behind the bare openings that stand there, and at the
+-- end where c is the count.
+pub record Wraps (w : List Symbol) (c k : ℕ) (w2 : List Symbol) : Type 0 where
+  pub before : List Item
+  pub after : List Term
+  pub parts : HasParts w (before ++ map Whole after)
+  pub place : count before ≡ c
+  pub opened : HasParts w2 (before ++ Bare k ∷ map Whole after)
+
+-- the checkpoint is above the count
+pub record IsPast (w : List Symbol) (c : ℕ) : Type 0 where
+  pub items : List Item
+  pub parts : HasParts w items
+  pub past : count items < c
+
+-- the checkpoint is below the place of the innermost bare opening: the number of whole terms before it
+pub record IsBeforeOpening (w : List Symbol) (c : ℕ) : Type 0 where
+  pub before : List Item
+  pub kind : ℕ
+  pub after : List Term
+  pub parts : HasParts w (before ++ Bare kind ∷ map Whole after)
+  pub below : c < count before
+
+-- why a wrap is refused
+abbrev pub WhyNotWrapped : List Symbol → ℕ → Fault → Type 0
+WhyNotWrapped w c CheckpointPast = IsPast w c
+WhyNotWrapped w c CheckpointBefore = IsBeforeOpening w c
+WhyNotWrapped w c Memory = Unit {0}
+WhyNotWrapped w c _ = ⊥
 
 -- the whole terms among items
 abbrev pub whole_terms : List Item → List Term

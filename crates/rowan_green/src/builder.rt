@@ -1,7 +1,8 @@
 //! The builder of green trees: calls in the order of the text, as brackets round tokens.
 ghost use Rattle.std.specs.Prelude.{◌≡◌, ◌<◌, [], ◌∷◌, ◌++◌, length, IfOk, IfErr, OnOk, OnErr};
 ghost use Rattle.rowan_green.specs.Fits.{byte_limit};
-ghost use Rattle.rowan_green.specs.Word.{Open, Leaf, Close, WhyNoToken, HasNoneOpen, Closes, WhyNotClosed, IsFinished, WhyUnfinished};
+ghost use Rattle.rowan_green.specs.Weave.{last_place};
+ghost use Rattle.rowan_green.specs.Word.{Open, Leaf, Close, WhyNoToken, HasNoneOpen, Closes, WhyNotClosed, HasCount, Wraps, IsPast, IsBeforeOpening, WhyNotWrapped, IsFinished, WhyUnfinished};
 
 use crate::fault::Fault;
 use crate::green::{GreenElement, GreenNode, GreenToken, SyntaxKind};
@@ -14,6 +15,24 @@ use std::marker::{Model, PhantomData};
 struct OpenNode {
     kind: SyntaxKind,
     first_child: usize,
+}
+
+/// A place in what a builder holds: the number of elements that are finished.
+///
+/// A checkpoint means its number alone: an old one, or one of another builder, is accepted wherever its number is allowed.
+#[derive(Clone, Copy, PartialEq, Eq, Debug)]
+pub struct Checkpoint {
+    place: usize,
+}
+
+impl Model for Checkpoint {
+    ghost use Rattle.std.specs.Prelude.{ℕ};
+
+    ghost Value = { ℕ };
+
+    ghost view = { λ c. c.place };
+
+    ghost inverse = { λ n. record { place = n } };
 }
 
 /// Builds a green tree from calls in the order of the text: `start_node` opens a node, `token` adds a leaf and
@@ -103,6 +122,36 @@ impl<'cache> GreenNodeBuilder<'cache> {
         Ok(())
     }
 
+    /// The place where the next element goes: `start_node_at` opens a node there later. Takes no memory.
+    pub fn checkpoint(&self) -> Checkpoint
+        ensures { HasCount self.now result }
+    {
+        Checkpoint {
+            place: self.finished.len(),
+        }
+    }
+
+    /// Opens a node at a checkpoint, around all that was finished since. Refused with `CheckpointPast` where the builder holds
+    /// fewer finished elements than the checkpoint says, with `CheckpointBefore` where the innermost open node was opened
+    /// behind it, and else only for want of memory.
+    pub fn start_node_at(&mut self, checkpoint: Checkpoint, kind: SyntaxKind) -> Result<(), Fault>
+        ensures ok { OnOk result (Wraps self.old checkpoint kind.0 self.new) }
+        ensures err { IfErr result (WhyNotWrapped self.old checkpoint) }
+        ensures past { IsPast self.old checkpoint → result ≡ Err Fault.CheckpointPast }
+        ensures before { IsBeforeOpening self.old checkpoint → result ≡ Err Fault.CheckpointBefore }
+        ensures unchanged { OnErr result (self.new ≡ self.old) }
+    {
+        let first_child = checkpoint.place;
+        if first_child > self.finished.len() {
+            return Err(Fault::CheckpointPast);
+        }
+        if first_child < innermost_place(self.parents.as_slice()) {
+            return Err(Fault::CheckpointBefore);
+        }
+        self.parents.push(OpenNode { kind, first_child })?;
+        Ok(())
+    }
+
     /// Gives the finished tree: the one element that stands outside of all open nodes or in the last of them, which has to be
     /// a node. Nodes that were never closed are left out. Refused with `NotOneElement` or `NotANode`; the builder then comes
     /// back with the same word. Takes no memory.
@@ -131,6 +180,16 @@ impl<'cache> GreenNodeBuilder<'cache> {
     }
 }
 
+// The place of the innermost open node, or 0.
+fn innermost_place(parents: &[OpenNode]) -> usize
+    ensures { result ≡ last_place 0 parents.now }
+{
+    match parents.last() {
+        Some(open) => open.first_child,
+        None => 0,
+    }
+}
+
 /// A builder that has no finished tree to give, and why: the error of `finish`.
 #[derive(Drop)]
 pub struct Unfinished<'cache> {
@@ -146,11 +205,18 @@ impl<'cache> Model for Unfinished<'cache> {
     ghost view = { λ u. record { word = u.builder; fault = u.fault } };
 }
 
-impl Unfinished<'_> {
+impl<'cache> Unfinished<'cache> {
     /// Why the tree is not finished: `NotOneElement` or `NotANode`.
     pub fn fault(&self) -> Fault
         ensures { result ≡ self.now.fault }
     {
         self.fault
+    }
+
+    /// The builder, with the word that it had before `finish`.
+    pub fn into_builder(self) -> GreenNodeBuilder<'cache>
+        ensures { result ≡ self.entry.word }
+    {
+        self.builder
     }
 }
