@@ -5,7 +5,7 @@
 #![tactic(auto)]
 
 pub use api::{Language, SyntaxNode};
-pub use builder::{GreenNodeBuilder, Unfinished};
+pub use builder::{Checkpoint, GreenNodeBuilder, Unfinished};
 pub use fault::Fault;
 pub use green::{
     Children, GreenElement, GreenElementRef, GreenNode, GreenNodeData, GreenToken, GreenTokenData,

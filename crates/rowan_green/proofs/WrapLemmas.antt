@@ -1,11 +1,11 @@
 -- A wrap: a node that is opened at a checkpoint, and why it is refused.
-use Rattle.std.proofs.Common.{◌≡◌, ℕ, zero, suc, ◌+◌, ◌-◌, ◌<◌, ◌≤◌, List, [], ◌∷◌, ◌++◌, map, length, take, drop, refl, sym, ◌∙◌, ap, subst, arith, Some, slice_get, length-take, length-drop, length-append, append_assoc}
+use Rattle.std.proofs.Common.{◌≡◌, ℕ, ◌+◌, ◌-◌, ◌<◌, ◌≤◌, List, [], ◌∷◌, ◌++◌, map, length, take, drop, refl, sym, ◌∙◌, ap, arith, Some, slice_get, length-take, length-drop, length-append, append_assoc}
 use Rattle.std.proofs.lemmas.List.{take-append-drop}
 use Rattle.rowan_green.specs.declared.builder.OpenNode.{OpenNode}
 use Rattle.rowan_green.specs.Term.{Term}
-use Rattle.rowan_green.specs.Word.{Symbol, Item, Bare, Whole, spelled, HasParts, count, HasCount, Wraps, IsPast, IsBeforeOpening}
+use Rattle.rowan_green.specs.Word.{Symbol, Item, Bare, Whole, spelled, count, HasCount, Wraps, IsPast, IsBeforeOpening}
 use Rattle.rowan_green.specs.Weave.{weave, AreInOrder, last_place}
-use Rattle.rowan_green.proofs.WeaveLemmas.{weave-append, weave-open, AreInOrder-ends, AreInOrder-grow, AreInOrder-push, last_parts}
+use Rattle.rowan_green.proofs.WeaveLemmas.{weave-append, weave-open, AreInOrder-ends, AreInOrder-grow, last_parts}
 use Rattle.rowan_green.proofs.Words.{parts-unique, not_wholes}
 
 count-append : (xs ys : List Item) → count (xs ++ ys) ≡ count xs + count ys

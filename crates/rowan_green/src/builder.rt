@@ -141,14 +141,17 @@ impl<'cache> GreenNodeBuilder<'cache> {
         ensures before { IsBeforeOpening self.old checkpoint → result ≡ Err Fault.CheckpointBefore }
         ensures unchanged { OnErr result (self.new ≡ self.old) }
     {
-        let first_child = checkpoint.place;
-        if first_child > self.finished.len() {
+        let place = checkpoint.place;
+        if place > self.finished.len() {
             return Err(Fault::CheckpointPast);
         }
-        if first_child < innermost_place(self.parents.as_slice()) {
+        if place < innermost_place(self.parents.as_slice()) {
             return Err(Fault::CheckpointBefore);
         }
-        self.parents.push(OpenNode { kind, first_child })?;
+        self.parents.push(OpenNode {
+            kind,
+            first_child: place,
+        })?;
         Ok(())
     }
 

@@ -8,7 +8,7 @@ pub mod laws;
 pub mod text;
 pub mod utility_types;
 
-pub use builder::{GreenNodeBuilder, Unfinished};
+pub use builder::{Checkpoint, GreenNodeBuilder, Unfinished};
 pub use fault::Fault;
 pub use green::{
     Children, GreenElement, GreenElementRef, GreenNode, GreenNodeData, GreenToken, GreenTokenData,

@@ -4,6 +4,8 @@
 #[cfg(test)]
 mod builder;
 #[cfg(test)]
+mod checkpoints;
+#[cfg(test)]
 mod children;
 #[cfg(test)]
 mod cursor;

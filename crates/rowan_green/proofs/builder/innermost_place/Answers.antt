@@ -1,4 +1,4 @@
-use Rattle.std.proofs.Common.{◌≡◌, sym}
+use Rattle.std.proofs.Common.{sym}
 use Rattle.rowan_green.proofs.WrapLemmas.{last_place-last}
 use Rattle.rowan_green.proofs.builder.innermost_place.Goals as goal
 

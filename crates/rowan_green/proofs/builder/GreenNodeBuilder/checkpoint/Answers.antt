@@ -1,4 +1,4 @@
-use Rattle.std.proofs.Common.{◌≡◌, ◌∙◌}
+use Rattle.std.proofs.Common.{◌∙◌}
 use Rattle.rowan_green.proofs.WrapLemmas.{HasCount-weave}
 use Rattle.rowan_green.proofs.builder.GreenNodeBuilder.checkpoint.Goals as goal
 

@@ -1,4 +1,4 @@
-use Rattle.std.proofs.Common.{◌≡◌, ◌≤◌, ◌++◌, ◌∷◌, [], List, length, sym, ◌∙◌, ap, subst, arith}
+use Rattle.std.proofs.Common.{List, length, sym, ◌∙◌, ap, subst, arith}
 use Rattle.rowan_green.specs.declared.builder.OpenNode.{OpenNode}
 use Rattle.rowan_green.specs.Word.{spelled, Wraps}
 use Rattle.rowan_green.specs.Weave.{weave, AreInOrder, last_place}
@@ -6,49 +6,49 @@ use Rattle.rowan_green.proofs.WeaveLemmas.{AreInOrder-push}
 use Rattle.rowan_green.proofs.WrapLemmas.{IsPast-weave, not_IsPast, IsBeforeOpening-weave, not_IsBeforeOpening, Wraps-weave, AreInOrder-last, last_place-ends}
 use Rattle.rowan_green.proofs.builder.GreenNodeBuilder.start_node_at.Goals as goal
 
-pub returns-then-first_child-len-clause-err : goal.returns-then-first_child-len-clause-err
-returns-then-first_child-len-clause-err c =
+pub returns-then-place-len-clause-err : goal.returns-then-place-len-clause-err
+returns-then-place-len-clause-err c =
     let s = c.self.inside in
-    IsPast-weave s.parents.items s.finished.items c.args.self.now c.args.checkpoint c.self.view_is (omega (arith, c.if-first_child-len.true, c.checkpoint.view_is, s.finished.ok.0))
+    IsPast-weave s.parents.items s.finished.items c.args.self.now c.args.checkpoint c.self.view_is (omega (arith, c.if-place-len.true, c.checkpoint.view_is, s.finished.ok.0))
 
-pub returns-then-first_child-len-clause-before : goal.returns-then-first_child-len-clause-before
-returns-then-first_child-len-clause-before c = λ b.
+pub returns-then-place-len-clause-before : goal.returns-then-place-len-clause-before
+returns-then-place-len-clause-before c = λ b.
     let s = c.self.inside in
     absurd (not_IsBeforeOpening s.parents.items s.finished.items c.args.self.now c.args.checkpoint c.self.view_is c.self.invariant
-    (omega (arith, last_place-ends 0 s.parents.items (length s.finished.items) c.self.invariant, c.if-first_child-len.true, c.checkpoint.view_is, s.finished.ok.0)) b)
+    (omega (arith, last_place-ends 0 s.parents.items (length s.finished.items) c.self.invariant, c.if-place-len.true, c.checkpoint.view_is, s.finished.ok.0)) b)
 
-pub returns-then-first_child-innermost_place-clause-err : goal.returns-then-first_child-innermost_place-clause-err
-returns-then-first_child-innermost_place-clause-err c =
+pub returns-then-place-innermost_place-clause-err : goal.returns-then-place-innermost_place-clause-err
+returns-then-place-innermost_place-clause-err c =
     let s = c.self.inside in
     let place = c.innermost_place.ensures ∙ ap (λ ps. last_place 0 ps) c.as_slice.ensures.value in
-    IsBeforeOpening-weave s.parents.items s.finished.items c.args.self.now c.args.checkpoint c.self.view_is c.self.invariant (omega (arith, place, c.if-first_child-innermost_place.true, c.checkpoint.view_is))
+    IsBeforeOpening-weave s.parents.items s.finished.items c.args.self.now c.args.checkpoint c.self.view_is c.self.invariant (omega (arith, place, c.if-place-innermost_place.true, c.checkpoint.view_is))
 
-pub returns-then-first_child-innermost_place-clause-past : goal.returns-then-first_child-innermost_place-clause-past
-returns-then-first_child-innermost_place-clause-past c = λ h.
+pub returns-then-place-innermost_place-clause-past : goal.returns-then-place-innermost_place-clause-past
+returns-then-place-innermost_place-clause-past c = λ h.
     let s = c.self.inside in
-    absurd (not_IsPast s.parents.items s.finished.items c.args.self.now c.args.checkpoint c.self.view_is (omega (arith, c.if-first_child-len.false, c.checkpoint.view_is, s.finished.ok.0)) h)
+    absurd (not_IsPast s.parents.items s.finished.items c.args.self.now c.args.checkpoint c.self.view_is (omega (arith, c.if-place-len.false, c.checkpoint.view_is, s.finished.ok.0)) h)
 
 pub returns-in_err-push-clause-past : goal.returns-in_err-push-clause-past
 returns-in_err-push-clause-past c = λ h.
     let s = c.self.inside in
-    absurd (not_IsPast s.parents.items s.finished.items c.args.self.now c.args.checkpoint c.self.view_is (omega (arith, c.if-first_child-len.false, c.checkpoint.view_is, s.finished.ok.0)) h)
+    absurd (not_IsPast s.parents.items s.finished.items c.args.self.now c.args.checkpoint c.self.view_is (omega (arith, c.if-place-len.false, c.checkpoint.view_is, s.finished.ok.0)) h)
 
 pub returns-in_err-push-clause-before : goal.returns-in_err-push-clause-before
 returns-in_err-push-clause-before c = λ b.
     let s = c.self.inside in
     let place = c.innermost_place.ensures ∙ ap (λ ps. last_place 0 ps) c.as_slice.ensures.value in
-    absurd (not_IsBeforeOpening s.parents.items s.finished.items c.args.self.now c.args.checkpoint c.self.view_is c.self.invariant (omega (arith, place, c.if-first_child-innermost_place.false, c.checkpoint.view_is)) b)
+    absurd (not_IsBeforeOpening s.parents.items s.finished.items c.args.self.now c.args.checkpoint c.self.view_is c.self.invariant (omega (arith, place, c.if-place-innermost_place.false, c.checkpoint.view_is)) b)
 
 pub returns-clause-past : goal.returns-clause-past
 returns-clause-past c = λ h.
     let s = c.self.inside in
-    absurd (not_IsPast s.parents.items s.finished.items c.args.self.now c.args.checkpoint c.self.view_is (omega (arith, c.if-first_child-len.false, c.checkpoint.view_is, s.finished.ok.0)) h)
+    absurd (not_IsPast s.parents.items s.finished.items c.args.self.now c.args.checkpoint c.self.view_is (omega (arith, c.if-place-len.false, c.checkpoint.view_is, s.finished.ok.0)) h)
 
 pub returns-clause-before : goal.returns-clause-before
 returns-clause-before c = λ b.
     let s = c.self.inside in
     let place = c.innermost_place.ensures ∙ ap (λ ps. last_place 0 ps) c.as_slice.ensures.value in
-    absurd (not_IsBeforeOpening s.parents.items s.finished.items c.args.self.now c.args.checkpoint c.self.view_is c.self.invariant (omega (arith, place, c.if-first_child-innermost_place.false, c.checkpoint.view_is)) b)
+    absurd (not_IsBeforeOpening s.parents.items s.finished.items c.args.self.now c.args.checkpoint c.self.view_is c.self.invariant (omega (arith, place, c.if-place-innermost_place.false, c.checkpoint.view_is)) b)
 
 pub invariant_of-self-2 : goal.invariant_of-self-2
 invariant_of-self-2 c =
@@ -58,8 +58,8 @@ invariant_of-self-2 c =
     let P : List OpenNode → Type 0 = λ os. AreInOrder 0 os (length s.finished.items) in
     subst P (sym c.in_ok-push.ensures.items)
     (AreInOrder-push 0 s.parents.items o (length s.finished.items)
-    (AreInOrder-last 0 s.parents.items (length s.finished.items) o.first_child c.self.invariant (omega (arith, place, c.if-first_child-innermost_place.false)))
-    (omega (arith, c.if-first_child-len.false, s.finished.ok.0)))
+    (AreInOrder-last 0 s.parents.items (length s.finished.items) o.first_child c.self.invariant (omega (arith, place, c.if-place-innermost_place.false)))
+    (omega (arith, c.if-place-len.false, s.finished.ok.0)))
 
 pub returns-clause-ok : goal.returns-clause-ok
 returns-clause-ok c =
@@ -69,4 +69,4 @@ returns-clause-ok c =
     let new = spelled (weave 0 c.push.new.self.items s.finished.items) in
     subst (λ p. Wraps c.args.self.now p c.args.kind.0 new) c.checkpoint.view_is
     (Wraps-weave s.parents.items s.finished.items o c.args.self.now new c.self.view_is (ap (λ os. spelled (weave 0 os s.finished.items)) (sym c.in_ok-push.ensures.items)) c.self.invariant
-    (omega (arith, place, c.if-first_child-innermost_place.false)) (omega (arith, c.if-first_child-len.false, s.finished.ok.0)))
+    (omega (arith, place, c.if-place-innermost_place.false)) (omega (arith, c.if-place-len.false, s.finished.ok.0)))
