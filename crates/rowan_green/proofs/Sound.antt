@@ -1,6 +1,6 @@
 -- What is stored beside a node's children stays right when a child is added.
-use Rattle.std.proofs.Common.{◌≡◌, ℕ, ◌+◌, ◌<◌, ◌≤◌, List, [], ◌∷◌, ◌++◌, map, length, refl, sym, ◌∙◌, ap, arith, length-append}
-use Rattle.std.proofs.lemmas.List.{length-map}
+use Rattle.std.proofs.Common.{◌≡◌, ℕ, ◌+◌, ◌<◌, ◌≤◌, List, [], ◌∷◌, ◌++◌, map, length, refl, sym, ◌∙◌, arith, length-append}
+use Rattle.std.proofs.lemmas.List.{length-map, map-append}
 use Rattle.rowan_green.specs.declared.green.node.GreenChild.{GreenChild}
 use Rattle.rowan_green.specs.Term.{node_of, node_len, term_len, sum_of_lens}
 use Rattle.rowan_green.specs.Fits.{Fits, FitsNode, byte_limit, child_limit}
@@ -8,8 +8,7 @@ use Rattle.rowan_green.specs.View.{child_term, HasOffsetsFrom, AreSound}
 use Rattle.rowan_green.proofs.Terms.{node_len-node_of, sum_of_lens-append, FitsNode-node_of, AllFit-push}
 
 pub map-push : (cs : List GreenChild) (c : GreenChild) → map child_term (cs ++ c ∷ []) ≡ map child_term cs ++ child_term c ∷ []
-map-push [] c = refl
-map-push (d ∷ cs) c = ap (λ ts. child_term d ∷ ts) (map-push cs c)
+map-push cs c = map-append child_term cs (c ∷ [])
 
 pub HasOffsetsFrom-push : (at : ℕ) (cs : List GreenChild) (c : GreenChild) → HasOffsetsFrom at cs → c.rel_offset ≡ at + sum_of_lens (map child_term cs) → HasOffsetsFrom at (cs ++ c ∷ [])
 HasOffsetsFrom-push at [] c h e = (omega arith, tt)

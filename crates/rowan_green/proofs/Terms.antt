@@ -1,5 +1,5 @@
 -- Laws of terms: the two forms of a list of children, and the lengths of what is joined.
-use Rattle.std.proofs.Common.{◌≡◌, ℕ, ◌+◌, List, [], ◌∷◌, ◌++◌, length, refl, sym, ◌∙◌, ap, arith, append_assoc, length-append}
+use Rattle.std.proofs.Common.{◌≡◌, ℕ, ◌+◌, List, [], ◌∷◌, ◌++◌, length, refl, ◌∙◌, ap, arith, length-append}
 use Rattle.rowan_green.specs.declared.utility_types.NodeOrToken.TheVariants.{Node, Token}
 use Rattle.rowan_green.specs.Term.{Forest, empty, node_then, token_then, Term, terms, forest, node_of, forest_text, term_text, joined_text, node_len, term_len, sum_of_lens}
 use Rattle.rowan_green.specs.Fits.{AreWithin, Fits, FitsNode, FitForest, AllFit}
@@ -27,10 +27,6 @@ length-joined_text (t ∷ ts) = length-append (term_text t) (joined_text ts) ∙
 -- the length of a node is the sum of its children's lengths
 pub node_len-node_of : (k : ℕ) (ts : List Term) → node_len (node_of k ts) ≡ sum_of_lens ts
 node_len-node_of k ts = ap length (forest_text-forest ts) ∙ length-joined_text ts
-
-pub joined_text-append : (ts us : List Term) → joined_text (ts ++ us) ≡ joined_text ts ++ joined_text us
-joined_text-append [] us = refl
-joined_text-append (t ∷ ts) us = ap (λ bs. term_text t ++ bs) (joined_text-append ts us) ∙ sym (append_assoc (term_text t) (joined_text ts) (joined_text us))
 
 pub sum_of_lens-append : (ts us : List Term) → sum_of_lens (ts ++ us) ≡ sum_of_lens ts + sum_of_lens us
 sum_of_lens-append [] us = omega arith

@@ -1,6 +1,7 @@
 -- How the items of a builder change: with one more element, with one more opening, and with the innermost opening closed.
 use Rattle.std.proofs.Common.{◌≡◌, ◌≢◌, ℕ, zero, suc, ◌+◌, ◌-◌, ◌≤◌, List, [], ◌∷◌, ◌++◌, map, length, take, drop, refl, sym, ◌∙◌, ap, subst, arith, append_assoc, length-append, length-drop, length-take, Some, slice_get, get_or}
 use Rattle.std.proofs.lemmas.List.{append-nil, map-append, take-append-le, drop-append-le, take-take, drop-take, drop-drop, take-append-drop}
+use Rattle.std.proofs.lemmas.Grind.{flat_map-append}
 use Rattle.std.proofs.Math.Seq.{take-append_seam}
 use Rattle.std.proofs.Math.ListN.{drop_of_length-le}
 use Rattle.rowan_green.specs.declared.fault.Fault.{Fault}
@@ -12,10 +13,6 @@ use Rattle.rowan_green.specs.Fits.{AreWithin, PassesLimit}
 use Rattle.rowan_green.specs.Word.{Symbol, Open, Leaf, Close, forest_word, node_word, Item, Bare, Whole, item_word, spelled, whole_terms, HasParts, HasTerms, Closes, WhyNotClosed}
 use Rattle.rowan_green.specs.Weave.{weave, AreInOrder}
 
-pub spelled-append : (xs ys : List Item) → spelled (xs ++ ys) ≡ spelled xs ++ spelled ys
-spelled-append [] ys = refl
-spelled-append (x ∷ xs) ys = ap (λ w. item_word x ++ w) (spelled-append xs ys) ∙ sym (append_assoc (item_word x) (spelled xs) (spelled ys))
-
 pub forest_word-forest : (ts : List Term) → forest_word (forest ts) ≡ spelled (map Whole ts)
 forest_word-forest [] = refl
 forest_word-forest (Node n ∷ ts) = ap (λ w. node_word n ++ w) (forest_word-forest ts)
@@ -24,10 +21,10 @@ forest_word-forest (Token t ∷ ts) = ap (λ w. Leaf t ∷ w) (forest_word-fores
 -- a closing makes the opening and the terms after it into one term
 pub spelled-close : (before : List Item) (k : ℕ) (ts : List Term) → spelled (before ++ Whole (Node (node_of k ts)) ∷ []) ≡ spelled (before ++ Bare k ∷ map Whole ts) ++ Close ∷ []
 spelled-close before k ts =
-    spelled-append before (Whole (Node (node_of k ts)) ∷ [])
+    flat_map-append item_word before (Whole (Node (node_of k ts)) ∷ [])
     ∙ ap (λ w. spelled before ++ w) (append-nil (node_word (node_of k ts)) ∙ ap (λ w. Open k ∷ (w ++ Close ∷ [])) (forest_word-forest ts))
     ∙ sym (append_assoc (spelled before) (Open k ∷ spelled (map Whole ts)) (Close ∷ []))
-    ∙ ap (λ w. w ++ Close ∷ []) (sym (spelled-append before (Bare k ∷ map Whole ts)))
+    ∙ ap (λ w. w ++ Close ∷ []) (sym (flat_map-append item_word before (Bare k ∷ map Whole ts)))
 
 pub AreInOrder-ends : (at : ℕ) (os : List OpenNode) (end : ℕ) → AreInOrder at os end → at ≤ end
 AreInOrder-ends at [] end h = h
@@ -117,7 +114,7 @@ take_whole ts = ap (λ us. take (length ts) us) (sym (append-nil ts)) ∙ take-a
 
 pub spelled-token : (os : List OpenNode) (ts : List Term) (t : TokenTerm) → AreInOrder 0 os (length ts) → spelled (weave 0 os (ts ++ Token t ∷ [])) ≡ spelled (weave 0 os ts) ++ Leaf t ∷ []
 spelled-token os ts t h =
-    ap spelled (weave-append 0 os ts (Token t ∷ []) (AreInOrder-grow 0 os (length ts) (0 + length ts) h (omega arith))) ∙ spelled-append (weave 0 os ts) (Whole (Token t) ∷ [])
+    ap spelled (weave-append 0 os ts (Token t ∷ []) (AreInOrder-grow 0 os (length ts) (0 + length ts) h (omega arith))) ∙ flat_map-append item_word (weave 0 os ts) (Whole (Token t) ∷ [])
 
 pub weave-last : (os : List OpenNode) (o : OpenNode) (ts : List Term) → AreInOrder 0 (os ++ o ∷ []) (length ts) →
     weave 0 (os ++ o ∷ []) ts ≡ weave 0 os (take o.first_child ts) ++ Bare o.kind.0 ∷ map Whole (drop o.first_child ts)
@@ -132,7 +129,7 @@ spelled-start os ts o h e =
     ap spelled (weave-last os o ts places ∙ ap (λ n. weave 0 os (take n ts) ++ Bare o.kind.0 ∷ map Whole (drop n ts)) e
     ∙ ap (λ us. weave 0 os us ++ Bare o.kind.0 ∷ map Whole (drop (length ts) ts)) (take_whole ts)
     ∙ ap (λ us. weave 0 os ts ++ Bare o.kind.0 ∷ map Whole us) (drop_of_length-le ts (omega arith)))
-    ∙ spelled-append (weave 0 os ts) (Bare o.kind.0 ∷ [])
+    ∙ flat_map-append item_word (weave 0 os ts) (Bare o.kind.0 ∷ [])
 
 pub spelled-finish : (os : List OpenNode) (o : OpenNode) (ts : List Term) → AreInOrder 0 (os ++ o ∷ []) (length ts) →
     spelled (weave 0 os (take o.first_child ts ++ Node (node_of o.kind.0 (drop o.first_child ts)) ∷ [])) ≡ spelled (weave 0 (os ++ o ∷ []) ts) ++ Close ∷ []

@@ -1,13 +1,14 @@
 -- Laws of words: each has one reading, and its text is that of its whole terms.
 use Rattle.std.proofs.Common.{◌≡◌, ℕ, ◌-◌, List, [], ◌∷◌, ◌++◌, length, map, take, drop, refl, sym, ◌∙◌, ap, append_assoc}
 use Rattle.std.proofs.lemmas.List.{append-nil}
+use Rattle.std.proofs.lemmas.Grind.{flat_map-append}
 use Rattle.rowan_green.specs.declared.utility_types.NodeOrToken.TheVariants.{Node, Token}
 use Rattle.rowan_green.specs.Term.{NodeTerm, node, Forest, empty, node_then, token_then, Term, node_text, forest_text, joined_text}
 use Rattle.rowan_green.specs.Word.{Symbol, Open, Leaf, Close, node_word, forest_word, Item, Bare, Whole, item_word, spelled, HasParts, HasNoneOpen, whole_terms, HasTerms, word_text}
 use Rattle.rowan_green.specs.Coding.{read, read-node, last_node, last_node-word}
 use Rattle.rowan_green.specs.declared.builder.OpenNode.{OpenNode}
 use Rattle.rowan_green.specs.Weave.{weave}
-use Rattle.rowan_green.proofs.WeaveLemmas.{spelled-append, LastOpen, LastOpen-parts}
+use Rattle.rowan_green.proofs.WeaveLemmas.{LastOpen, LastOpen-parts}
 
 -- the items, the first of them deepest, on these
 abbrev turned : List Item → List Item → List Item
@@ -69,7 +70,7 @@ word_text-parts w items h = ap word_text h.spells ∙ word_text-spelled items
 -- one more item behind a word's items
 pub parts-more : (v w x : List Symbol) (items : List Item) (i : Item) → HasParts v items → w ≡ v ++ x → x ≡ item_word i → HasParts w (items ++ i ∷ [])
 parts-more v w x items i h e f = record {
-  spells = e ∙ ap (λ u. u ++ x) h.spells ∙ ap (λ u. spelled items ++ u) (f ∙ sym (append-nil (item_word i))) ∙ sym (spelled-append items (i ∷ []));
+  spells = e ∙ ap (λ u. u ++ x) h.spells ∙ ap (λ u. spelled items ++ u) (f ∙ sym (append-nil (item_word i))) ∙ sym (flat_map-append item_word items (i ∷ []));
 }
 
 pub not_wholes : (before : List Item) (k : ℕ) (ts us : List Term) → before ++ Bare k ∷ map Whole ts ≡ map Whole us → ⊥

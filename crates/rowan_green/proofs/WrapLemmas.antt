@@ -3,26 +3,20 @@ use Rattle.std.proofs.Common.{◌≡◌, ℕ, ◌+◌, ◌-◌, ◌<◌, ◌≤�
 use Rattle.std.proofs.lemmas.List.{take-append-drop}
 use Rattle.rowan_green.specs.declared.builder.OpenNode.{OpenNode}
 use Rattle.rowan_green.specs.Term.{Term}
-use Rattle.rowan_green.specs.Word.{Symbol, Item, Bare, Whole, spelled, count, HasCount, Wraps, IsPast, IsBeforeOpening}
+use Rattle.rowan_green.specs.Word.{Symbol, Item, Bare, Whole, spelled, whole_terms, count, HasCount, Wraps, IsPast, IsBeforeOpening}
 use Rattle.rowan_green.specs.Weave.{weave, AreInOrder, last_place}
-use Rattle.rowan_green.proofs.WeaveLemmas.{weave-append, weave-open, AreInOrder-ends, AreInOrder-grow, last_parts}
+use Rattle.rowan_green.proofs.WeaveLemmas.{whole_terms-append, whole_terms-map, whole_terms-weave, weave-append, weave-open, AreInOrder-ends, AreInOrder-grow, last_parts}
 use Rattle.rowan_green.proofs.Words.{parts-unique, not_wholes}
 
 count-append : (xs ys : List Item) → count (xs ++ ys) ≡ count xs + count ys
-count-append [] ys = omega arith
-count-append (Bare k ∷ xs) ys = count-append xs ys
-count-append (Whole t ∷ xs) ys = omega (arith, count-append xs ys)
+count-append xs ys = ap length (whole_terms-append xs ys) ∙ length-append (whole_terms xs) (whole_terms ys)
 
 count-map : (ts : List Term) → count (map Whole ts) ≡ length ts
-count-map [] = refl
-count-map (t ∷ ts) = omega (arith, count-map ts)
+count-map ts = ap length (whole_terms-map ts)
 
 -- the whole terms of the items are the elements
 pub count-weave : (at : ℕ) (os : List OpenNode) (ts : List Term) → count (weave at os ts) ≡ length ts
-count-weave at [] ts = count-map ts
-count-weave at (o ∷ os) ts =
-    let d = o.first_child - at in
-    omega (arith, count-append (map Whole (take d ts)) (Bare o.kind.0 ∷ weave o.first_child os (drop d ts)), count-map (take d ts), count-weave o.first_child os (drop d ts), ap length (take-append-drop d ts), length-append (take d ts) (drop d ts))
+count-weave at os ts = ap length (whole_terms-weave at os ts)
 
 pub HasCount-weave : (os : List OpenNode) (ts : List Term) (w : List Symbol) (n : ℕ) → spelled (weave 0 os ts) ≡ w → n ≡ length ts → HasCount w n
 HasCount-weave os ts w n e same = record { items = weave 0 os ts; parts = record { spells = sym e }; counted = count-weave 0 os ts ∙ sym same }

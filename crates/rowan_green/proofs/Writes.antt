@@ -2,7 +2,8 @@
 use Rattle.std.proofs.Common.{◌≡◌, ℕ, ◌+◌, ◌<◌, List, [], ◌∷◌, ◌++◌, length, map, take, get_or, refl, ◌∙◌, ap, sym, fold}
 use Rattle.std.specs.Hash as fed
 use Rattle.std.proofs.lemmas.List.{map_more, append-nil}
-use Rattle.rowan_green.proofs.Terms.{joined_text-append}
+use Rattle.std.proofs.lemmas.Grind.{flat_map-append}
+use Rattle.rowan_green.proofs.Terms.{forest-terms, forest_text-forest}
 use Rattle.rowan_green.specs.declared.green.node.GreenChild.{GreenChild}
 use Rattle.rowan_green.specs.Term.{Term, NodeTerm, node, Forest, empty, node_then, token_then, node_kind, node_children, terms, node_text, forest_text, term_text, joined_text}
 use Rattle.rowan_green.specs.View.{child_term}
@@ -24,15 +25,10 @@ fed_node-steps write s0 s1 s2 s3 n k count ts ek ec et e1 e2 e3 =
     e3 ∙ ap (λ us. fold write s2 (fed_terms us)) et ∙ ap (λ s. fold write s (fed_terms (node_children n))) count_fed
     ∙ sym (ap (λ ws. fold write s0 ws) (fed_node-children n))
 
-forest_text-terms : (f : Forest) → forest_text f ≡ joined_text (terms f)
-forest_text-terms empty = refl
-forest_text-terms (node_then n f) = ap (λ bs. node_text n ++ bs) (forest_text-terms f)
-forest_text-terms (token_then t f) = ap (λ bs. t.text ++ bs) (forest_text-terms f)
-
 pub node_text-children : (n : NodeTerm) → node_text n ≡ joined_text (node_children n)
-node_text-children (node k f) = forest_text-terms f
+node_text-children (node k f) = ap forest_text (sym (forest-terms f)) ∙ forest_text-forest (terms f)
 
 pub joined_text-take : (cs : List GreenChild) (i : ℕ) (c : GreenChild) → i < length cs → joined_text (map child_term (take (i + 1) cs)) ≡ joined_text (map child_term (take i cs)) ++ term_text (child_term (get_or cs i c))
 joined_text-take cs i c h =
-    ap joined_text (map_more child_term cs i c h) ∙ joined_text-append (map child_term (take i cs)) (child_term (get_or cs i c) ∷ [])
+    ap joined_text (map_more child_term cs i c h) ∙ flat_map-append term_text (map child_term (take i cs)) (child_term (get_or cs i c) ∷ [])
     ∙ ap (λ bs. joined_text (map child_term (take i cs)) ++ bs) (append-nil (term_text (child_term (get_or cs i c))))

@@ -1,7 +1,8 @@
 -- What the hash of a term feeds a hasher: the kind and the text of a token, and the kind of a node, the number of its
 -- children, and for each of them 0 before a node and 1 before a token.
-use Rattle.std.specs.Prelude.{ℕ, List, [], ◌∷◌, ◌++◌, length}
+use Rattle.std.specs.Prelude.{ℕ, List, [], ◌++◌, length}
 use Rattle.std.specs.Hash as fed
+use Rattle.std.specs.List.{flat_map}
 use Rattle.rowan_green.specs.declared.utility_types.NodeOrToken.TheVariants.{Node, Token}
 use Rattle.rowan_green.specs.Term.{TokenTerm, NodeTerm, node, Forest, empty, node_then, token_then, Term, terms}
 
@@ -23,5 +24,4 @@ fed_term (Token t) = fed.u8 1 ++ fed_token t
 
 -- for each of these terms in turn
 abbrev pub fed_terms : List Term → List (List ℕ)
-fed_terms [] = []
-fed_terms (t ∷ ts) = fed_term t ++ fed_terms ts
+fed_terms ts = flat_map fed_term ts

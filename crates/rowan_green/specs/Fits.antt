@@ -1,6 +1,7 @@
 -- The limits of 32 bits: a text has at most 4,294,967,295 bytes, and a node at most as many children.
 -- `Fits` says that a term keeps them at every level. `PassesLimit` says which limit a list of children passes first.
-use Rattle.std.specs.Prelude.{◌≡◌, ℕ, ◌+◌, ◌<◌, ◌≤◌, List, [], ◌∷◌, ◌++◌, length}
+use Rattle.std.specs.Prelude.{◌≡◌, ℕ, ◌+◌, ◌<◌, ◌≤◌, List, ◌∷◌, ◌++◌, length}
+use Rattle.std.specs.List.{AllByRecursion}
 use Rattle.rowan_green.specs.declared.fault.Fault.{Fault}
 use Rattle.rowan_green.specs.declared.fault.Fault.TheVariants.{TextTooLong, TooManyChildren}
 use Rattle.rowan_green.specs.declared.utility_types.NodeOrToken.TheVariants.{Node, Token}
@@ -52,5 +53,4 @@ pub record PassesLimit (children : List Term) (fault : Fault) : Type 0 where
   pub passes : ChildPasses before child fault
 
 abbrev pub AllFit : List Term → Type 0
-AllFit [] = Unit {0}
-AllFit (t ∷ ts) = Fits t × AllFit ts
+AllFit ts = AllByRecursion Fits ts

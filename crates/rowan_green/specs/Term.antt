@@ -3,6 +3,7 @@
 --     A node is a raw kind and a list of children, each a node or a token. It has no place and no parent.
 -- The text of a node is the texts of its children, one after the other, and a length is the number of bytes of a text.
 use Rattle.std.specs.Prelude.{ℕ, ◌+◌, List, [], ◌∷◌, ◌++◌, length}
+use Rattle.std.specs.List.{flat_map}
 use Rattle.rowan_green.specs.declared.utility_types.NodeOrToken.{NodeOrToken}
 use Rattle.rowan_green.specs.declared.utility_types.NodeOrToken.TheVariants.{Node, Token}
 
@@ -67,8 +68,7 @@ term_text (Token t) = t.text
 
 -- the texts of a list of terms, one after the other
 abbrev pub joined_text : List Term → List ℕ
-joined_text [] = []
-joined_text (t ∷ ts) = term_text t ++ joined_text ts
+joined_text ts = flat_map term_text ts
 
 abbrev pub node_len : NodeTerm → ℕ
 node_len n = length (node_text n)

@@ -2,7 +2,8 @@
 --     A token spells itself. A node spells an opening with its kind, its children's words, and a closing.
 -- The items of a word are its openings that nothing closes, here called bare, and its whole terms.
 -- A word has at most one list of items, since a closing is no item: the law of `laws::word_has_one_reading`.
-use Rattle.std.specs.Prelude.{◌≡◌, ◌≢◌, ℕ, ◌+◌, ◌<◌, List, [], ◌∷◌, ◌++◌, map, length}
+use Rattle.std.specs.Prelude.{◌≡◌, ◌≢◌, ℕ, ◌<◌, List, [], ◌∷◌, ◌++◌, map, length}
+use Rattle.std.specs.List.{flat_map}
 use Rattle.rowan_green.specs.declared.fault.Fault.{Fault}
 use Rattle.rowan_green.specs.declared.fault.Fault.TheVariants.{TextTooLong, TooManyChildren, CheckpointPast, CheckpointBefore, NothingOpen, NotOneElement, NotANode, Memory}
 use Rattle.rowan_green.specs.declared.utility_types.NodeOrToken.TheVariants.{Node, Token}
@@ -37,8 +38,7 @@ item_word (Whole t) = term_word t
 
 -- the words of the items, one after the other
 abbrev pub spelled : List Item → List Symbol
-spelled [] = []
-spelled (i ∷ is) = item_word i ++ spelled is
+spelled items = flat_map item_word items
 
 pub record HasParts (w : List Symbol) (items : List Item) : Type 0 where
   pub spells : w ≡ spelled items
@@ -81,11 +81,15 @@ WhyNotClosed w TextTooLong = ClosingPasses w TextTooLong
 WhyNotClosed w Memory = Unit {0}
 WhyNotClosed w _ = ⊥
 
+-- the whole terms among items
+abbrev pub whole_terms : List Item → List Term
+whole_terms [] = []
+whole_terms (Bare k ∷ items) = whole_terms items
+whole_terms (Whole t ∷ items) = t ∷ whole_terms items
+
 -- how many whole terms stand among items
 abbrev pub count : List Item → ℕ
-count [] = 0
-count (Bare k ∷ items) = count items
-count (Whole t ∷ items) = count items + 1
+count items = length (whole_terms items)
 
 -- the word has this many whole terms
 pub record HasCount (w : List Symbol) (n : ℕ) : Type 0 where
@@ -122,12 +126,6 @@ WhyNotWrapped w c CheckpointPast = IsPast w c
 WhyNotWrapped w c CheckpointBefore = IsBeforeOpening w c
 WhyNotWrapped w c Memory = Unit {0}
 WhyNotWrapped w c _ = ⊥
-
--- the whole terms among items
-abbrev pub whole_terms : List Item → List Term
-whole_terms [] = []
-whole_terms (Bare k ∷ items) = whole_terms items
-whole_terms (Whole t ∷ items) = t ∷ whole_terms items
 
 -- the whole terms of the word, without its bare openings
 pub record HasTerms (w : List Symbol) (ts : List Term) : Type 0 where

@@ -1,6 +1,8 @@
 //! Laws of terms and words, each as the contract of a function that does nothing.
 ghost use Rattle.std.specs.Prelude.{◌≡◌, ℕ, List};
-ghost use Rattle.rowan_green.specs.Term.{NodeTerm, Term, node_of, node_len, node_text, sum_of_lens, joined_text};
+ghost use Rattle.std.specs.Bool.{Decides};
+ghost use Rattle.rowan_green.specs.Same.{same_node, same_token};
+ghost use Rattle.rowan_green.specs.Term.{TokenTerm, NodeTerm, Term, node_of, node_len, node_text, sum_of_lens, joined_text};
 ghost use Rattle.rowan_green.specs.Word.{Symbol, Item, HasParts, HasTerms, node_word, word_text};
 
 /// A word has at most one list of items: bare openings and whole terms.
@@ -11,6 +13,12 @@ pub fn word_has_one_reading()
 /// The word of a node determines the node.
 pub fn word_determines_node()
     ensures { (m n : NodeTerm) → node_word m ≡ node_word n → m ≡ n }
+{}
+
+/// Equality decides whether two nodes, or two tokens, are the same term.
+pub fn equality_is_of_terms()
+    ensures nodes { (m n : NodeTerm) → Decides (same_node m n) (m ≡ n) }
+    ensures tokens { (t u : TokenTerm) → Decides (same_token t u) (t ≡ u) }
 {}
 
 /// The text of a node is its children's texts, one after the other, and its length the sum of their lengths.

@@ -3,10 +3,12 @@
 use Rattle.std.specs.Prelude.{◌≡◌, ℕ, ◌+◌, ◌<◌, ◌≤◌, List, [], ◌∷◌, length}
 use Rattle.rowan_green.specs.declared.utility_types.NodeOrToken.TheVariants.{Node}
 use Rattle.rowan_green.specs.Term.{NodeTerm, Term, term_len}
+use Rattle.rowan_tool.specs.declared.sexp.lang.SyntaxKind.TheVariants.{ROOT}
+use Rattle.rowan_tool.specs.Sexp.{number_of}
 use Rattle.rowan_green.specs.Word.{Symbol, Item, Bare, Whole, HasParts, whole_terms, word_text}
 
 abbrev pub root_kind : ℕ
-root_kind = 7
+root_kind = number_of ROOT
 
 -- how many openings are bare
 abbrev pub bare_count : List Item → ℕ

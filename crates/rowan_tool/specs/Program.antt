@@ -5,6 +5,7 @@ use Rattle.std.specs.declared.alloc.Global.{Global}
 use Rattle.rowan_tool.specs.declared.program.Command.{Command}
 use Rattle.rowan_tool.specs.declared.program.Command.TheVariants.{Tree}
 use Rattle.rowan_tool.specs.declared.program.Stop.{Stop}
+use Rattle.rowan_green.specs.Fits.{byte_limit}
 use Rattle.rowan_green.specs.declared.fault.Fault.{Fault}
 use Rattle.rowan_green.specs.declared.fault.Fault.TheVariants.{Memory}
 use Rattle.rowan_tool.specs.declared.program.Stop.TheVariants.{Usage, CannotRead, NotUtf8, TooLong, NoMemory, CannotWrite}
@@ -23,7 +24,7 @@ IsCommandLine args = (command : Command) × AsksFor args command
 
 -- the most bytes that an input may have
 abbrev pub longest_input : ℕ
-longest_input = 4294967295
+longest_input = byte_limit
 
 -- these bytes of an input were read to its end, within the limit: `rest` is what it has left
 pub record IsReadWhole (bytes : List ℕ) (rest : Option (List ℕ)) : Type 0 where
