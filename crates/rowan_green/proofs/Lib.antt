@@ -1,9 +1,12 @@
+pub mod BuilderLemmas
+pub mod CacheLemmas
 pub mod ChildList
 pub mod Drops
+pub mod NumberLemmas
 pub mod Paths
 pub mod Sound
 pub mod Terms
 pub mod WeaveLemmas
 pub mod Words
-pub mod Writes
 pub mod WrapLemmas
+pub mod Writes

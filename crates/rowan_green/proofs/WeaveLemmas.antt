@@ -6,7 +6,7 @@ use Rattle.std.proofs.Math.Seq.{take-append_seam}
 use Rattle.std.proofs.Math.ListN.{drop_of_length-le}
 use Rattle.rowan_green.specs.declared.fault.Fault.{Fault}
 use Rattle.rowan_green.specs.declared.fault.Fault.TheVariants.{TextTooLong, TooManyChildren, CheckpointPast, CheckpointBefore, NothingOpen, NotOneElement, NotANode, OtherKind, NotFound, Memory, UnknownMark, NotOneList}
-use Rattle.rowan_green.specs.declared.builder.OpenNode.{OpenNode}
+use Rattle.rowan_green.specs.declared.builder.owning.OpenNode.{OpenNode}
 use Rattle.rowan_green.specs.declared.utility_types.NodeOrToken.TheVariants.{Node, Token}
 use Rattle.rowan_green.specs.Term.{TokenTerm, NodeTerm, Term, node_of, forest}
 use Rattle.rowan_green.specs.Fits.{AreWithin, PassesLimit}
@@ -189,13 +189,14 @@ module _ (os : List OpenNode) (ts : List Term) (o : OpenNode) where
       subst (λ ps. AreInOrder 0 ps (length ts')) (sym e) (AreInOrder-grow 0 outer o.first_child (length ts') r.0 long)
 
   pub LastOpen-closes : (os' : List OpenNode) (ts' : List Term) (n : NodeTerm) (w : List Symbol) → LastOpen os ts o → spelled (weave 0 os ts) ≡ w → os' ≡ take (length os - 1) os → ts' ≡ take o.first_child ts ++ Node n ∷ []
-      → n ≡ node_of o.kind.0 (drop o.first_child ts) → AreWithin (drop o.first_child ts) → Closes w (spelled (weave 0 os' ts'))
+      → n ≡ node_of o.kind.0 (drop o.first_child ts) → AreWithin (drop o.first_child ts) → Closes w n (spelled (weave 0 os' ts'))
   LastOpen-closes os' ts' n w h spells e f g within = record {
     before = weave 0 outer (take o.first_child ts);
     kind = o.kind.0;
     children = drop o.first_child ts;
     parts = LastOpen-parts w h spells;
     within = within;
+    closes = g;
     closed =
         ap (λ ps. spelled (weave 0 ps ts')) e ∙ ap (λ us. spelled (weave 0 outer us)) (f ∙ ap (λ m. take o.first_child ts ++ Node m ∷ []) g)
         ∙ spelled-finish outer o ts (LastOpen-split h)

@@ -6,7 +6,7 @@ use Rattle.rowan_green.specs.declared.utility_types.NodeOrToken.TheVariants.{Nod
 use Rattle.rowan_green.specs.Term.{NodeTerm, node, Forest, empty, node_then, token_then, Term, node_text, forest_text, joined_text}
 use Rattle.rowan_green.specs.Word.{Symbol, Open, Leaf, Close, node_word, forest_word, Item, Bare, Whole, item_word, spelled, HasParts, HasNoneOpen, whole_terms, HasTerms, word_text}
 use Rattle.rowan_green.specs.Coding.{read, read-node, last_node, last_node-word}
-use Rattle.rowan_green.specs.declared.builder.OpenNode.{OpenNode}
+use Rattle.rowan_green.specs.declared.builder.owning.OpenNode.{OpenNode}
 use Rattle.rowan_green.specs.Weave.{weave}
 use Rattle.rowan_green.proofs.WeaveLemmas.{LastOpen, LastOpen-parts}
 

@@ -1,7 +1,7 @@
 -- A wrap: a node that is opened at a checkpoint, and why it is refused.
 use Rattle.std.proofs.Common.{◌≡◌, ℕ, ◌+◌, ◌-◌, ◌<◌, ◌≤◌, List, [], ◌∷◌, ◌++◌, map, length, take, drop, refl, sym, ◌∙◌, ap, arith, Some, slice_get, length-take, length-drop, length-append, append_assoc}
 use Rattle.std.proofs.lemmas.List.{take-append-drop}
-use Rattle.rowan_green.specs.declared.builder.OpenNode.{OpenNode}
+use Rattle.rowan_green.specs.declared.builder.owning.OpenNode.{OpenNode}
 use Rattle.rowan_green.specs.Term.{Term}
 use Rattle.rowan_green.specs.Word.{Symbol, Item, Bare, Whole, spelled, whole_terms, count, HasCount, Wraps, IsPast, IsBeforeOpening}
 use Rattle.rowan_green.specs.Weave.{weave, AreInOrder, last_place}

@@ -1,3 +1,7 @@
+pub mod Builder
+pub mod BuilderCoding
+pub mod Cache
+pub mod CacheCoding
 pub mod Coding
 pub mod Falls
 pub mod Fault
@@ -5,10 +9,12 @@ pub mod Feeds
 pub mod Fits
 pub mod Gives
 pub mod Lent
+pub mod Loan
 pub mod Path
 pub mod Same
 pub mod Sizes
 pub mod Span
+pub mod Tables
 pub mod Term
 pub mod TokenText
 pub mod View

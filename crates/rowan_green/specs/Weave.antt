@@ -1,6 +1,6 @@
 -- The items that a builder holds: its finished elements in order, with each open node's opening before the element of its place.
 use Rattle.std.specs.Prelude.{ℕ, ◌-◌, ◌≤◌, List, [], ◌∷◌, ◌++◌, map, take, drop}
-use Rattle.rowan_green.specs.declared.builder.OpenNode.{OpenNode}
+use Rattle.rowan_green.specs.declared.builder.owning.OpenNode.{OpenNode}
 use Rattle.rowan_green.specs.Term.{Term}
 use Rattle.rowan_green.specs.Word.{Item, Bare, Whole}
 

@@ -7,7 +7,7 @@ use Rattle.std.specs.List.{flat_map}
 use Rattle.rowan_green.specs.declared.fault.Fault.{Fault}
 use Rattle.rowan_green.specs.declared.fault.Fault.TheVariants.{TextTooLong, TooManyChildren, CheckpointPast, CheckpointBefore, NothingOpen, NotOneElement, NotANode, Memory}
 use Rattle.rowan_green.specs.declared.utility_types.NodeOrToken.TheVariants.{Node, Token}
-use Rattle.rowan_green.specs.Term.{TokenTerm, NodeTerm, node, Forest, empty, node_then, token_then, Term}
+use Rattle.rowan_green.specs.Term.{TokenTerm, NodeTerm, node, Forest, empty, node_then, token_then, Term, node_of}
 use Rattle.rowan_green.specs.Fits.{byte_limit, AreWithin, PassesLimit}
 
 pub data Symbol : Type 0 where
@@ -51,13 +51,15 @@ WhyNoToken text TextTooLong = byte_limit < length text
 WhyNoToken text Memory = Unit {0}
 WhyNoToken text _ = ⊥
 
--- A closing goes to the end of w. It closes the innermost bare opening over the whole terms behind it, which are within the limits.
-pub record Closes (w w2 : List Symbol) : Type 0 where
+-- A closing goes to the end of w. It closes the innermost bare opening over the whole terms behind it, which are within the
+-- limits: that is the node n.
+pub record Closes (w : List Symbol) (n : NodeTerm) (w2 : List Symbol) : Type 0 where
   pub before : List Item
   pub kind : ℕ
   pub children : List Term
   pub parts : HasParts w (before ++ Bare kind ∷ map Whole children)
   pub within : AreWithin children
+  pub closes : n ≡ node_of kind children
   pub closed : w2 ≡ w ++ Close ∷ []
 
 -- no opening of the word is bare
@@ -142,11 +144,6 @@ abbrev pub WhyUnfinished : List Symbol → Fault → Type 0
 WhyUnfinished w NotOneElement = (ts : List Term) × HasTerms w ts × (length ts ≢ 1)
 WhyUnfinished w NotANode = (t : TokenTerm) × HasTerms w (Token t ∷ [])
 WhyUnfinished w _ = ⊥
-
--- a builder that was handed back: its word, and why it was refused
-pub record Refusal : Type 0 where
-  pub word : List Symbol
-  pub fault : Fault
 
 -- the texts of a word's leaves, one after the other
 abbrev pub word_text : List Symbol → List ℕ

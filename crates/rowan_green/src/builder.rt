@@ -1,21 +1,23 @@
 //! The builder of green trees: calls in the order of the text, as brackets round tokens.
-ghost use Rattle.std.specs.Prelude.{◌≡◌, ◌<◌, [], ◌∷◌, ◌++◌, length, IfOk, IfErr, OnOk, OnErr};
+mod loan;
+mod owning;
+
+ghost use Rattle.std.specs.Prelude.{◌≡◌, ◌<◌, [], length, IfOk, IfErr, OnOk, OnErr};
+ghost use Rattle.std.specs.Borrow.{sem};
+ghost use Rattle.std.specs.Fn.{FnOnceReturnsAtMut};
+ghost use Rattle.rowan_green.specs.Builder.{adds, opens, FinishesNode, WrapsAt};
 ghost use Rattle.rowan_green.specs.Fits.{byte_limit};
-ghost use Rattle.rowan_green.specs.Weave.{last_place};
-ghost use Rattle.rowan_green.specs.Word.{Open, Leaf, Close, WhyNoToken, HasNoneOpen, Closes, WhyNotClosed, HasCount, Wraps, IsPast, IsBeforeOpening, WhyNotWrapped, IsFinished, WhyUnfinished};
+ghost use Rattle.rowan_green.specs.Loan.{value_of, word_of, cache_of, loan_of, returned, fault_of, returned_loan, LeavesCacheUnlessRefused, KeepsLoan, LeavesCacheOfRun};
+ghost use Rattle.rowan_green.specs.Word.{WhyNoToken, HasNoneOpen, WhyNotClosed, HasCount, IsPast, IsBeforeOpening, WhyNotWrapped, IsFinished, WhyUnfinished};
 
 use crate::fault::Fault;
-use crate::green::{GreenElement, GreenNode, GreenToken, SyntaxKind};
-use crate::utility_types::NodeOrToken;
+use crate::green::{GreenNode, SyntaxKind};
+use crate::node_cache::NodeCache;
+pub use loan::{CacheHome, HoldsCache, NoHome, OwnCache};
+pub use owning::OwningBuilder;
 use std::alloc::Global;
-use std::marker::{Model, PhantomData};
-
-// A node that is not finished: its kind, and the number of elements that were finished before it.
-#[derive(Clone, Copy)]
-struct OpenNode {
-    kind: SyntaxKind,
-    first_child: usize,
-}
+use std::marker::Model;
+use std::mem;
 
 /// A place in what a builder holds: the number of elements that are finished.
 ///
@@ -38,188 +40,207 @@ impl Model for Checkpoint {
 /// Builds a green tree from calls in the order of the text: `start_node` opens a node, `token` adds a leaf and
 /// `finish_node` closes the innermost open node over all that was added since.
 ///
-/// A contract sees a builder as its word: the accepted calls, as openings, leaves and closings. A refused call leaves the
-/// word as it was.
-#[derive(Drop)]
-pub struct GreenNodeBuilder<'cache> {
-    alloc: Global,
-    parents: Vec<OpenNode>,
-    finished: Vec<GreenElement>,
-    cache: PhantomData<&'cache ()>,
+/// A builder has a cache: of its own, with `new`, or one that is lent, with `with_cache`. The type `GreenNodeBuilder<'_>` is
+/// the one with a lent cache; one with its own cache is a `GreenNodeBuilder<'_, OwnCache>`. While a cache is lent the builder
+/// has what is in it, and the drop of the builder, or `finish`, gives it back.
+///
+/// A contract sees a builder as its word, which is the accepted calls as openings, leaves and closings, and the value of its
+/// cache. A refused call leaves both as they were.
+pub struct GreenNodeBuilder<'cache, H: CacheHome = NodeCache, B: HoldsCache = OwningBuilder> {
+    home: &'cache mut H,
+    inner: B,
 }
 
-impl<'cache> Model for GreenNodeBuilder<'cache> {
-    ghost use Rattle.std.specs.Prelude.{List, length};
-    ghost use Rattle.rowan_green.specs.Word.{Symbol, spelled};
-    ghost use Rattle.rowan_green.specs.Coding.{coded_word};
-
-    ghost Value = { List Symbol };
-
-    ghost coded = { coded_word };
-
-    ghost use Rattle.rowan_green.specs.Weave.{weave, AreInOrder};
-
-    ghost view = { λ b. spelled (weave 0 b.parents.items b.finished.items) };
-
-    ghost invariant = { λ b. AreInOrder 0 b.parents.items (length b.finished.items) };
-}
-
-impl<'cache> GreenNodeBuilder<'cache> {
-    /// A builder with nothing in it. Takes no memory.
-    pub fn new(alloc: Global) -> GreenNodeBuilder<'cache>
-        ensures { result ≡ [] }
+impl<H: CacheHome, B: HoldsCache> Drop for GreenNodeBuilder<'_, H, B> {
+    fn drop(self)
+        ensures { H.left self.exit.0.now (B.held self.entry.inner) }
     {
+        let GreenNodeBuilder { home, inner } = self;
+        home.leave(inner.give_back());
+    }
+}
+
+impl<'cache> GreenNodeBuilder<'cache, OwnCache> {
+    /// A builder with nothing in it, and with a cache of its own. Takes no memory.
+    pub fn new(alloc: Global) -> GreenNodeBuilder<'cache, OwnCache>
+        ensures { value_of result ≡ record { word = []; cache = record { limit = 3; seen = [] } } }
+    {
+        let nowhere: &'cache mut [NoHome] = &mut [];
+        let Some(home) = nowhere.first_chunk_mut::<0>() else {
+            unreachable!()
+        };
         GreenNodeBuilder {
-            alloc,
-            parents: Vec::new(alloc),
-            finished: Vec::new(alloc),
-            cache: PhantomData,
+            home,
+            inner: OwningBuilder::new(alloc, NodeCache::new(alloc)),
         }
     }
 
-    /// Adds a token to the innermost open node. Refused with `TextTooLong` for a text of more than 4,294,967,295 bytes, and
-    /// else only for want of memory.
+    /// Gives the finished tree: the one element that stands outside of all open nodes or in the last of them, which has to be
+    /// a node. Nodes that were never closed are left out. Refused with `NotOneElement` or `NotANode`; the builder then comes
+    /// back with the same word and the same cache. Takes no memory.
+    pub fn finish(self) -> Result<GreenNode, Unfinished<'cache, OwnCache>>
+        ensures ok { IfOk result (IsFinished (word_of self.entry)) }
+        ensures err { IfErr result (λ u. WhyUnfinished (word_of self.entry) (fault_of u)) }
+        ensures unchanged { IfErr result (λ u. returned u ≡ value_of self.entry) }
+    {
+        let GreenNodeBuilder { home, inner } = self;
+        match inner.finish() {
+            Ok((node, _)) => Ok(node),
+            Err((inner, fault)) => Err(Unfinished { home, inner, fault }),
+        }
+    }
+}
+
+impl<'cache> GreenNodeBuilder<'cache> {
+    /// A builder with nothing in it, over a cache that is lent to it and has what is interned. Takes no memory.
+    pub fn with_cache(alloc: Global, cache: &'cache mut NodeCache) -> GreenNodeBuilder<'cache>
+        ensures loan { loan_of result ≡ cache.entry.ghost_name }
+        ensures empty { value_of result ≡ record { word = []; cache = cache.old } }
+    {
+        let content = mem::replace(cache, NodeCache::new(alloc));
+        GreenNodeBuilder {
+            home: cache,
+            inner: OwningBuilder::new(alloc, content),
+        }
+    }
+
+    /// Gives the finished tree, and the cache back to where it was lent: the one element that stands outside of all open nodes
+    /// or in the last of them, which has to be a node. Nodes that were never closed are left out. Refused with `NotOneElement`
+    /// or `NotANode`; the builder then comes back with the same word and the same loan. Takes no memory.
+    pub fn finish(self) -> Result<GreenNode, Unfinished<'cache>>
+        ensures* rests { sem 𝓛 (LeavesCacheUnlessRefused self.entry result) }
+        ensures loan { IfErr result (λ u. returned_loan u ≡ loan_of self.entry) }
+        ensures ok { IfOk result (IsFinished (word_of self.entry)) }
+        ensures err { IfErr result (λ u. WhyUnfinished (word_of self.entry) (fault_of u)) }
+        ensures unchanged { IfErr result (λ u. returned u ≡ value_of self.entry) }
+    {
+        let GreenNodeBuilder { home, inner } = self;
+        match inner.finish() {
+            Ok((node, cache)) => {
+                *home = cache;
+                Ok(node)
+            }
+            Err((inner, fault)) => Err(Unfinished { home, inner, fault }),
+        }
+    }
+}
+
+impl<H: CacheHome> GreenNodeBuilder<'_, H> {
+    /// Adds a token to the innermost open node: the one of the cache where it has an equal one. Refused with `TextTooLong` for
+    /// a text of more than 4,294,967,295 bytes, and else only for want of memory.
     pub fn token(&mut self, kind: SyntaxKind, text: &str) -> Result<(), Fault>
-        ensures ok { OnOk result (self.new ≡ self.old ++ Leaf (record { kind = kind.0; text = text.now }) ∷ []) }
+        ensures loan { loan_of self.new ≡ loan_of self.old }
+        ensures ok { OnOk result (value_of self.new ≡ adds (value_of self.old) (record { kind = kind.0; text = text.now })) }
         ensures err { IfErr result (WhyNoToken text.now) }
         ensures too_long { byte_limit < length text.now → result ≡ Err Fault.TextTooLong }
-        ensures unchanged { OnErr result (self.new ≡ self.old) }
+        ensures unchanged { OnErr result (value_of self.new ≡ value_of self.old) }
     {
-        let token = GreenToken::new(self.alloc, kind, text)?;
-        self.finished.push(NodeOrToken::Token(token))?;
-        Ok(())
+        self.inner.token(kind, text)
     }
 
     /// Opens a node. What is added from now on is in it, until `finish_node` closes it. Refused only for want of memory.
     pub fn start_node(&mut self, kind: SyntaxKind) -> Result<(), Fault>
-        ensures ok { OnOk result (self.new ≡ self.old ++ Open kind.0 ∷ []) }
+        ensures loan { loan_of self.new ≡ loan_of self.old }
+        ensures ok { OnOk result (value_of self.new ≡ opens (value_of self.old) kind.0) }
         ensures err { IfErr result (λ e. e ≡ Fault.Memory) }
-        ensures unchanged { OnErr result (self.new ≡ self.old) }
+        ensures unchanged { OnErr result (value_of self.new ≡ value_of self.old) }
     {
-        let first_child = self.finished.len();
-        self.parents.push(OpenNode { kind, first_child })?;
-        Ok(())
+        self.inner.start_node(kind)
     }
 
-    /// Closes the innermost open node over the elements that were added since it was opened. Refused with `NothingOpen` where
-    /// no node is open, with `TooManyChildren` or `TextTooLong` where the node would pass a limit, and else only for want of
-    /// memory. A refused call leaves the node open with its elements.
+    /// Closes the innermost open node over the elements that were added since it was opened. The node is the one of the cache
+    /// where it has an equal one. Refused with `NothingOpen` where no node is open, with `TooManyChildren` or `TextTooLong`
+    /// where the node would pass a limit, and else only for want of memory. A refused call leaves the node open with its
+    /// elements.
     pub fn finish_node(&mut self) -> Result<(), Fault>
-        ensures ok { OnOk result (Closes self.old self.new) }
-        ensures err { IfErr result (WhyNotClosed self.old) }
-        ensures nothing_open { HasNoneOpen self.old → result ≡ Err Fault.NothingOpen }
-        ensures unchanged { OnErr result (self.new ≡ self.old) }
+        ensures loan { loan_of self.new ≡ loan_of self.old }
+        ensures ok { OnOk result (FinishesNode (value_of self.old) (value_of self.new)) }
+        ensures err { IfErr result (WhyNotClosed (word_of self.old)) }
+        ensures nothing_open { HasNoneOpen (word_of self.old) → result ≡ Err Fault.NothingOpen }
+        ensures unchanged { OnErr result (value_of self.new ≡ value_of self.old) }
     {
-        let Some(open) = self.parents.last().copied() else {
-            return Err(Fault::NothingOpen);
-        };
-        self.finished.reserve(1)?;
-        let (_, children) = self.finished.as_slice().split_at(open.first_child);
-        let node = GreenNode::from_slice(self.alloc, open.kind, children)?;
-        self.parents.pop();
-        self.finished.truncate(open.first_child);
-        self.finished.push(NodeOrToken::Node(node))?;
-        Ok(())
+        self.inner.finish_node()
     }
 
     /// The place where the next element goes: `start_node_at` opens a node there later. Takes no memory.
     pub fn checkpoint(&self) -> Checkpoint
-        ensures { HasCount self.now result }
+        ensures { HasCount (word_of self.now) result }
     {
-        Checkpoint {
-            place: self.finished.len(),
-        }
+        self.inner.checkpoint()
     }
 
     /// Opens a node at a checkpoint, around all that was finished since. Refused with `CheckpointPast` where the builder holds
     /// fewer finished elements than the checkpoint says, with `CheckpointBefore` where the innermost open node was opened
     /// behind it, and else only for want of memory.
     pub fn start_node_at(&mut self, checkpoint: Checkpoint, kind: SyntaxKind) -> Result<(), Fault>
-        ensures ok { OnOk result (Wraps self.old checkpoint kind.0 self.new) }
-        ensures err { IfErr result (WhyNotWrapped self.old checkpoint) }
-        ensures past { IsPast self.old checkpoint → result ≡ Err Fault.CheckpointPast }
-        ensures before { IsBeforeOpening self.old checkpoint → result ≡ Err Fault.CheckpointBefore }
-        ensures unchanged { OnErr result (self.new ≡ self.old) }
+        ensures loan { loan_of self.new ≡ loan_of self.old }
+        ensures ok { OnOk result (WrapsAt (value_of self.old) checkpoint kind.0 (value_of self.new)) }
+        ensures err { IfErr result (WhyNotWrapped (word_of self.old) checkpoint) }
+        ensures past { IsPast (word_of self.old) checkpoint → result ≡ Err Fault.CheckpointPast }
+        ensures before { IsBeforeOpening (word_of self.old) checkpoint → result ≡ Err Fault.CheckpointBefore }
+        ensures unchanged { OnErr result (value_of self.new ≡ value_of self.old) }
     {
-        let place = checkpoint.place;
-        if place > self.finished.len() {
-            return Err(Fault::CheckpointPast);
-        }
-        if place < innermost_place(self.parents.as_slice()) {
-            return Err(Fault::CheckpointBefore);
-        }
-        self.parents.push(OpenNode {
-            kind,
-            first_child: place,
-        })?;
-        Ok(())
+        self.inner.start_node_at(checkpoint, kind)
     }
 
-    /// Gives the finished tree: the one element that stands outside of all open nodes or in the last of them, which has to be
-    /// a node. Nodes that were never closed are left out. Refused with `NotOneElement` or `NotANode`; the builder then comes
-    /// back with the same word. Takes no memory.
-    pub fn finish(self) -> Result<GreenNode, Unfinished<'cache>>
-        ensures ok { IfOk result (IsFinished self.entry) }
-        ensures err { IfErr result (λ u. WhyUnfinished self.entry u.fault) }
-        ensures unchanged { IfErr result (λ u. u.word ≡ self.entry) }
+    /// The cache, for its counts. Takes no memory.
+    pub fn cache(&self) -> &NodeCache
+        ensures { result.now ≡ cache_of self.now }
     {
-        if self.finished.len() != 1 {
-            return Err(Unfinished {
-                builder: self,
-                fault: Fault::NotOneElement,
-            });
-        }
-        if let NodeOrToken::Token(_) = &self.finished[0] {
-            return Err(Unfinished {
-                builder: self,
-                fault: Fault::NotANode,
-            });
-        }
-        let GreenNodeBuilder { mut finished, .. } = self;
-        match finished.pop() {
-            Some(NodeOrToken::Node(node)) => Ok(node),
-            _ => unreachable!(),
-        }
+        self.inner.cache()
     }
-}
 
-// The place of the innermost open node, or 0.
-fn innermost_place(parents: &[OpenNode]) -> usize
-    ensures { result ≡ last_place 0 parents.now }
-{
-    match parents.last() {
-        Some(open) => open.first_child,
-        None => 0,
+    /// Lends the builder to a closure, and drops it then. A function that takes a builder by value says through this call what
+    /// the lent cache has afterwards.
+    pub fn run<R, F: FnOnce(&mut GreenNodeBuilder<'_, H>) -> R>(self, work: F) -> R
+        requires callable { F.IsAlwaysCallable work }
+        requires keeps { KeepsLoan (F.post work) }
+        ensures { LeavesCacheOfRun H.left (FnOnceReturnsAtMut F.FnOnce work) (value_of self.entry) result self.exit.0.now }
+    {
+        let GreenNodeBuilder { home, inner } = self;
+        let mut builder = GreenNodeBuilder { home, inner };
+        work(&mut builder)
     }
 }
 
 /// A builder that has no finished tree to give, and why: the error of `finish`.
-#[derive(Drop)]
-pub struct Unfinished<'cache> {
-    builder: GreenNodeBuilder<'cache>,
+pub struct Unfinished<'cache, H: CacheHome = NodeCache, B: HoldsCache = OwningBuilder> {
+    home: &'cache mut H,
+    inner: B,
     fault: Fault,
 }
 
-impl<'cache> Model for Unfinished<'cache> {
-    ghost use Rattle.rowan_green.specs.Word.{Refusal};
-
-    ghost Value = { Refusal };
-
-    ghost view = { λ u. record { word = u.builder; fault = u.fault } };
+impl<H: CacheHome, B: HoldsCache> Drop for Unfinished<'_, H, B> {
+    fn drop(self)
+        ensures { H.left self.exit.0.now (B.held self.entry.inner) }
+    {
+        let Unfinished {
+            home,
+            inner,
+            fault: _,
+        } = self;
+        home.leave(inner.give_back());
+    }
 }
 
-impl<'cache> Unfinished<'cache> {
+impl<'cache, H: CacheHome> Unfinished<'cache, H> {
     /// Why the tree is not finished: `NotOneElement` or `NotANode`.
     pub fn fault(&self) -> Fault
-        ensures { result ≡ self.now.fault }
+        ensures { result ≡ fault_of self.now }
     {
         self.fault
     }
 
-    /// The builder, with the word that it had before `finish`.
-    pub fn into_builder(self) -> GreenNodeBuilder<'cache>
-        ensures { result ≡ self.entry.word }
+    /// The builder, with the word and the cache that it had before `finish`.
+    pub fn into_builder(self) -> GreenNodeBuilder<'cache, H>
+        ensures loan { loan_of result ≡ returned_loan self.entry }
+        ensures value { value_of result ≡ returned self.entry }
     {
-        self.builder
+        let Unfinished {
+            home,
+            inner,
+            fault: _,
+        } = self;
+        GreenNodeBuilder { home, inner }
     }
 }

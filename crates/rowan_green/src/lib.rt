@@ -5,14 +5,16 @@ pub mod builder;
 pub mod fault;
 pub mod green;
 pub mod laws;
+pub mod node_cache;
 pub mod text;
 pub mod utility_types;
 
-pub use builder::{Checkpoint, GreenNodeBuilder, Unfinished};
+pub use builder::{Checkpoint, GreenNodeBuilder, OwnCache, Unfinished};
 pub use fault::Fault;
 pub use green::{
     Children, GreenElement, GreenElementRef, GreenNode, GreenNodeData, GreenToken, GreenTokenData,
     SyntaxKind,
 };
+pub use node_cache::NodeCache;
 pub use text::{TextLen, TextRange, TextSize};
 pub use utility_types::NodeOrToken;

@@ -1,0 +1,58 @@
+-- A builder and the cache that is lent to it: which cache it is, and what is left there when the builder ends.
+use Rattle.std.specs.Prelude.{◌≡◌, List, Result, Ok, Err}
+use Rattle.std.specs.Borrow.{Fml, GName, MutBor, follows_so}
+use Rattle.std.specs.Result.{OnOk, OnErr}
+use mathlib.Core.Option as maybe
+use Rattle.rowan_green.specs.declared.builder.GreenNodeBuilder.{GreenNodeBuilder}
+use Rattle.rowan_green.specs.declared.builder.Unfinished.{Unfinished}
+use Rattle.rowan_green.specs.declared.fault.Fault.{Fault}
+use Rattle.rowan_green.specs.contracts.node_cache.NodeCache.{the_row}
+use Rattle.rowan_green.specs.Builder.{BuilderValue}
+use Rattle.rowan_green.specs.Cache.{CacheValue}
+use Rattle.rowan_green.specs.Word.{Symbol}
+
+abbrev pub value_of : {H : Type 0} → GreenNodeBuilder H BuilderValue → BuilderValue
+value_of b = b.inner
+
+abbrev pub word_of : {H : Type 0} → GreenNodeBuilder H BuilderValue → List Symbol
+word_of b = (value_of b).word
+
+abbrev pub cache_of : {H : Type 0} → GreenNodeBuilder H BuilderValue → CacheValue
+cache_of b = (value_of b).cache
+
+-- the name of the `&mut` by which the builder has its cache's home
+abbrev pub loan_of : {H : Type 0} → GreenNodeBuilder H BuilderValue → GName
+loan_of b = b.home.ghost_name
+
+-- ---- a builder that `finish` hands back
+
+abbrev pub returned : {H : Type 0} → Unfinished H BuilderValue → BuilderValue
+returned u = u.inner
+
+abbrev pub fault_of : {H : Type 0} → Unfinished H BuilderValue → Fault
+fault_of u = u.fault
+
+abbrev pub returned_loan : {H : Type 0} → Unfinished H BuilderValue → GName
+returned_loan u = u.home.ghost_name
+
+-- ---- what the lent cache ends as
+
+abbrev pub loan_if_refused : {H A : Type 0} → Result A (Unfinished H BuilderValue) → maybe.Option GName
+loan_if_refused (Ok x) = maybe.none
+loan_if_refused (Err u) = maybe.some (returned_loan u)
+
+-- After success the lent cache has what the builder's cache had. After a refusal the loan goes on.
+abbrev pub LeavesCacheUnlessRefused : {A : Type 0} → GreenNodeBuilder CacheValue BuilderValue → Result A (Unfinished CacheValue BuilderValue) → Fml
+LeavesCacheUnlessRefused b r = follows_so the_row the_row (loan_of b) (loan_if_refused r) (λ x n. OnErr r (n ≡ x)) (λ n. OnOk r (n ≡ cache_of b))
+
+-- whatever the work answers, it leaves the builder with the loan that it had
+abbrev pub KeepsLoan : {H R : Type 0} → (MutBor (GreenNodeBuilder H BuilderValue) → R → MutBor (GreenNodeBuilder H BuilderValue) → Type 0) → Type 0
+KeepsLoan {H} {R} post = (shown left : MutBor (GreenNodeBuilder H BuilderValue)) (r : R) → post shown r left → loan_of left.now ≡ loan_of shown.now
+
+-- the work took a builder of this value to a last one, and what that has in its cache was left at the home
+pub record LeavesCacheOfRun {H R : Type 0} (left : H → CacheValue → Type 0) (ran : GreenNodeBuilder H BuilderValue → R → GreenNodeBuilder H BuilderValue → Type 0) (value : BuilderValue) (r : R) (home : H) : Type 0 where
+  pub first : GreenNodeBuilder H BuilderValue
+  pub begins : value_of first ≡ value
+  pub last : GreenNodeBuilder H BuilderValue
+  pub met : ran first r last
+  pub ends : left home (cache_of last)

@@ -1,0 +1,187 @@
+//! The builder over a cache of its own: all that a builder does to its word.
+ghost use Rattle.std.specs.Prelude.{◌≡◌, ◌<◌, [], ◌∷◌, ◌++◌, length, IfOk, IfErr, OnOk, OnErr};
+ghost use Rattle.rowan_green.specs.declared.utility_types.NodeOrToken.TheVariants.{Node, Token};
+ghost use Rattle.rowan_green.specs.Builder.{adds, opens, FinishesNode, WrapsAt};
+ghost use Rattle.rowan_green.specs.Fits.{byte_limit};
+ghost use Rattle.rowan_green.specs.Weave.{last_place};
+ghost use Rattle.rowan_green.specs.Word.{WhyNoToken, HasNoneOpen, WhyNotClosed, HasCount, IsPast, IsBeforeOpening, WhyNotWrapped, IsFinished, WhyUnfinished};
+
+use crate::builder::Checkpoint;
+use crate::builder::loan::HoldsCache;
+use crate::fault::Fault;
+use crate::green::{GreenNode, SyntaxKind};
+use crate::node_cache::{Interned, NodeCache};
+use crate::utility_types::NodeOrToken;
+use std::alloc::Global;
+use std::marker::Model;
+
+// A node that is not finished: its kind, and the number of elements that were finished before it.
+#[derive(Clone, Copy)]
+struct OpenNode {
+    kind: SyntaxKind,
+    first_child: usize,
+}
+
+/// A builder that has its cache by value. `GreenNodeBuilder` makes its calls.
+#[derive(Drop)]
+pub struct OwningBuilder {
+    parents: Vec<OpenNode>,
+    finished: Vec<Interned>,
+    cache: NodeCache,
+}
+
+impl Model for OwningBuilder {
+    ghost use Rattle.std.specs.Prelude.{length};
+    ghost use Rattle.rowan_green.specs.Builder.{BuilderValue};
+    ghost use Rattle.rowan_green.specs.BuilderCoding.{coded_builder};
+
+    ghost Value = { BuilderValue };
+
+    ghost coded = { coded_builder };
+
+    ghost use Rattle.rowan_green.specs.Cache.{AreNumbered, elements};
+    ghost use Rattle.rowan_green.specs.Word.{spelled};
+    ghost use Rattle.rowan_green.specs.Weave.{weave, AreInOrder};
+
+    ghost view = { λ b. record { word = spelled (weave 0 b.parents.items (elements b.finished.items)); cache = b.cache } };
+
+    ghost invariant = { λ b. AreInOrder 0 b.parents.items (length (elements b.finished.items)) × AreNumbered b.cache b.finished.items };
+}
+
+impl HoldsCache for OwningBuilder {
+    ghost held = { λ b. b.cache };
+
+    fn give_back(self) -> NodeCache {
+        self.cache
+    }
+}
+
+impl OwningBuilder {
+    pub(super) fn new(alloc: Global, cache: NodeCache) -> OwningBuilder
+        ensures { result ≡ record { word = []; cache = cache } }
+    {
+        OwningBuilder {
+            parents: Vec::new(alloc),
+            finished: Vec::new(alloc),
+            cache,
+        }
+    }
+
+    pub(super) fn token(&mut self, kind: SyntaxKind, text: &str) -> Result<(), Fault>
+        ensures ok { OnOk result (self.new ≡ adds self.old (record { kind = kind.0; text = text.now })) }
+        ensures err { IfErr result (WhyNoToken text.now) }
+        ensures too_long { byte_limit < length text.now → result ≡ Err Fault.TextTooLong }
+        ensures unchanged { OnErr result (self.new ≡ self.old) }
+    {
+        if text.len() > u32::MAX as usize {
+            return Err(Fault::TextTooLong);
+        }
+        self.finished.reserve(1)?;
+        let token = self.cache.token(kind, text)?;
+        self.finished.push(token)?;
+        Ok(())
+    }
+
+    pub(super) fn start_node(&mut self, kind: SyntaxKind) -> Result<(), Fault>
+        ensures ok { OnOk result (self.new ≡ opens self.old kind.0) }
+        ensures err { IfErr result (λ e. e ≡ Fault.Memory) }
+        ensures unchanged { OnErr result (self.new ≡ self.old) }
+    {
+        let first_child = self.finished.len();
+        self.parents.push(OpenNode { kind, first_child })?;
+        Ok(())
+    }
+
+    pub(super) fn finish_node(&mut self) -> Result<(), Fault>
+        ensures ok { OnOk result (FinishesNode self.old self.new) }
+        ensures err { IfErr result (WhyNotClosed self.old.word) }
+        ensures nothing_open { HasNoneOpen self.old.word → result ≡ Err Fault.NothingOpen }
+        ensures unchanged { OnErr result (self.new ≡ self.old) }
+    {
+        let Some(open) = self.parents.last().copied() else {
+            return Err(Fault::NothingOpen);
+        };
+        self.finished.reserve(1)?;
+        let (_, children) = self.finished.as_slice().split_at(open.first_child);
+        let node = self.cache.node(open.kind, children)?;
+        self.parents.pop();
+        self.finished.truncate(open.first_child);
+        self.finished.push(node)?;
+        Ok(())
+    }
+
+    pub(super) fn checkpoint(&self) -> Checkpoint
+        ensures { HasCount self.now.word result }
+    {
+        Checkpoint {
+            place: self.finished.len(),
+        }
+    }
+
+    pub(super) fn start_node_at(
+        &mut self,
+        checkpoint: Checkpoint,
+        kind: SyntaxKind,
+    ) -> Result<(), Fault>
+        ensures ok { OnOk result (WrapsAt self.old checkpoint kind.0 self.new) }
+        ensures err { IfErr result (WhyNotWrapped self.old.word checkpoint) }
+        ensures past { IsPast self.old.word checkpoint → result ≡ Err Fault.CheckpointPast }
+        ensures before { IsBeforeOpening self.old.word checkpoint → result ≡ Err Fault.CheckpointBefore }
+        ensures unchanged { OnErr result (self.new ≡ self.old) }
+    {
+        let place = checkpoint.place;
+        if place > self.finished.len() {
+            return Err(Fault::CheckpointPast);
+        }
+        if place < innermost_place(self.parents.as_slice()) {
+            return Err(Fault::CheckpointBefore);
+        }
+        self.parents.push(OpenNode {
+            kind,
+            first_child: place,
+        })?;
+        Ok(())
+    }
+
+    pub(super) fn cache(&self) -> &NodeCache
+        ensures { result.now ≡ self.now.cache }
+    {
+        &self.cache
+    }
+
+    // The finished tree and the cache; or the builder, and why it has none.
+    pub(super) fn finish(self) -> Result<(GreenNode, NodeCache), (OwningBuilder, Fault)>
+        ensures ok { IfOk result (λ p. IsFinished self.word p.0 × (p.1 ≡ self.cache)) }
+        ensures err { IfErr result (λ p. (p.0 ≡ self) × WhyUnfinished self.word p.1) }
+    {
+        if self.finished.len() != 1 {
+            return Err((self, Fault::NotOneElement));
+        }
+        if let NodeOrToken::Token(_) = &self.finished[0].element {
+            return Err((self, Fault::NotANode));
+        }
+        let OwningBuilder {
+            parents: _,
+            mut finished,
+            cache,
+        } = self;
+        let Some(last) = finished.pop() else {
+            unreachable!()
+        };
+        let Interned { number: _, element } = last;
+        match element {
+            NodeOrToken::Node(node) => Ok((node, cache)),
+            NodeOrToken::Token(_) => unreachable!(),
+        }
+    }
+}
+
+// The place of the innermost open node, or 0.
+fn innermost_place(parents: &[OpenNode]) -> usize
+    ensures { result ≡ last_place 0 parents.now }
+{
+    match parents.last() {
+        Some(open) => open.first_child,
+        None => 0,
+    }
+}
