@@ -5,6 +5,7 @@ pub mod Drops
 pub mod NumberLemmas
 pub mod Paths
 pub mod Sound
+pub mod StreamLemmas
 pub mod Terms
 pub mod WeaveLemmas
 pub mod Words

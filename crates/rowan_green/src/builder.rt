@@ -8,6 +8,7 @@ ghost use Rattle.std.specs.Fn.{FnOnceReturnsAtMut};
 ghost use Rattle.rowan_green.specs.Builder.{adds, opens, FinishesNode, WrapsAt};
 ghost use Rattle.rowan_green.specs.Fits.{byte_limit};
 ghost use Rattle.rowan_green.specs.Loan.{value_of, word_of, cache_of, loan_of, returned, fault_of, returned_loan, LeavesCacheUnlessRefused, KeepsLoan, LeavesCacheOfRun};
+ghost use Rattle.rowan_green.specs.Stream.{BuildsOn};
 ghost use Rattle.rowan_green.specs.Word.{WhyNoToken, HasNoneOpen, WhyNotClosed, HasCount, IsPast, IsBeforeOpening, WhyNotWrapped, IsFinished, WhyUnfinished};
 
 use crate::fault::Fault;
@@ -134,6 +135,7 @@ impl<H: CacheHome> GreenNodeBuilder<'_, H> {
         ensures err { IfErr result (WhyNoToken text.now) }
         ensures too_long { byte_limit < length text.now → result ≡ Err Fault.TextTooLong }
         ensures unchanged { OnErr result (value_of self.new ≡ value_of self.old) }
+        ensures stream { BuildsOn (value_of self.old) (value_of self.new) }
     {
         self.inner.token(kind, text)
     }
@@ -144,6 +146,7 @@ impl<H: CacheHome> GreenNodeBuilder<'_, H> {
         ensures ok { OnOk result (value_of self.new ≡ opens (value_of self.old) kind.0) }
         ensures err { IfErr result (λ e. e ≡ Fault.Memory) }
         ensures unchanged { OnErr result (value_of self.new ≡ value_of self.old) }
+        ensures stream { BuildsOn (value_of self.old) (value_of self.new) }
     {
         self.inner.start_node(kind)
     }
@@ -158,6 +161,7 @@ impl<H: CacheHome> GreenNodeBuilder<'_, H> {
         ensures err { IfErr result (WhyNotClosed (word_of self.old)) }
         ensures nothing_open { HasNoneOpen (word_of self.old) → result ≡ Err Fault.NothingOpen }
         ensures unchanged { OnErr result (value_of self.new ≡ value_of self.old) }
+        ensures stream { BuildsOn (value_of self.old) (value_of self.new) }
     {
         self.inner.finish_node()
     }
@@ -179,6 +183,7 @@ impl<H: CacheHome> GreenNodeBuilder<'_, H> {
         ensures past { IsPast (word_of self.old) checkpoint → result ≡ Err Fault.CheckpointPast }
         ensures before { IsBeforeOpening (word_of self.old) checkpoint → result ≡ Err Fault.CheckpointBefore }
         ensures unchanged { OnErr result (value_of self.new ≡ value_of self.old) }
+        ensures stream { BuildsOn (value_of self.old) (value_of self.new) }
     {
         self.inner.start_node_at(checkpoint, kind)
     }
