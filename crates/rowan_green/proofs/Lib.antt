@@ -1,7 +1,11 @@
+pub mod CacheLemmas
 pub mod ChildList
 pub mod Drops
+pub mod IndexLemmas
+pub mod NumberLemmas
 pub mod Paths
 pub mod Sound
+pub mod TableLemmas
 pub mod Terms
 pub mod WeaveLemmas
 pub mod Words

@@ -1,3 +1,5 @@
+pub mod Cache
+pub mod CacheCoding
 pub mod Coding
 pub mod Falls
 pub mod Fault
@@ -9,6 +11,7 @@ pub mod Path
 pub mod Same
 pub mod Sizes
 pub mod Span
+pub mod Tables
 pub mod Term
 pub mod TokenText
 pub mod View

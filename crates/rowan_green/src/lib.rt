@@ -5,6 +5,7 @@ pub mod builder;
 pub mod fault;
 pub mod green;
 pub mod laws;
+pub mod node_cache;
 pub mod text;
 pub mod utility_types;
 
@@ -14,5 +15,6 @@ pub use green::{
     Children, GreenElement, GreenElementRef, GreenNode, GreenNodeData, GreenToken, GreenTokenData,
     SyntaxKind,
 };
+pub use node_cache::NodeCache;
 pub use text::{TextLen, TextRange, TextSize};
 pub use utility_types::NodeOrToken;
