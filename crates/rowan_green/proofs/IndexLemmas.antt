@@ -1,5 +1,5 @@
 -- What a cache's fields keep while it grows by one token or one node.
-use Rattle.std.proofs.Common.{◌≡◌, ℕ, ◌+◌, ◌≤◌, true, false, cond, not, List, [], ◌∷◌, ◌++◌, length, Some, None, refl, sym, ◌∙◌, ap, subst, ◌⊎◌, inl, inr, arith}
+use Rattle.std.proofs.Common.{◌≡◌, ℕ, ◌+◌, ◌≤◌, true, false, cond, not, List, [], ◌∷◌, ◌++◌, length, Some, None, refl, sym, ◌∙◌, ap, subst, ◌⊎◌, inl, inr, arith, map}
 use Rattle.std.specs.Prelude.{nat_eq, fold, Vec}
 use Rattle.std.specs.List.{slice_get}
 use Rattle.std.specs.Cmp.Lexicographic.{pointwise, bytes_decides, nat_list_eq_equiv}
@@ -8,13 +8,14 @@ use Rattle.std.specs.declared.string.String.{String}
 use Rattle.std.specs.String.{string_bytes, string_eq}
 use Rattle.std.proofs.lemmas.Bool.{false_from_ne_true, cases_Bool, cases_eq}
 use Rattle.std.proofs.lemmas.List.Sums.{fold-append}
+use Rattle.rowan_green.specs.declared.node_cache.Interned.{Interned}
 use Rattle.rowan_green.specs.declared.utility_types.NodeOrToken.TheVariants.{Node, Token}
 use Rattle.rowan_green.specs.Term.{NodeTerm, node, Term, term_kind, term_text, node_of, node_kind, node_children}
 use Rattle.rowan_green.specs.Fits.{byte_limit, AreWithin}
-use Rattle.rowan_green.specs.Cache.{is_eligible, is_among, is_token, count_tokens, count_nodes}
+use Rattle.rowan_green.specs.Cache.{is_eligible, is_among, is_token, count_tokens, count_nodes, AreNumbered, elements}
 use Rattle.rowan_green.specs.Tables.{Numbers, PutsNumber, SameNumbers, number_of_token, number_of_node, StandAt, IsTokenAt, IsNodeAt, IsFoundAt, KeepsLimits, IsIndexed}
 use Rattle.rowan_green.proofs.CacheLemmas.{slice_get-grown, slice_get-last, slice_get-cases, place_from_is_among, first_seen-fresh, first_seen-once, StandsOnce}
-use Rattle.rowan_green.proofs.NumberLemmas.{StandAt-terms, StandAt-numbers, StandAt-grown}
+use Rattle.rowan_green.proofs.NumberLemmas.{StandAt-terms, StandAt-numbers, StandAt-grown, StandAt-elements}
 use Rattle.rowan_green.proofs.Terms.{terms-forest, forest-terms}
 
 -- ---- counts
@@ -38,7 +39,7 @@ same_text xs ys = (bytes_decides xs ys).0
 text_of_self : (xs : List ℕ) → bytes_eq xs xs ≡ true
 text_of_self xs = (bytes_decides xs xs).1 refl
 
-module _ {A B : Type 0} (limit : ℕ) (seen : List Term) (tokens : Numbers (String A)) (nodes : Numbers (Vec ℕ B)) (count : ℕ) (h : IsIndexed limit seen tokens nodes count) where
+module _ {A B : Type 0} {limit : ℕ} {seen : List Term} {tokens : Numbers (String A)} {nodes : Numbers (Vec ℕ B)} {count : ℕ} (h : IsIndexed limit seen tokens nodes count) where
   once : StandsOnce seen
   once = subst StandsOnce h.first (first_seen-once limit seen)
 
@@ -144,6 +145,17 @@ module _ {A B : Type 0} (limit : ℕ) (seen : List Term) (tokens : Numbers (Stri
       let same = StandAt-numbers seen once f.numbers ns ts (subst (λ us. StandAt seen f.numbers us) (terms-forest ts) f.children) stand in
       let at : number_of_node nodes kind ns ≡ Some p.0 = subst (λ ms. number_of_node nodes kind ms ≡ Some p.0) same f.found in
       cc)
+
+  -- what is found by the numbers of elements
+  module _ (kind : ℕ) (is : List Interned) (ns : List ℕ) (numbered : AreNumbered (record { limit = limit; seen = seen }) is) (written : map (λ i. i.number) is ≡ map (λ n. Some n) ns) where
+    pub elements-stand : StandAt seen ns (elements is)
+    elements-stand = StandAt-elements (record { limit = limit; seen = seen }) is ns numbered written
+
+    pub elements-known : (place : ℕ) → number_of_node nodes kind ns ≡ Some place → slice_get seen place ≡ Some (Node (node_of kind (elements is)))
+    elements-known place e = node-known kind place ns (elements is) elements-stand e
+
+    pub elements-fresh : number_of_node nodes kind ns ≡ None → is_among seen (Node (node_of kind (elements is))) ≡ false
+    elements-fresh e = node-fresh kind ns (elements is) elements-stand e
 
   module _ (kind : ℕ) (key : Vec ℕ B) (nodes' : Numbers (Vec ℕ B)) (ts : List Term) (stand : StandAt seen key.items ts)
       (puts : PutsNumber (λ x y. pointwise nat_eq x.items y.items) nodes nodes' kind key (length seen)) where

@@ -46,7 +46,7 @@ invariant_of-self-2 c =
     let fits : length (string_bytes key) ≤ byte_limit =
     elim (cases_lt byte_limit (length c.args.text.now)) [ inl long ↦ absurd (let no_token = c.in_ok-token.ensures.too_long long in cc) | inr short ↦ omega (arith, ap length text) ] in
     subst (λ ts. IsIndexed s.limit ts c.put.new.table s.nodes (s.token_count + 1)) (sym (grown ∙ ap (λ t. s.values.items ++ Token t ∷ []) kept))
-    (IsIndexed-token s.limit s.values.items s.tokens s.nodes s.token_count c.self.invariant c.args.kind.0 key c.put.new.table puts fresh fits)
+    (IsIndexed-token c.self.invariant c.args.kind.0 key c.put.new.table puts fresh fits)
 
 pub returns-clause-number : goal.returns-clause-number
 returns-clause-number c =
@@ -62,5 +62,5 @@ returns-clause-kept c =
     let cache : CacheValue = record { limit = s.limit; seen = s.values.items } in
     let grown : c.push.new.self.items ≡ s.values.items ++ t ∷ [] =
     c.in_ok-push.ensures.items ∙ ap (λ ts. ts ++ Token c.in_ok-kept.kept ∷ []) c.in_ok-reserve.ensures.items ∙ ap (λ (u : TokenTerm). s.values.items ++ Token u ∷ []) (c.in_ok-kept.ensures.cases ∙ c.in_ok-token.ensures.ok) in
-    let fresh = token-fresh s.limit s.values.items s.tokens s.nodes s.token_count c.self.invariant c.args.kind.0 c.args.text.now (sym c.token_number.ensures ∙ c.in_default.is) in
+    let fresh = token-fresh c.self.invariant c.args.kind.0 c.args.text.now (sym c.token_number.ensures ∙ c.in_default.is) in
     ap (λ (ts : List Term). record { limit = s.limit; seen = ts }) grown ∙ asked-fresh cache t refl fresh ∙ ap (λ v. asked v t) c.self.view_is
