@@ -4,6 +4,8 @@
 //! [`SyntaxNode`] is a place in the tree.
 #![tactic(auto)]
 
+pub mod script;
+
 pub use api::{Language, SyntaxNode};
 pub use builder::{Checkpoint, GreenNodeBuilder, Unfinished};
 pub use fault::Fault;
