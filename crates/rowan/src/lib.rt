@@ -4,6 +4,7 @@
 //! [`SyntaxNode`] is a place in the tree.
 #![tactic(auto)]
 
+pub mod laws;
 pub mod script;
 
 pub use api::{Language, SyntaxNode};
@@ -15,6 +16,6 @@ pub use green::{
 };
 pub use rowan_api::api;
 pub use rowan_cursor::cursor;
-pub use rowan_green::{builder, fault, green, laws, text, utility_types};
+pub use rowan_green::{builder, fault, green, text, utility_types};
 pub use text::{TextLen, TextRange, TextSize};
 pub use utility_types::NodeOrToken;
