@@ -1,6 +1,6 @@
 -- What is left to write in nodes that are open one in the other.
 use Rattle.std.proofs.Common.{◌≡◌, ℕ, ◌+◌, List, [], ◌∷◌, ◌++◌, arith}
-use Rattle.rowan_script.specs.declared.tree.OpenNode.{OpenNode}
+use Rattle.rowan_script.specs.declared.tree.print.OpenNode.{OpenNode}
 use Rattle.rowan_api.specs.Printed.{size_left}
 
 -- what is left in nodes that are still to be closed

@@ -2,7 +2,7 @@
 
 use crate::answer::{Answer, Answered};
 use crate::checkpoint;
-use crate::instruction::Instruction;
+use crate::instruction::{Call, Instruction};
 use crate::script::Line;
 use rowan::{Checkpoint, Fault, GreenNode, GreenNodeBuilder, SyntaxKind};
 use std::alloc::Global;
@@ -31,13 +31,10 @@ pub fn build<'cache, 's>(
     while let Some((line, others)) = rest.split_first() {
         rest = others;
         let answer = match &line.instruction {
-            Instruction::Parse(text) => return Ok(Built::Parse(line, text.as_str(), rest)),
+            Instruction::Call(call) => make_call(alloc, &mut builder, &mut marks, call)?,
             Instruction::Finish => match builder.finish() {
                 Ok(tree) => {
-                    answers.push(Answered {
-                        line: line.number,
-                        answer: Answer::Finished(tree.clone()?),
-                    })?;
+                    answers.push(line.answered(Answer::Finished(tree.clone()?)))?;
                     return Ok(Built::Finished(tree, rest));
                 }
                 Err(unfinished) => {
@@ -46,44 +43,41 @@ pub fn build<'cache, 's>(
                     Answer::Refused(fault)
                 }
             },
-            instruction => call(alloc, &mut builder, &mut marks, instruction)?,
+            Instruction::Parse(text) => return Ok(Built::Parse(line, text.as_str(), rest)),
+            // The builder borrows the cache that is asked for.
+            Instruction::Counts => Answer::Unsupported,
+            Instruction::Step(_) => Answer::NoTree,
         };
-        answers.push(Answered {
-            line: line.number,
-            answer,
-        })?;
+        answers.push(line.answered(answer))?;
     }
     Ok(Built::Open)
 }
 
-/// Makes the call that an instruction asks for.
-fn call<'s>(
+/// Makes a call that leaves the builder.
+fn make_call<'s>(
     alloc: Global,
     builder: &mut GreenNodeBuilder<'_>,
     marks: &mut Vec<Checkpoint>,
-    instruction: &Instruction,
+    call: &Call,
 ) -> Result<Answer<'s>, Fault> {
-    Ok(match instruction {
-        Instruction::Token(kind, text) => Answer::to_call(builder.token(*kind, text.as_str())),
-        Instruction::StartNode(kind) => Answer::to_call(builder.start_node(*kind)),
-        Instruction::FinishNode => Answer::to_call(builder.finish_node()),
-        Instruction::Mark => {
+    let outcome = match call {
+        Call::Token(kind, text) => builder.token(*kind, text.as_str()),
+        Call::StartNode(kind) => builder.start_node(*kind),
+        Call::FinishNode => builder.finish_node(),
+        Call::Mark => {
             let mark = builder.checkpoint();
             marks.push(mark)?;
-            Answer::Marked(checkpoint::number_of(alloc, mark)?)
+            return Ok(Answer::Marked(checkpoint::number_of(alloc, mark)?));
         }
-        Instruction::StartNodeAt(mark, kind) => match marks.get(*mark as usize) {
-            Some(mark) => Answer::to_call(builder.start_node_at(*mark, *kind)),
-            None => Answer::Refused(Fault::UnknownMark),
+        Call::StartNodeAt(mark, kind) => match marks.get(*mark as usize) {
+            Some(mark) => builder.start_node_at(*mark, *kind),
+            None => Err(Fault::UnknownMark),
         },
-        Instruction::StartNodeAtCheckpoint(tokens, kind) => {
-            let outcome = start_node_elsewhere(alloc, builder, *tokens as usize, *kind);
-            Answer::to_call(outcome)
+        Call::StartNodeAtCheckpoint(tokens, kind) => {
+            start_node_elsewhere(alloc, builder, *tokens as usize, *kind)
         }
-        Instruction::Step => Answer::NoTree,
-        // The counts of the cache are asked for while the builder borrows it.
-        _ => Answer::Unsupported,
-    })
+    };
+    Ok(Answer::to_call(outcome))
 }
 
 /// Opens a node at the checkpoint of another builder that holds so many tokens.

@@ -26,6 +26,7 @@ fn run<'s>(
         line: case.number,
         answer: Answer::Case(case.name),
     })?;
+    // The place where a builder will borrow the cache, or one of the case's own.
     if let Some(cache) = &case.cache {
         answers.push(Answered {
             line: cache.line,
@@ -39,10 +40,7 @@ fn run<'s>(
         Built::Open => return Ok(()),
     };
     for line in rest {
-        answers.push(Answered {
-            line: line.number,
-            answer: step(tree.as_ref(), &line.instruction),
-        })?;
+        answers.push(line.answered(step(tree.as_ref(), &line.instruction)))?;
     }
     Ok(())
 }
@@ -61,10 +59,7 @@ fn parse<'s>(
         }
         Err(fault) => (None, Answer::Refused(fault)),
     };
-    answers.push(Answered {
-        line: line.number,
-        answer,
-    })?;
+    answers.push(line.answered(answer))?;
     Ok(tree)
 }
 
@@ -72,10 +67,10 @@ fn parse<'s>(
 fn step<'s>(tree: Option<&GreenNode>, instruction: &Instruction) -> Answer<'s> {
     match instruction {
         Instruction::Counts => Answer::Unsupported,
-        Instruction::Step => match tree {
+        Instruction::Call(_) | Instruction::Finish | Instruction::Parse(_) => Answer::NoBuilder,
+        Instruction::Step(_) => match tree {
             Some(_) => Answer::Unsupported,
             None => Answer::NoTree,
         },
-        _ => Answer::NoBuilder,
     }
 }

@@ -1,5 +1,6 @@
 //! A script, cut into its cases.
 
+use crate::answer::{Answer, Answered};
 use crate::instruction::Instruction;
 use crate::operand;
 use anyhow::{Context, Result, bail, ensure};
@@ -34,6 +35,16 @@ pub struct CacheLine {
 pub struct Line {
     pub number: usize,
     pub instruction: Instruction,
+}
+
+impl Line {
+    /// An answer to this line.
+    pub fn answered<'a>(&self, answer: Answer<'a>) -> Answered<'a> {
+        Answered {
+            line: self.number,
+            answer,
+        }
+    }
 }
 
 impl<'a> Script<'a> {

@@ -1,6 +1,6 @@
 use Rattle.rowan_green.specs.Term.{node_children}
 use Rattle.rowan_api.proofs.Frames.{terms_size-child}
-use Rattle.rowan_script.proofs.tree.OpenNode.split_child.Goals as goal
+use Rattle.rowan_script.proofs.tree.print.OpenNode.split_child.Goals as goal
 
 pub returns-in-Some : goal.returns-in-Some
 returns-in-Some c =

@@ -2,7 +2,7 @@ use Rattle.std.proofs.Common.{ap, [], ◌∷◌, arith}
 use Rattle.rowan_green.specs.Lent.{pointee}
 use Rattle.rowan_green.specs.Sizes.{term_size}
 use Rattle.rowan_script.proofs.Frames.{sizes_left, sizes_left-append}
-use Rattle.rowan_script.proofs.tree.push_node.Goals as goal
+use Rattle.rowan_script.proofs.tree.print.push_node.Goals as goal
 
 pub loop-child-smaller-in_default : goal.loop-child-smaller-in_default
 loop-child-smaller-in_default c =
