@@ -1,8 +1,8 @@
 -- The number of whole terms of a word.
-use Rattle.std.proofs.Common.{◌≡◌, ℕ, ◌+◌, List, [], ◌∷◌, ◌++◌, length, refl, sym, ◌∙◌, ap, arith, length-append}
+use Rattle.std.proofs.Common.{◌≡◌, ℕ, ◌+◌, List, [], ◌∷◌, ◌++◌, length, refl, sym, ◌∙◌, ap, length-append}
 use Rattle.rowan_green.specs.declared.utility_types.NodeOrToken.TheVariants.{Token}
-use Rattle.rowan_green.specs.Term.{TokenTerm, Term}
-use Rattle.rowan_green.specs.Word.{Symbol, Leaf, Item, Whole, whole_terms, count, HasCount}
+use Rattle.rowan_green.specs.Term.{TokenTerm}
+use Rattle.rowan_green.specs.Word.{Symbol, Leaf, Whole, whole_terms, count, HasCount}
 use Rattle.rowan_green.proofs.WeaveLemmas.{whole_terms-append}
 use Rattle.rowan_green.proofs.Words.{parts-unique, parts-more}
 

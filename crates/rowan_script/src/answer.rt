@@ -1,4 +1,6 @@
 //! The answers to a script.
+ghost use Rattle.std.specs.Prelude.{◌≢◌, ◌↔◌, IsTrue};
+ghost use Rattle.rowan_script.specs.declared.answer.Answer.TheVariants.{Unsupported};
 
 use crate::{operand, tree};
 use rowan::{Fault, GreenNode};
@@ -36,6 +38,13 @@ impl<'a> Answer<'a> {
             Ok(()) => Answer::Accepted,
             Err(fault) => Answer::Refused(fault),
         }
+    }
+
+    /// Whether there is a call for what was asked.
+    pub fn is_supported(&self) -> bool
+        ensures { IsTrue result ↔ (self.now ≢ Unsupported) }
+    {
+        !matches!(self, Answer::Unsupported)
     }
 
     /// The line that is written.

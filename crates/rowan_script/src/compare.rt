@@ -1,4 +1,7 @@
 //! Compares answers with stored ones.
+ghost use Rattle.std.specs.Prelude.{◌≡◌, ◌≢◌, ◌↔◌, length, IfOk, IsTrue, IsSome, IsSomeAnd};
+ghost use Rattle.rowan_script.specs.declared.compare.Match.TheVariants.{Equal, Unsupported};
+ghost use Rattle.rowan_script.specs.Comparison.{CountsAll};
 
 use crate::answer::{Answer, Answered};
 use std::alloc::{AllocError, Global};
@@ -45,38 +48,59 @@ impl<'a> fmt::Display for Comparison<'a> {
     }
 }
 
-/// Compares answers with the lines of a stored text.
+/// How an answer stands to the stored one.
+#[derive(Clone, Copy, Debug, PartialEq, Eq)]
+enum Match {
+    Equal,
+    /// An answer `Unsupported` goes with any stored one.
+    Unsupported,
+    Other,
+}
+
+fn match_of(is_supported: bool, got: &str, wanted: Option<&str>) -> Match
+    ensures equal { result ≡ Equal ↔ (IsTrue is_supported × IsSomeAnd wanted.entry (λ text. text.now ≡ got.now)) }
+    ensures unsupported { result ≡ Unsupported ↔ (¬ IsTrue is_supported × IsSome wanted.entry) }
+{
+    match wanted {
+        None => Match::Other,
+        Some(_) if !is_supported => Match::Unsupported,
+        Some(text) if text == got => Match::Equal,
+        Some(_) => Match::Other,
+    }
+}
+
+/// Compares answers with the lines of a stored text, up to the first other one.
 pub fn compare<'a>(
     alloc: Global,
     answers: &[Answered<'_>],
     stored: &'a str,
-) -> Result<Comparison<'a>, AllocError> {
+) -> Result<Comparison<'a>, AllocError>
+    ensures { IfOk result (λ found. CountsAll found (length answers.now)) }
+{
     let mut lines = stored.split('\n').filter(|line| !line.is_empty());
-    let mut equal = 0usize;
-    let mut unsupported = 0usize;
+    let mut equal = 0;
+    let mut unsupported = 0;
     for answered in answers {
         let wanted = lines.next();
         let got = answered.answer.text(alloc)?;
-        if let Answer::Unsupported = &answered.answer
-            && wanted.is_some()
-        {
-            unsupported = unsupported.saturating_add(1);
-        } else if wanted == Some(got.as_str()) {
-            equal = equal.saturating_add(1);
-        } else {
-            return Ok(Comparison::Other {
-                line: Some(answered.line),
-                wanted,
-                got: Some(got),
-            });
+        match match_of(answered.answer.is_supported(), got.as_str(), wanted) {
+            Match::Equal => equal += 1,
+            Match::Unsupported => unsupported += 1,
+            Match::Other => {
+                return Ok(Comparison::Other {
+                    line: Some(answered.line),
+                    wanted,
+                    got: Some(got),
+                });
+            }
         }
     }
-    Ok(match lines.next() {
-        None => Comparison::Equal { equal, unsupported },
-        wanted => Comparison::Other {
+    match lines.next() {
+        None => Ok(Comparison::Equal { equal, unsupported }),
+        wanted => Ok(Comparison::Other {
             line: None,
             wanted,
             got: None,
-        },
-    })
+        }),
+    }
 }

@@ -11,7 +11,8 @@ returns-then-eq c =
 pub loop-number-preserved : goal.loop-number-preserved
 loop-number-preserved c =
     let same : c.loop-number.number ≡ c.checkpoint.result =
-        HasCount-unique c.loop-number.builder c.loop-number.number c.checkpoint.result c.loop-number.invariant.0 c.checkpoint.ensures in
-    let other : c.checkpoint.result ≢ c.args.checkpoint = eqb-false c.checkpoint.result c.args.checkpoint (sym c.if-eq.ensures) in
-    (rw c.in_ok-token.ensures.ok (HasCount-token c.loop-number.builder c.loop-number.number _ c.loop-number.invariant.0),
-    omega (arith, same, other, c.loop-number.invariant.1))
+    HasCount-unique c.loop-number.builder c.loop-number.number c.checkpoint.result c.loop-number.invariant.0 c.checkpoint.ensures in
+    let other : c.checkpoint.result ≢ c.args.checkpoint = eqb-false c.checkpoint.result c.args.checkpoint (sym c.if-eq.ensures) in (
+      rw c.in_ok-token.ensures.ok (HasCount-token c.loop-number.builder c.loop-number.number _ c.loop-number.invariant.0),
+      omega (arith, same, other, c.loop-number.invariant.1),
+    )
