@@ -26,15 +26,23 @@ fn run<'s>(
         line: case.number,
         answer: Answer::Case(case.name),
     })?;
-    // The place where a builder will borrow the cache, or one of the case's own.
+    // Caches are not lent yet: each case has a builder of its own.
     if let Some(cache) = &case.cache {
         answers.push(Answered {
             line: cache.line,
             answer: Answer::Unsupported,
         })?;
     }
+    answer_lines(alloc, case.lines.as_slice(), answers)
+}
+
+fn answer_lines<'s>(
+    alloc: Global,
+    lines: &'s [Line],
+    answers: &mut Vec<Answered<'s>>,
+) -> Result<(), Fault> {
     let builder = GreenNodeBuilder::new(alloc);
-    let (tree, rest) = match build(alloc, builder, case.lines.as_slice(), answers)? {
+    let (tree, rest) = match build(alloc, builder, lines, answers)? {
         Built::Finished(tree, rest) => (Some(tree), rest),
         Built::Parse(line, text, rest) => (parse(alloc, line, text, answers)?, rest),
         Built::Open => return Ok(()),
