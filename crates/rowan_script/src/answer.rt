@@ -3,7 +3,7 @@ ghost use Rattle.std.specs.Prelude.{◌≢◌, ◌↔◌, IsTrue};
 ghost use Rattle.rowan_script.specs.declared.answer.Answer.TheVariants.{Unsupported};
 
 use crate::{operand, tree};
-use rowan::{Fault, GreenNode};
+use rowan::{Fault, GreenNode, NodeCache};
 use std::alloc::{AllocError, Global};
 
 /// The answer to one line.
@@ -16,6 +16,8 @@ pub enum Answer<'a> {
     /// The number of a checkpoint.
     Marked(usize),
     Finished(GreenNode),
+    /// How many tokens and how many nodes a cache keeps.
+    Counts(usize, usize),
     /// A step before a tree is finished.
     NoTree,
     /// A building instruction after a tree is finished.
@@ -40,6 +42,11 @@ impl<'a> Answer<'a> {
         }
     }
 
+    /// The answer that tells what a cache keeps.
+    pub fn counts(cache: &NodeCache) -> Answer<'a> {
+        Answer::Counts(cache.token_count(), cache.node_count())
+    }
+
     /// Whether there is a call for what was asked.
     pub fn is_supported(&self) -> bool
         ensures { IsTrue result ↔ (self.now ≢ Unsupported) }
@@ -59,6 +66,7 @@ impl<'a> Answer<'a> {
                 tree::push_node(alloc, &mut text, root)?;
                 Ok(text)
             }
+            Answer::Counts(tokens, nodes) => format!(in alloc; "Counts {tokens} {nodes}"),
             Answer::NoTree => String::from_str(alloc, "NoTree"),
             Answer::NoBuilder => String::from_str(alloc, "NoBuilder"),
             Answer::Unsupported => String::from_str(alloc, "Unsupported"),

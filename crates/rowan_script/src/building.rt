@@ -44,8 +44,7 @@ pub fn build<'cache, 's>(
                 }
             },
             Instruction::Parse(text) => return Ok(Built::Parse(line, text.as_str(), rest)),
-            // The builder borrows the cache that is asked for.
-            Instruction::Counts => Answer::Unsupported,
+            Instruction::Counts => Answer::counts(builder.cache()),
             Instruction::Step(_) => Answer::NoTree,
         };
         answers.push(line.answered(answer))?;

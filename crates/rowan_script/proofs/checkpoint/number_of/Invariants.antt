@@ -3,4 +3,4 @@ use Rattle.rowan_green.specs.Word.{HasCount}
 use Rattle.rowan_script.proofs.checkpoint.number_of.Given as goal
 
 abbrev pub invariant-loop-number : goal.invariant-loop-number
-invariant-loop-number l = HasCount l.builder l.number × (l.number ≤ l.checkpoint)
+invariant-loop-number l = HasCount l.builder.inner.word l.number × (l.number ≤ l.checkpoint)
