@@ -15,7 +15,7 @@ use Rattle.rowan.specs.declared.script.calls.Call.TheVariants.{Token, StartNode,
 use Rattle.rowan.specs.declared.script.calls.Outcome.{Outcome}
 use Rattle.rowan.specs.declared.script.calls.Outcome.TheVariants.{Accepted, Marked, Refused}
 use Rattle.rowan.specs.Run.{Accepts, Gives, with_mark, RunFrom}
-use Rattle.rowan.specs.Stream.{asked_if_accepted, asked_by, stream_from, added_text, accepted_text}
+use Rattle.rowan.specs.Asked.{asked_if_accepted, asked_by, stream_from, added_text, accepted_text}
 use Rattle.rowan.proofs.Exact.{Closes-unique, Wraps-unique}
 
 -- ---- the cache

@@ -1,4 +1,4 @@
-//! Laws of what stands below this crate, and of runs, each as the contract of a function that does nothing.
+//! Laws of runs, each as the contract of a function that does nothing; and the laws of green trees.
 ghost use Rattle.std.specs.Prelude.{◌≡◌, List, [], ◌++◌, fold};
 ghost use Rattle.rowan_green.specs.Builder.{BuilderValue};
 ghost use Rattle.rowan_green.specs.Cache.{with_term, first_seen};
@@ -6,12 +6,9 @@ ghost use Rattle.rowan_green.specs.Word.{word_text};
 ghost use Rattle.rowan.specs.declared.script.calls.Call.{Call};
 ghost use Rattle.rowan.specs.declared.script.calls.Outcome.{Outcome};
 ghost use Rattle.rowan.specs.Run.{Run};
-ghost use Rattle.rowan.specs.Stream.{stream, accepted_text};
+ghost use Rattle.rowan.specs.Asked.{stream, accepted_text};
 
-pub use rowan_green::laws::{
-    equality_is_of_terms, node_has_its_children_text, word_determines_node, word_has_one_reading,
-    word_keeps_text,
-};
+pub use rowan_green::laws as green;
 
 /// After a run the cache keeps what it kept, and then the terms that the run asked for, each where it was first asked for.
 pub fn cache_keeps_the_stream()

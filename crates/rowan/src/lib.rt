@@ -8,14 +8,15 @@ pub mod laws;
 pub mod script;
 
 pub use api::{Language, SyntaxNode};
-pub use builder::{Checkpoint, GreenNodeBuilder, Unfinished};
+pub use builder::{Checkpoint, GreenNodeBuilder, OwnCache, Unfinished};
 pub use fault::Fault;
 pub use green::{
     Children, GreenElement, GreenElementRef, GreenNode, GreenNodeData, GreenToken, GreenTokenData,
     SyntaxKind,
 };
+pub use node_cache::NodeCache;
 pub use rowan_api::api;
 pub use rowan_cursor::cursor;
-pub use rowan_green::{builder, fault, green, text, utility_types};
+pub use rowan_green::{builder, fault, green, node_cache, text, utility_types};
 pub use text::{TextLen, TextRange, TextSize};
 pub use utility_types::NodeOrToken;
