@@ -2,9 +2,12 @@ pub mod BuilderLemmas
 pub mod CacheLemmas
 pub mod ChildList
 pub mod Drops
+pub mod IndexLemmas
 pub mod NumberLemmas
 pub mod Paths
 pub mod Sound
+pub mod StreamLemmas
+pub mod TableLemmas
 pub mod Terms
 pub mod WeaveLemmas
 pub mod Words

@@ -1,6 +1,6 @@
 -- Elements with their numbers: the numbers stay right while a cache grows, and a node of elements is eligible exactly where
 -- there are few enough of them and each has a number.
-use Rattle.std.proofs.Common.{◌≡◌, ℕ, Bool, true, ◌&&◌, List, [], ◌∷◌, ◌++◌, map, take, drop, zero, suc, length, Option, Some, None, refl, sym, ◌∙◌, ap, subst}
+use Rattle.std.proofs.Common.{◌≡◌, ℕ, Bool, true, false, ◌&&◌, List, [], ◌∷◌, ◌++◌, map, take, drop, zero, suc, length, Option, Some, None, refl, sym, ◌∙◌, ap, subst}
 use Rattle.std.specs.Prelude.{nat_le, is_some}
 use Rattle.std.specs.List.{list_all, slice_get}
 use Rattle.std.proofs.lemmas.List.{length-map}
@@ -119,3 +119,17 @@ StandAt-grown seen more [] [] h = tt
 StandAt-grown seen more [] (t ∷ ts) h = absurd h
 StandAt-grown seen more (n ∷ ns) [] h = absurd h
 StandAt-grown seen more (n ∷ ns) (t ∷ ts) h = (slice_get-grown seen more n t h.0, StandAt-grown seen more ns ts h.1)
+
+-- whether a node of elements is eligible, as the numbers say it
+pub is_eligible-kept : (cache : CacheValue) (k : ℕ) (is : List Interned) (kept : Bool) → AreNumbered cache is → kept ≡ (nat_le (length is) cache.limit && all_have_numbers is)
+    → is_eligible cache.limit (Node (node_of k (elements is))) ≡ kept
+is_eligible-kept cache k is kept h e = is_eligible-elements cache k is h ∙ sym e
+
+-- ---- what has a number
+
+pub IsNumbered-none : (cache : CacheValue) (t element : Term) → element ≡ t → is_eligible cache.limit t ≡ false → IsNumbered cache (record { number = None; element = element })
+IsNumbered-none cache t element e no_fit = record { numbered = ap (is_eligible cache.limit) e ∙ no_fit }
+
+pub IsNumbered-at : (cache : CacheValue) (place : ℕ) (t : Term) (i : Interned) → is_eligible cache.limit t ≡ true → slice_get cache.seen place ≡ Some t → i.element ≡ t → i.number ≡ Some place → IsNumbered cache i
+IsNumbered-at cache place t i fit stands is at =
+    record { numbered = subst (λ o. HasNumber cache i.element o) (sym at) (ap (is_eligible cache.limit) is ∙ fit, stands ∙ ap (λ u. Some u) (sym is)) }

@@ -14,6 +14,7 @@ pub mod Path
 pub mod Same
 pub mod Sizes
 pub mod Span
+pub mod Stream
 pub mod Tables
 pub mod Term
 pub mod TokenText

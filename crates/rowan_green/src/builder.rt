@@ -6,8 +6,10 @@ ghost use Rattle.std.specs.Prelude.{◌≡◌, ◌<◌, [], length, IfOk, IfErr,
 ghost use Rattle.std.specs.Borrow.{sem};
 ghost use Rattle.std.specs.Fn.{FnOnceReturnsAtMut};
 ghost use Rattle.rowan_green.specs.Builder.{adds, opens, FinishesNode, WrapsAt};
+ghost use Rattle.rowan_green.specs.Cache.{first_seen};
 ghost use Rattle.rowan_green.specs.Fits.{byte_limit};
 ghost use Rattle.rowan_green.specs.Loan.{value_of, word_of, cache_of, loan_of, returned, fault_of, returned_loan, LeavesCacheUnlessRefused, KeepsLoan, LeavesCacheOfRun};
+ghost use Rattle.rowan_green.specs.Stream.{BuildsOn};
 ghost use Rattle.rowan_green.specs.Word.{WhyNoToken, HasNoneOpen, WhyNotClosed, HasCount, IsPast, IsBeforeOpening, WhyNotWrapped, IsFinished, WhyUnfinished};
 
 use crate::fault::Fault;
@@ -17,7 +19,6 @@ pub use loan::{CacheHome, HoldsCache, NoHome, OwnCache};
 pub use owning::OwningBuilder;
 use std::alloc::Global;
 use std::marker::Model;
-use std::mem;
 
 /// A place in what a builder holds: the number of elements that are finished.
 ///
@@ -96,11 +97,12 @@ impl<'cache> GreenNodeBuilder<'cache> {
     pub fn with_cache(alloc: Global, cache: &'cache mut NodeCache) -> GreenNodeBuilder<'cache>
         ensures loan { loan_of result ≡ cache.entry.ghost_name }
         ensures empty { value_of result ≡ record { word = []; cache = cache.old } }
+        ensures first { first_seen cache.old.limit cache.old.seen ≡ cache.old.seen }
     {
-        let content = mem::replace(cache, NodeCache::new(alloc));
+        let kept = cache.take();
         GreenNodeBuilder {
             home: cache,
-            inner: OwningBuilder::new(alloc, content),
+            inner: OwningBuilder::new(alloc, kept),
         }
     }
 
@@ -134,6 +136,7 @@ impl<H: CacheHome> GreenNodeBuilder<'_, H> {
         ensures err { IfErr result (WhyNoToken text.now) }
         ensures too_long { byte_limit < length text.now → result ≡ Err Fault.TextTooLong }
         ensures unchanged { OnErr result (value_of self.new ≡ value_of self.old) }
+        ensures stream { BuildsOn (value_of self.old) (value_of self.new) }
     {
         self.inner.token(kind, text)
     }
@@ -144,6 +147,7 @@ impl<H: CacheHome> GreenNodeBuilder<'_, H> {
         ensures ok { OnOk result (value_of self.new ≡ opens (value_of self.old) kind.0) }
         ensures err { IfErr result (λ e. e ≡ Fault.Memory) }
         ensures unchanged { OnErr result (value_of self.new ≡ value_of self.old) }
+        ensures stream { BuildsOn (value_of self.old) (value_of self.new) }
     {
         self.inner.start_node(kind)
     }
@@ -158,6 +162,7 @@ impl<H: CacheHome> GreenNodeBuilder<'_, H> {
         ensures err { IfErr result (WhyNotClosed (word_of self.old)) }
         ensures nothing_open { HasNoneOpen (word_of self.old) → result ≡ Err Fault.NothingOpen }
         ensures unchanged { OnErr result (value_of self.new ≡ value_of self.old) }
+        ensures stream { BuildsOn (value_of self.old) (value_of self.new) }
     {
         self.inner.finish_node()
     }
@@ -179,6 +184,7 @@ impl<H: CacheHome> GreenNodeBuilder<'_, H> {
         ensures past { IsPast (word_of self.old) checkpoint → result ≡ Err Fault.CheckpointPast }
         ensures before { IsBeforeOpening (word_of self.old) checkpoint → result ≡ Err Fault.CheckpointBefore }
         ensures unchanged { OnErr result (value_of self.new ≡ value_of self.old) }
+        ensures stream { BuildsOn (value_of self.old) (value_of self.new) }
     {
         self.inner.start_node_at(checkpoint, kind)
     }

@@ -1,6 +1,7 @@
 //! Laws of terms and words, each as the contract of a function that does nothing.
-ghost use Rattle.std.specs.Prelude.{◌≡◌, ℕ, List};
+ghost use Rattle.std.specs.Prelude.{◌≡◌, ◌↔◌, ℕ, List, [], ◌∷◌, ◌++◌, Some, Contains, IsTrue, slice_get};
 ghost use Rattle.std.specs.Bool.{Decides};
+ghost use Rattle.rowan_green.specs.Cache.{is_eligible, with_term, first_seen, Continues};
 ghost use Rattle.rowan_green.specs.Same.{same_node, same_token};
 ghost use Rattle.rowan_green.specs.Term.{TokenTerm, NodeTerm, Term, node_of, node_len, node_text, sum_of_lens, joined_text};
 ghost use Rattle.rowan_green.specs.Word.{Symbol, Item, HasParts, HasTerms, node_word, word_text};
@@ -30,4 +31,13 @@ pub fn node_has_its_children_text()
 /// The text of a word's whole terms is the texts of its leaves, in order: a finished tree has the text of the accepted tokens.
 pub fn word_keeps_text()
     ensures { (w : List Symbol) (ts : List Term) → HasTerms w ts → word_text w ≡ joined_text ts }
+{}
+
+/// The terms that a cache with this limit keeps, after it was asked for the terms of a list: those of the list that are
+/// eligible, each once. They begin with what it kept before, and one more term is kept as if it had come at the list's end.
+pub fn cache_keeps_first_seen()
+    ensures members { (limit : ℕ) (ts : List Term) (t : Term) → Contains (first_seen limit ts) t ↔ (Contains ts t × IsTrue (is_eligible limit t)) }
+    ensures once { (limit : ℕ) (ts : List Term) (i j : ℕ) (t : Term) → slice_get (first_seen limit ts) i ≡ Some t → slice_get (first_seen limit ts) j ≡ Some t → i ≡ j }
+    ensures continues { (limit : ℕ) (ts us : List Term) → Continues (first_seen limit ts) (first_seen limit (ts ++ us)) }
+    ensures one_more { (limit : ℕ) (seen : List Term) (t : Term) → first_seen limit seen ≡ seen → with_term limit seen t ≡ first_seen limit (seen ++ t ∷ []) }
 {}

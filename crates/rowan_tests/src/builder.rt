@@ -1,6 +1,6 @@
 //! The builder of green trees.
 use crate::fixture::{node, tree, word};
-use rowan::{Fault, GreenNode, GreenNodeBuilder, SyntaxKind};
+use rowan::{Fault, GreenNode, GreenNodeBuilder, OwnCache, SyntaxKind};
 use std::alloc::Global;
 use std::test::Fail;
 
@@ -12,7 +12,7 @@ enum Call {
     Finish,
 }
 
-fn make(builder: &mut GreenNodeBuilder<'_>, call: Call) -> Result<(), Fault> {
+fn make(builder: &mut GreenNodeBuilder<'_, OwnCache>, call: Call) -> Result<(), Fault> {
     match call {
         Call::Start(kind) => builder.start_node(SyntaxKind(kind)),
         Call::Token(kind, text) => builder.token(SyntaxKind(kind), text),
@@ -21,7 +21,7 @@ fn make(builder: &mut GreenNodeBuilder<'_>, call: Call) -> Result<(), Fault> {
 }
 
 /// The builder's tree, or why it has none.
-fn finished(builder: GreenNodeBuilder<'_>) -> Result<GreenNode, Fault> {
+fn finished(builder: GreenNodeBuilder<'_, OwnCache>) -> Result<GreenNode, Fault> {
     match builder.finish() {
         Ok(tree) => Ok(tree),
         Err(unfinished) => Err(unfinished.fault()),

@@ -1,6 +1,6 @@
 //! Nodes that are opened at a checkpoint, around what is already finished.
 use rowan::builder::Checkpoint;
-use rowan::{Fault, GreenNode, GreenNodeBuilder, SyntaxKind};
+use rowan::{Fault, GreenNode, GreenNodeBuilder, OwnCache, SyntaxKind};
 use std::alloc::Global;
 use std::test::Fail;
 
@@ -17,7 +17,7 @@ enum Call {
 /// A builder with the marks that were taken.
 #[derive(Drop)]
 struct Run {
-    builder: GreenNodeBuilder<'static>,
+    builder: GreenNodeBuilder<'static, OwnCache>,
     marks: Vec<Checkpoint>,
 }
 

@@ -1,6 +1,7 @@
 -- How the items of a parser's builder change: with one more term, with one more open list, and with a list closed.
-use Rattle.std.proofs.Common.{◌≡◌, ℕ, ◌+◌, ◌-◌, ◌<◌, ◌≤◌, List, [], ◌∷◌, ◌++◌, map, length, refl, sym, ◌∙◌, ap, subst, arith, length-append}
-use Rattle.std.proofs.lemmas.List.{append-nil}
+use Rattle.std.proofs.Common.{◌≡◌, ℕ, ◌+◌, ◌-◌, ◌<◌, ◌≤◌, List, [], ◌∷◌, ◌++◌, map, take, get_or, length, refl, sym, ◌∙◌, ap, subst, arith, append_assoc, length-append}
+use Rattle.std.proofs.lemmas.List.{append-nil, take_more}
+use Rattle.std.proofs.lemmas.Grind.{flat_map-append}
 use Rattle.rowan_green.specs.declared.fault.Fault.{Fault}
 use Rattle.rowan_green.specs.declared.fault.Fault.TheVariants.{TextTooLong, TooManyChildren, CheckpointPast, CheckpointBefore, NothingOpen, NotOneElement, NotANode, OtherKind, NotFound, Memory, UnknownMark, NotOneList}
 use Rattle.rowan_green.specs.declared.utility_types.NodeOrToken.TheVariants.{Node, Token}
@@ -12,7 +13,7 @@ use Rattle.rowan_green.proofs.WeaveLemmas.{whole_terms-append, whole_terms-map, 
 use Rattle.rowan_green.proofs.Words.{parts-unique, parts-more, word_text-append, word_text-parts, word_text-terms}
 use Rattle.rowan_tool.specs.declared.sexp.lang.SyntaxKind.{SyntaxKind}
 use Rattle.rowan_tool.specs.declared.sexp.lang.SyntaxKind.TheVariants.{L_PAREN, R_PAREN, WORD, WHITESPACE, ERROR, LIST, ATOM, ROOT}
-use Rattle.rowan_tool.specs.Sexp.{IsTextOf}
+use Rattle.rowan_tool.specs.Sexp.{LexedToken, joined, IsTextOf}
 use Rattle.rowan_tool.specs.Parsing.{root_kind, bare_count, AreFilled, last_item, IsWhole, EndsWhole, IsInRoot, IsTree}
 
 bare_count-map : (ts : List Term) → bare_count (map Whole ts) ≡ 0
@@ -116,10 +117,10 @@ module _ (w : List Symbol) (items : List Item) (parts : HasParts w items) where
   closing_refused UnknownMark filled opened small h = absurd h
   closing_refused NotOneList filled opened small h = absurd h
 
-pub word_text-closes : (v w : List Symbol) → Closes v w → word_text w ≡ word_text v
+pub word_text-closes : {m : NodeTerm} (v w : List Symbol) → Closes v m w → word_text w ≡ word_text v
 word_text-closes v w h = ap word_text h.closed ∙ word_text-append v (Close ∷ []) ∙ append-nil (word_text v)
 
-closed_parts : (v w : List Symbol) (h : Closes v w) → HasParts w (h.before ++ Whole (Node (node_of h.kind h.children)) ∷ [])
+closed_parts : {m : NodeTerm} (v w : List Symbol) (h : Closes v m w) → HasParts w (h.before ++ Whole (Node (node_of h.kind h.children)) ∷ [])
 closed_parts v w h = record { spells = h.closed ∙ ap (λ u. u ++ Close ∷ []) h.parts.spells ∙ sym (spelled-close h.before h.kind h.children) }
 
 -- ---- the steps of the parser
@@ -155,7 +156,7 @@ IsInRoot-opens v u w n k t h e f filled = record {
     word_text-opens v u w k t e f = ap word_text f ∙ word_text-append u (Leaf t ∷ []) ∙ ap (λ bs. bs ++ (t.text ++ [])) (ap word_text e ∙ word_text-append v (Open k ∷ []) ∙ append-nil (word_text v)) ∙ ap (λ bs. word_text v ++ bs) (append-nil t.text)
 
 -- the innermost list closed
-pub IsInRoot-closes : (v w : List Symbol) (n : ℕ) → IsInRoot v n → 0 < n → Closes v w → IsInRoot w (n - 1)
+pub IsInRoot-closes : {m : NodeTerm} (v w : List Symbol) (n : ℕ) → IsInRoot v n → 0 < n → Closes v m w → IsInRoot w (n - 1)
 IsInRoot-closes v w n h some c = from c.before c.kind c.children (parts-unique v (Bare root_kind ∷ h.items) (c.before ++ Bare c.kind ∷ map Whole c.children) h.parts c.parts) (closed_parts v w c)
   where
     from : (before : List Item) (k : ℕ) (ts : List Term) → Bare root_kind ∷ h.items ≡ before ++ Bare k ∷ map Whole ts → HasParts w (before ++ Whole (Node (node_of k ts)) ∷ []) → IsInRoot w (n - 1)
@@ -213,13 +214,18 @@ IsInRoot-alone v w n k t h e some = IsInRoot-more v w n (Node (node_of k (Token 
 pub word_text-alone : (v w : List Symbol) (k : ℕ) (t : TokenTerm) → w ≡ v ++ Open k ∷ Leaf t ∷ Close ∷ [] → word_text w ≡ word_text v ++ t.text
 word_text-alone v w k t e = word_text-more v w (Node (node_of k (Token t ∷ []))) e refl ∙ ap (λ bs. word_text v ++ bs) (append-nil t.text)
 
+-- a node around one token, by its three symbols
+pub alone_word : (v u w x : List Symbol) (k : ℕ) (t : TokenTerm) → u ≡ v ++ Open k ∷ [] → w ≡ u ++ Leaf t ∷ [] → x ≡ w ++ Close ∷ [] → x ≡ v ++ Open k ∷ Leaf t ∷ Close ∷ []
+alone_word v u w x k t e f g =
+    g ∙ ap (λ y. y ++ Close ∷ []) (f ∙ ap (λ y. y ++ Leaf t ∷ []) e ∙ append_assoc v (Open k ∷ []) (Leaf t ∷ [])) ∙ append_assoc v (Open k ∷ Leaf t ∷ []) (Close ∷ [])
+
 -- an open node with one token in it can be closed
 pub alone_refused : (v u w : List Symbol) (n k : ℕ) (t : TokenTerm) (f : Fault) → IsInRoot v n → u ≡ v ++ Open k ∷ [] → w ≡ u ++ Leaf t ∷ [] → 0 < length t.text → length (word_text v) + length t.text ≤ byte_limit → WhyNotClosed w f → f ≡ Memory
 alone_refused v u w n k t f h e e' some room why =
     IsInRoot-refuses w (n + 1) f (IsInRoot-opens v u w n k t h e e' some) (omega (arith, room, length-word_text-token u w t e', ap length (word_text-open v u k e))) why
 
 -- the root closed
-pub IsTree-closes : (v w : List Symbol) → IsInRoot v 0 → Closes v w → IsTree w
+pub IsTree-closes : {m : NodeTerm} (v w : List Symbol) → IsInRoot v 0 → Closes v m w → IsTree w
 IsTree-closes v w h c = from c.before c.kind c.children (parts-unique v (Bare root_kind ∷ h.items) (c.before ++ Bare c.kind ∷ map Whole c.children) h.parts c.parts) (closed_parts v w c)
   where
     from : (before : List Item) (k : ℕ) (ts : List Term) → Bare root_kind ∷ h.items ≡ before ++ Bare k ∷ map Whole ts → HasParts w (before ++ Whole (Node (node_of k ts)) ∷ []) → IsTree w
@@ -254,3 +260,9 @@ IsTree-refuses w f h why = refuted f why
 -- a builder with the root open and nothing in it
 pub IsInRoot-starts : (w : List Symbol) → w ≡ Open root_kind ∷ [] → IsInRoot w 0
 IsInRoot-starts w e = record { items = []; parts = record { spells = e }; opened = refl; few = omega arith; filled = tt; ends = tt }
+
+-- the texts of the tokens so far, with the next one's
+pub joined-more : (tokens : List LexedToken) (i : ℕ) (nothing : LexedToken) → i < length tokens → joined (take (i + 1) tokens) ≡ joined (take i tokens) ++ (get_or tokens i nothing).1.now
+joined-more tokens i nothing h =
+    ap joined (take_more tokens i nothing h) ∙ flat_map-append (λ (token : LexedToken). token.1.now) (take i tokens) (get_or tokens i nothing ∷ [])
+    ∙ ap (λ bs. joined (take i tokens) ++ bs) (append-nil (get_or tokens i nothing).1.now)

@@ -7,4 +7,4 @@ mod parser;
 pub use lang::{Lang, SyntaxKind};
 pub use lexer::{Token, lex};
 pub use parsed::Parse;
-pub use parser::parse;
+pub use parser::{parse, parse_with};

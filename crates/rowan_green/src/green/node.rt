@@ -7,6 +7,7 @@ ghost use Rattle.rowan_green.specs.Lent.{pointee};
 
 use crate::fault::Fault;
 use crate::green::{Children, GreenElement, GreenElementRef, SyntaxKind};
+use crate::node_cache::Interned;
 use crate::text::TextSize;
 use crate::utility_types::NodeOrToken;
 use std::alloc::{AllocError, Global};
@@ -136,6 +137,8 @@ impl Model for GreenNode {
 }
 
 impl GreenNode {
+    ghost use Rattle.rowan_green.specs.Cache.{elements};
+
     /// The node of a kind and the children that an iterator gives. The first child at which a limit is passed decides how it
     /// is refused: `TooManyChildren` past 4,294,967,295 children, else `TextTooLong` past as many bytes of text; and else it is
     /// refused only for want of memory.
@@ -159,19 +162,19 @@ impl GreenNode {
         Ok(draft.finish(alloc, kind)?)
     }
 
-    // The node of a kind and these children, which stay with the caller too.
-    pub(crate) fn from_slice(
+    // The node of a kind and these elements, which stay with the caller too.
+    pub(crate) fn from_interned(
         alloc: Global,
         kind: SyntaxKind,
-        children: &[GreenElement],
+        children: &[Interned],
     ) -> Result<GreenNode, Fault>
-        ensures ok { IfOk result (λ n. n ≡ node_of kind.0 children.now) }
-        ensures within { OnOk result (AreWithin children.now) }
-        ensures err { IfErr result (λ e. e ≢ Fault.Memory → PassesLimit children.now e) }
+        ensures ok { IfOk result (λ n. n ≡ node_of kind.0 (elements children.now)) }
+        ensures within { OnOk result (AreWithin (elements children.now)) }
+        ensures err { IfErr result (λ e. e ≢ Fault.Memory → PassesLimit (elements children.now) e) }
     {
         let mut draft = NodeDraft::new(Vec::with_capacity(alloc, children.len())?);
         for child in children {
-            draft.push(child.as_ref().to_owned()?)?;
+            draft.push(child.element.as_ref().to_owned()?)?;
         }
         Ok(draft.finish(alloc, kind)?)
     }

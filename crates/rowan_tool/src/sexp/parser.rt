@@ -1,15 +1,20 @@
 //! The parser of s-expressions: no text is refused for its form, and no byte of it is lost.
 ghost use Rattle.std.specs.Prelude.{◌≡◌, ◌≢◌, ℕ, ◌+◌, ◌<◌, ◌≤◌, [], ◌∷◌, ◌++◌, length, IfOk, IfErr, OnOk};
+ghost use Rattle.rowan_green.specs.Cache.{first_seen};
 ghost use Rattle.rowan_green.specs.Fits.{byte_limit};
+ghost use Rattle.rowan_green.specs.Loan.{word_of, value_of, loan_of};
+ghost use Rattle.rowan_green.specs.Stream.{subterms, Grows, BuildsOn};
+ghost use Rattle.rowan_green.specs.declared.utility_types.NodeOrToken.TheVariants.{Node};
 ghost use Rattle.rowan_green.specs.Term.{node_text};
 ghost use Rattle.rowan_green.specs.Word.{Open, Leaf, Close, word_text};
 ghost use Rattle.rowan_tool.specs.Parsing.{IsInRoot, IsTree};
-ghost use Rattle.rowan_tool.specs.Sexp.{IsTextOf, number_of};
+ghost use Rattle.rowan_tool.specs.Sexp.{IsTextOf, IsToken, joined, number_of};
+ghost use Rattle.std.specs.List.{AllByRecursion};
 
 use crate::sexp::lang::SyntaxKind;
-use crate::sexp::lexer::lex;
+use crate::sexp::lexer::{Token, lex};
 use crate::sexp::parsed::Parse;
-use rowan::{Fault, GreenNode, GreenNodeBuilder};
+use rowan::{Fault, GreenNodeBuilder, NodeCache};
 use std::alloc::Global;
 
 /// Parses a text. The tree holds each byte of it: a list that is never closed runs to the end of the text, and a parenthesis
@@ -21,19 +26,52 @@ pub fn parse(alloc: Global, text: &str) -> Result<Parse, Fault>
     ensures too_long { byte_limit < length text.now → result ≡ Err Fault.TextTooLong }
     ensures fits { result ≡ Err Fault.TextTooLong → byte_limit < length text.now }
 {
+    let mut cache = NodeCache::new(alloc);
+    parse_with(alloc, text, &mut cache)
+}
+
+/// Parses a text as `parse` does, with a cache that is lent to the builder: what stands in the cache is shared, and what the
+/// tree has of tokens and of small nodes is in the cache afterwards. A parse that is refused for want of memory may leave some
+/// of its first ones there; one of a text past the limit leaves the cache as it was.
+pub fn parse_with(alloc: Global, text: &str, cache: &mut NodeCache) -> Result<Parse, Fault>
+    ensures text { IfOk result (λ p. node_text p ≡ text.now) }
+    ensures interned { IfOk result (λ p. cache.new.seen ≡ first_seen cache.old.limit (cache.old.seen ++ subterms (Node p))) }
+    ensures grows { Grows cache.old cache.new }
+    ensures err { IfErr result (λ e. e ≢ Fault.Memory → e ≡ Fault.TextTooLong) }
+    ensures too_long { byte_limit < length text.now → result ≡ Err Fault.TextTooLong }
+    ensures fits { result ≡ Err Fault.TextTooLong → byte_limit < length text.now }
+    ensures unchanged { result ≡ Err Fault.TextTooLong → cache.new ≡ cache.old }
+{
     if text.len() > u32::MAX as usize {
         return Err(Fault::TextTooLong);
     }
     let tokens = lex(alloc, text)?;
-    let mut builder = GreenNodeBuilder::new(alloc);
+    let mut builder = GreenNodeBuilder::with_cache(alloc, cache);
+    build(&mut builder, tokens.as_slice())?;
+    match builder.finish() {
+        Ok(green) => return Ok(Parse::new(green)),
+        Err(_unfinished) => unreachable!(),
+    }
+}
+
+/// Builds the tree of the tokens.
+fn build(builder: &mut GreenNodeBuilder<'_>, tokens: &[Token<'_>]) -> Result<(), Fault>
+    requires empty { word_of builder.old ≡ [] }
+    requires tokens { AllByRecursion IsToken tokens.now }
+    requires room { length (joined tokens.now) ≤ byte_limit }
+    ensures loan { loan_of builder.new ≡ loan_of builder.old }
+    ensures ok { OnOk result (IsTree (word_of builder.new)) }
+    ensures text { OnOk result (word_text (word_of builder.new) ≡ joined tokens.now) }
+    ensures err { IfErr result (λ e. e ≡ Fault.Memory) }
+    ensures stream { BuildsOn (value_of builder.old) (value_of builder.new) }
+{
     builder.start_node(SyntaxKind::ROOT.to_raw())?;
     let mut open_lists = 0;
-    for token in tokens.as_slice() {
-        open_lists = place(&mut builder, open_lists, token.0, token.1)?;
+    for token in tokens {
+        open_lists = place(builder, open_lists, token.0, token.1)?;
     }
-    close_lists(&mut builder, open_lists)?;
-    close_root(&mut builder)?;
-    Ok(Parse::new(tree_of(builder)))
+    close_lists(builder, open_lists)?;
+    close_root(builder)
 }
 
 /// Puts a token where it belongs, and answers how many lists are open then.
@@ -43,12 +81,14 @@ fn place(
     kind: SyntaxKind,
     text: &str,
 ) -> Result<usize, Fault>
-    requires in_root { IsInRoot builder.old open_lists }
+    requires in_root { IsInRoot (word_of builder.old) open_lists }
     requires token { IsTextOf kind text.now }
-    requires room { length (word_text builder.old) + length text.now ≤ byte_limit }
-    ensures ok { IfOk result (λ n. IsInRoot builder.new n) }
-    ensures text { OnOk result (word_text builder.new ≡ word_text builder.old ++ text.now) }
+    requires room { length (word_text (word_of builder.old)) + length text.now ≤ byte_limit }
+    ensures ok { IfOk result (λ n. IsInRoot (word_of builder.new) n) }
+    ensures text { OnOk result (word_text (word_of builder.new) ≡ word_text (word_of builder.old) ++ text.now) }
     ensures err { IfErr result (λ e. e ≡ Fault.Memory) }
+    ensures stream { BuildsOn (value_of builder.old) (value_of builder.new) }
+    ensures loan { loan_of builder.new ≡ loan_of builder.old }
 {
     match kind {
         SyntaxKind::L_PAREN => {
@@ -83,12 +123,14 @@ fn place_alone(
     kind: SyntaxKind,
     text: &str,
 ) -> Result<(), Fault>
-    requires in_root { (n : ℕ) × IsInRoot builder.old n }
+    requires in_root { (n : ℕ) × IsInRoot (word_of builder.old) n }
     requires nonempty { 0 < length text.now }
-    requires room { length (word_text builder.old) + length text.now ≤ byte_limit }
-    ensures ok { OnOk result (builder.new ≡ builder.old ++ Open (number_of node)
+    requires room { length (word_text (word_of builder.old)) + length text.now ≤ byte_limit }
+    ensures ok { OnOk result (word_of builder.new ≡ word_of builder.old ++ Open (number_of node)
         ∷ Leaf (record { kind = number_of kind; text = text.now }) ∷ Close ∷ []) }
     ensures err { IfErr result (λ e. e ≡ Fault.Memory) }
+    ensures stream { BuildsOn (value_of builder.old) (value_of builder.new) }
+    ensures loan { loan_of builder.new ≡ loan_of builder.old }
 {
     builder.start_node(node.to_raw())?;
     builder.token(kind.to_raw(), text)?;
@@ -97,11 +139,13 @@ fn place_alone(
 
 /// Closes the open lists at the end of the text.
 fn close_lists(builder: &mut GreenNodeBuilder<'_>, open_lists: usize) -> Result<(), Fault>
-    requires in_root { IsInRoot builder.old open_lists }
-    requires room { length (word_text builder.old) ≤ byte_limit }
-    ensures ok { OnOk result (IsInRoot builder.new 0) }
-    ensures text { OnOk result (word_text builder.new ≡ word_text builder.old) }
+    requires in_root { IsInRoot (word_of builder.old) open_lists }
+    requires room { length (word_text (word_of builder.old)) ≤ byte_limit }
+    ensures ok { OnOk result (IsInRoot (word_of builder.new) 0) }
+    ensures text { OnOk result (word_text (word_of builder.new) ≡ word_text (word_of builder.old)) }
     ensures err { IfErr result (λ e. e ≡ Fault.Memory) }
+    ensures stream { BuildsOn (value_of builder.old) (value_of builder.new) }
+    ensures loan { loan_of builder.new ≡ loan_of builder.old }
 {
     for _list in 0..open_lists {
         builder.finish_node()?;
@@ -111,22 +155,13 @@ fn close_lists(builder: &mut GreenNodeBuilder<'_>, open_lists: usize) -> Result<
 
 /// Closes the root, in which no list is open.
 fn close_root(builder: &mut GreenNodeBuilder<'_>) -> Result<(), Fault>
-    requires in_root { IsInRoot builder.old 0 }
-    requires room { length (word_text builder.old) ≤ byte_limit }
-    ensures ok { OnOk result (IsTree builder.new) }
-    ensures text { OnOk result (word_text builder.new ≡ word_text builder.old) }
+    requires in_root { IsInRoot (word_of builder.old) 0 }
+    requires room { length (word_text (word_of builder.old)) ≤ byte_limit }
+    ensures ok { OnOk result (IsTree (word_of builder.new)) }
+    ensures text { OnOk result (word_text (word_of builder.new) ≡ word_text (word_of builder.old)) }
     ensures err { IfErr result (λ e. e ≡ Fault.Memory) }
+    ensures stream { BuildsOn (value_of builder.old) (value_of builder.new) }
+    ensures loan { loan_of builder.new ≡ loan_of builder.old }
 {
     builder.finish_node()
-}
-
-/// The tree that the builder holds.
-fn tree_of(builder: GreenNodeBuilder<'_>) -> GreenNode
-    requires { IsTree builder }
-    ensures { node_text result ≡ word_text builder.entry }
-{
-    match builder.finish() {
-        Ok(green) => green,
-        Err(_unfinished) => unreachable!(),
-    }
 }

@@ -1,5 +1,6 @@
 use Rattle.std.proofs.Common.{◌≡◌, ◌+◌, ◌-◌, length, ap, ◌∙◌, subst, arith}
 use Rattle.std.proofs.lemmas.Result.{err_from_is_err_and}
+use Rattle.rowan_green.proofs.StreamLemmas.{BuildsOn-trans}
 use Rattle.rowan_tool.specs.Parsing.{IsInRoot}
 use Rattle.rowan_tool.proofs.ParsingLemmas.{IsInRoot-refuses, IsInRoot-closes, word_text-closes}
 use Rattle.rowan_tool.proofs.sexp.parser.close_lists.Goals as goal
@@ -7,17 +8,19 @@ use Rattle.rowan_tool.proofs.sexp.parser.close_lists.Goals as goal
 pub returns-in_err-finish_node-clause-err : goal.returns-in_err-finish_node-clause-err
 returns-in_err-finish_node-clause-err c =
     let p = err_from_is_err_and c.from_residual.result c.from_residual.ensures.1 in
-    let now = c.loop-list.builder in
+    let now = c.loop-list.builder.inner.word in
     rw (p.1, p.2) (IsInRoot-refuses now _ c.in_err-finish_node.field-0.0 c.loop-list.invariant.in_root (omega (arith, ap length c.loop-list.invariant.same_text, c.requires.room)) c.in_err-finish_node.ensures.err)
 
 pub loop-list-preserved : goal.loop-list-preserved
 loop-list-preserved c =
-    let v = c.loop-list.builder in
-    let w = c.finish_node.new.self in
+    let v = c.loop-list.builder.inner.word in
+    let w = c.finish_node.new.self.inner.word in
     let n = c.args.open_lists - c.loop-list._list in
-    let closes = c.in_ok-finish_node.ensures.ok in
+    let closes = c.in_ok-finish_node.ensures.ok.closes in
     let e : n - 1 ≡ c.args.open_lists - (c.loop-list._list + 1) = omega arith in
     record {
       in_root = subst (λ k. IsInRoot w k) e (IsInRoot-closes v w n c.loop-list.invariant.in_root (omega arith) closes);
       same_text = word_text-closes v w closes ∙ c.loop-list.invariant.same_text;
+      builds = BuildsOn-trans _ _ _ c.loop-list.invariant.builds c.finish_node.ensures.stream;
+      same_loan = c.finish_node.ensures.loan ∙ c.loop-list.invariant.same_loan;
     }

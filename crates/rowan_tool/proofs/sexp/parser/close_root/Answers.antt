@@ -7,11 +7,12 @@ use Rattle.rowan_tool.proofs.ParsingLemmas.{IsInRoot-refuses, IsTree-closes, wor
 use Rattle.rowan_tool.proofs.sexp.parser.close_root.Goals as goal
 
 pub returns-clause-ok : goal.returns-clause-ok
-returns-clause-ok c = on_ok_weaker c.finish_node.result (IsTree-closes c.args.builder.now c.finish_node.new.self c.requires.in_root) c.finish_node.ensures.ok
+returns-clause-ok c = on_ok_weaker c.finish_node.result (λ h. IsTree-closes c.args.builder.now.inner.word c.finish_node.new.self.inner.word c.requires.in_root h.closes) c.finish_node.ensures.ok
 
 pub returns-clause-text : goal.returns-clause-text
-returns-clause-text c = on_ok_weaker c.finish_node.result (word_text-closes c.args.builder.now c.finish_node.new.self) c.finish_node.ensures.ok
+returns-clause-text c = on_ok_weaker c.finish_node.result (λ h. word_text-closes c.args.builder.now.inner.word c.finish_node.new.self.inner.word h.closes) c.finish_node.ensures.ok
 
 pub returns-clause-err : goal.returns-clause-err
 returns-clause-err c =
-    IfErr-weaker c.finish_node.result (WhyNotClosed c.args.builder.now) (λ (e : Fault). e ≡ Memory) (λ e why. IsInRoot-refuses c.args.builder.now 0 e c.requires.in_root c.requires.room why) c.finish_node.ensures.err
+    let w = c.args.builder.now.inner.word in
+    IfErr-weaker c.finish_node.result (WhyNotClosed w) (λ (e : Fault). e ≡ Memory) (λ e why. IsInRoot-refuses w 0 e c.requires.in_root c.requires.room why) c.finish_node.ensures.err

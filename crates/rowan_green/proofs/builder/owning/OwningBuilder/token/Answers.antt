@@ -18,7 +18,7 @@ invariant_of-self-2 c =
       AreInOrder-grow 0 s.parents.items (length (elements s.finished.items)) _ c.self.invariant.0 (rw terms (omega (arith, length-append (elements s.finished.items) (Token t ∷ [])))),
       subst (λ is. AreNumbered c.token.new.self is) (sym pushed)
           (AreNumbered-push c.token.new.self s.finished.items c.in_ok-token.token
-          (subst (λ cache. AreNumbered cache s.finished.items) (sym c.in_ok-token.ensures.asked) (AreNumbered-asked s.cache (Token t) s.finished.items c.self.invariant.1)) c.in_ok-token.ensures.numbered),
+          (subst (λ cache. AreNumbered cache s.finished.items) (sym c.in_ok-token.ensures.kept) (AreNumbered-asked s.cache (Token t) s.finished.items c.self.invariant.1)) c.in_ok-token.ensures.number),
     )
 
 pub returns-clause-ok : goal.returns-clause-ok
@@ -31,5 +31,5 @@ returns-clause-ok c =
     ap (λ ts. spelled (weave 0 s.parents.items ts)) terms
     ∙ spelled-token s.parents.items (elements s.finished.items) t c.self.invariant.0
     ∙ ap (λ b. b.word ++ Leaf t ∷ []) c.self.view_is in
-    let cache = c.in_ok-token.ensures.asked ∙ ap (λ b. asked b.cache (Token t)) c.self.view_is in
+    let cache = c.in_ok-token.ensures.kept ∙ ap (λ b. asked b.cache (Token t)) c.self.view_is in
     same_value _ _ _ _ word cache

@@ -1,0 +1,5 @@
+use Rattle.rowan_green.proofs.StreamLemmas.{BuildsOn-adds}
+use Rattle.rowan_green.proofs.builder.GreenNodeBuilder+H.token.Goals as goal
+
+pub returns-clause-stream : goal.returns-clause-stream
+returns-clause-stream g c = BuildsOn-adds _ _ c.token.result _ c.token.ensures.ok c.token.ensures.unchanged

@@ -1,0 +1,35 @@
+use Rattle.std.proofs.Common.{rules, [], ◌++◌, length, get_or, sym, ap, ◌∙◌, arith}
+use Rattle.std.proofs.lemmas.List.Folds.{length-flat_map-take}
+use Rattle.rowan_green.proofs.StreamLemmas.{BuildsOn-trans}
+use Rattle.rowan_tool.specs.declared.sexp.lang.SyntaxKind.TheVariants.{L_PAREN}
+use Rattle.rowan_tool.specs.Sexp.{LexedToken}
+use Rattle.rowan_tool.proofs.ParsingLemmas.{joined-more}
+use Rattle.rowan_tool.proofs.sexp.parser.build.Goals as goal
+
+pub place-requires-clause-room : goal.place-requires-clause-room
+place-requires-clause-room c =
+    let items = c.args.tokens.now in
+    let i = c.loop-token.token-index in
+    let nothing : LexedToken = (L_PAREN, record { ref_ptr = (0, 0); now = [] }) in
+    omega (arith, ap length c.loop-token.invariant.so_far, length-flat_map-take (λ (token : LexedToken). token.1.now) items i nothing (omega (arith, c.loop-token-test.true)), c.requires.room)
+
+pub returns-in_err-open_lists-clause-stream : goal.returns-in_err-open_lists-clause-stream
+returns-in_err-open_lists-clause-stream c = BuildsOn-trans _ _ _ c.loop-token.invariant.builds c.place.ensures.stream
+
+pub loop-token-preserved : goal.loop-token-preserved
+loop-token-preserved c =
+    let tokens = c.args.tokens.now in
+    let i = c.loop-token.token-index in
+    let nothing : LexedToken = (L_PAREN, record { ref_ptr = (0, 0); now = [] }) in
+    record {
+      in_root = search rules;
+      so_far = c.in_ok-open_lists.ensures.text ∙ ap (λ bs. bs ++ (get_or tokens i nothing).1.now) c.loop-token.invariant.so_far ∙ sym (joined-more tokens i nothing (omega (arith, c.loop-token-test.true)));
+      builds = BuildsOn-trans _ _ _ c.loop-token.invariant.builds c.place.ensures.stream;
+      same_loan = c.place.ensures.loan ∙ c.loop-token.invariant.same_loan;
+    }
+
+pub returns-in_err-close_lists-clause-stream : goal.returns-in_err-close_lists-clause-stream
+returns-in_err-close_lists-clause-stream c = BuildsOn-trans _ _ _ c.loop-token.invariant.builds c.close_lists.ensures.stream
+
+pub returns-clause-stream : goal.returns-clause-stream
+returns-clause-stream c = BuildsOn-trans _ _ _ (BuildsOn-trans _ _ _ c.loop-token.invariant.builds c.close_lists.ensures.stream) c.close_root.ensures.stream
