@@ -2,6 +2,7 @@
 ghost use Rattle.std.specs.Prelude.{◌≡◌, List, [], ◌++◌, fold};
 ghost use Rattle.rowan_green.specs.Builder.{BuilderValue};
 ghost use Rattle.rowan_green.specs.Cache.{with_term, first_seen};
+ghost use Rattle.rowan_green.specs.Stream.{BuildsOn};
 ghost use Rattle.rowan_green.specs.Word.{word_text};
 ghost use Rattle.rowan.specs.declared.script.calls.Call.{Call};
 ghost use Rattle.rowan.specs.declared.script.calls.Outcome.{Outcome};
@@ -26,4 +27,10 @@ pub fn word_is_independent_of_the_cache()
 /// A run adds the texts of the accepted tokens to the text of the word, in order.
 pub fn run_adds_the_accepted_text()
     ensures { (old new : BuilderValue) (calls : List Call) (outcomes : List Outcome) → Run old calls outcomes new → word_text new.word ≡ word_text old.word ++ accepted_text calls outcomes }
+{}
+
+/// What the calls of a builder say of its cache holds of a run, too: the cache grew, and was asked for the subterms that ended
+/// meanwhile.
+pub fn run_builds_on()
+    ensures { (old new : BuilderValue) (calls : List Call) (outcomes : List Outcome) → Run old calls outcomes new → BuildsOn old new }
 {}
