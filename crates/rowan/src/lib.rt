@@ -4,6 +4,9 @@
 //! [`SyntaxNode`] is a place in the tree.
 #![tactic(auto)]
 
+pub mod laws;
+pub mod script;
+
 pub use api::{Language, SyntaxNode};
 pub use builder::{Checkpoint, GreenNodeBuilder, OwnCache, Unfinished};
 pub use fault::Fault;
@@ -14,6 +17,6 @@ pub use green::{
 pub use node_cache::NodeCache;
 pub use rowan_api::api;
 pub use rowan_cursor::cursor;
-pub use rowan_green::{builder, fault, green, laws, node_cache, text, utility_types};
+pub use rowan_green::{builder, fault, green, node_cache, text, utility_types};
 pub use text::{TextLen, TextRange, TextSize};
 pub use utility_types::NodeOrToken;

@@ -1,0 +1,36 @@
+//! Laws of runs, each as the contract of a function that does nothing; and the laws of green trees.
+ghost use Rattle.std.specs.Prelude.{◌≡◌, List, [], ◌++◌, fold};
+ghost use Rattle.rowan_green.specs.Builder.{BuilderValue};
+ghost use Rattle.rowan_green.specs.Cache.{with_term, first_seen};
+ghost use Rattle.rowan_green.specs.Stream.{BuildsOn};
+ghost use Rattle.rowan_green.specs.Word.{word_text};
+ghost use Rattle.rowan.specs.declared.script.calls.Call.{Call};
+ghost use Rattle.rowan.specs.declared.script.calls.Outcome.{Outcome};
+ghost use Rattle.rowan.specs.Run.{Run};
+ghost use Rattle.rowan.specs.Asked.{stream, accepted_text};
+
+pub use rowan_green::laws as green;
+
+/// After a run the cache keeps what it kept, and then the terms that the run asked for, each where it was first asked for.
+pub fn cache_keeps_the_stream()
+    ensures grows { (old new : BuilderValue) (calls : List Call) (outcomes : List Outcome) (run : Run old calls outcomes new) → new.cache ≡ record { limit = old.cache.limit; seen = fold (with_term old.cache.limit) old.cache.seen (stream run) } }
+    ensures from_empty { (old new : BuilderValue) (calls : List Call) (outcomes : List Outcome) (run : Run old calls outcomes new) → old.cache.seen ≡ [] → new.cache.seen ≡ first_seen old.cache.limit (stream run) }
+{}
+
+/// The calls and their outcomes alone determine the word after a run, and what the run asks the cache for: trees never depend
+/// on the cache.
+pub fn word_is_independent_of_the_cache()
+    ensures word { (old old' new new' : BuilderValue) (calls : List Call) (outcomes : List Outcome) → old.word ≡ old'.word → Run old calls outcomes new → Run old' calls outcomes new' → new.word ≡ new'.word }
+    ensures asked { (old old' new new' : BuilderValue) (calls : List Call) (outcomes : List Outcome) (run : Run old calls outcomes new) (run' : Run old' calls outcomes new') → old.word ≡ old'.word → stream run ≡ stream run' }
+{}
+
+/// A run adds the texts of the accepted tokens to the text of the word, in order.
+pub fn run_adds_the_accepted_text()
+    ensures { (old new : BuilderValue) (calls : List Call) (outcomes : List Outcome) → Run old calls outcomes new → word_text new.word ≡ word_text old.word ++ accepted_text calls outcomes }
+{}
+
+/// What the calls of a builder say of its cache holds of a run, too: the cache grew, and was asked for the subterms that ended
+/// meanwhile.
+pub fn run_builds_on()
+    ensures { (old new : BuilderValue) (calls : List Call) (outcomes : List Outcome) → Run old calls outcomes new → BuildsOn old new }
+{}
