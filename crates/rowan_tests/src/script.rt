@@ -43,7 +43,11 @@ fn a_mark_has_to_be_taken_first(rt: HostRuntime) -> Result<(), Fail> {
 
 /// `A[C[D["x"]]]`.
 fn nested(alloc: Global) -> Result<GreenNode, Fault> {
-    let inner = node(alloc, 8, vec![in alloc; GreenElement::from(word(alloc, 9, "x")?)]?)?;
+    let inner = node(
+        alloc,
+        8,
+        vec![in alloc; GreenElement::from(word(alloc, 9, "x")?)]?,
+    )?;
     node(alloc, 7, vec![in alloc; GreenElement::from(inner)]?)
 }
 
