@@ -1,18 +1,19 @@
 //! The builder of green trees.
 use crate::fixture::{node, tree, word};
-use rowan::{Fault, GreenNode, GreenNodeBuilder, OwnCache, SyntaxKind};
+use rowan::builder::CacheHome;
+use rowan::{Fault, GreenNode, GreenNodeBuilder, SyntaxKind};
 use std::alloc::Global;
 use std::test::Fail;
 
 /// A call of the builder.
 #[derive(Clone, Copy, Debug)]
-enum Call {
+pub enum Call {
     Start(u16),
     Token(u16, &'static str),
     Finish,
 }
 
-fn make(builder: &mut GreenNodeBuilder<'_, OwnCache>, call: Call) -> Result<(), Fault> {
+fn make<H: CacheHome>(builder: &mut GreenNodeBuilder<'_, H>, call: Call) -> Result<(), Fault> {
     match call {
         Call::Start(kind) => builder.start_node(SyntaxKind(kind)),
         Call::Token(kind, text) => builder.token(SyntaxKind(kind), text),
@@ -20,21 +21,25 @@ fn make(builder: &mut GreenNodeBuilder<'_, OwnCache>, call: Call) -> Result<(), 
     }
 }
 
-/// The builder's tree, or why it has none.
-fn finished(builder: GreenNodeBuilder<'_, OwnCache>) -> Result<GreenNode, Fault> {
-    match builder.finish() {
-        Ok(tree) => Ok(tree),
-        Err(unfinished) => Err(unfinished.fault()),
+/// Makes the calls, all of which are to be accepted.
+pub fn make_all<H: CacheHome>(
+    builder: &mut GreenNodeBuilder<'_, H>,
+    calls: &[Call],
+) -> Result<(), Fault> {
+    for call in calls {
+        make(builder, *call)?;
     }
+    Ok(())
 }
 
-/// The tree after calls, all of which are accepted, or why there is none.
-fn tree_of(alloc: Global, calls: &[Call]) -> Result<GreenNode, Fault> {
+/// The tree after calls, all of which are accepted, by a builder with its own cache.
+pub fn tree_of(alloc: Global, calls: &[Call]) -> Result<GreenNode, Fault> {
     let mut builder = GreenNodeBuilder::new(alloc);
-    for call in calls {
-        make(&mut builder, *call)?;
+    make_all(&mut builder, calls)?;
+    match builder.finish() {
+        Ok(tree) => return Ok(tree),
+        Err(unfinished) => return Err(unfinished.fault()),
     }
-    finished(builder)
 }
 
 const NESTED: [Call; 7] = [
@@ -61,45 +66,6 @@ fn nodes_may_be_empty(rt: HostRuntime) -> Result<(), Fail> {
     Ok(())
 }
 
-/// Calls after which there is no tree, and why.
-const REFUSED: [(&[Call], Fault); 7] = [
-    (&[], Fault::NotOneElement),
-    (&[Call::Start(7)], Fault::NotOneElement),
-    (&[Call::Token(1, "x")], Fault::NotANode),
-    (&[Call::Start(7), Call::Token(1, "x")], Fault::NotANode),
-    (
-        &[Call::Token(1, "x"), Call::Token(1, "y")],
-        Fault::NotOneElement,
-    ),
-    (
-        &[Call::Start(7), Call::Finish, Call::Start(7), Call::Finish],
-        Fault::NotOneElement,
-    ),
-    (
-        &[Call::Start(7), Call::Finish, Call::Token(1, "x")],
-        Fault::NotOneElement,
-    ),
-];
-
-#[test]
-fn unclosed_nodes_and_finish_refusals(rt: HostRuntime) -> Result<(), Fail> {
-    for (calls, fault) in REFUSED {
-        assert!(rt;
-            tree_of(rt.alloc(), calls).err() == Some(fault),
-            "{calls:?}"
-        );
-    }
-    let unclosed = [
-        Call::Start(7),
-        Call::Start(8),
-        Call::Token(1, "x"),
-        Call::Finish,
-    ];
-    let built = tree_of(rt.alloc(), unclosed.as_slice())?;
-    assert!(rt; built == word(rt.alloc(), 8, "x")?);
-    Ok(())
-}
-
 /// Calls with their answers. After them the tree is a node of kind 8 over the word `x`.
 const ANSWERED: [(Call, Result<(), Fault>); 6] = [
     (Call::Finish, Err(Fault::NothingOpen)),
@@ -116,6 +82,28 @@ fn a_refused_call_changes_nothing(rt: HostRuntime) -> Result<(), Fail> {
     for (call, answer) in ANSWERED {
         assert_eq!(rt; make(&mut builder, call), answer, "{call:?}");
     }
-    assert!(rt; finished(builder)? == word(rt.alloc(), 8, "x")?);
+    let Ok(tree) = builder.finish() else {
+        panic!(rt; "no tree");
+    };
+    assert!(rt; tree == word(rt.alloc(), 8, "x")?);
+    Ok(())
+}
+
+#[test]
+fn a_refused_finish_hands_the_builder_back(rt: HostRuntime) -> Result<(), Fail> {
+    let mut builder = GreenNodeBuilder::new(rt.alloc());
+    builder.start_node(SyntaxKind(1))?;
+    builder.token(SyntaxKind(9), "x")?;
+    let Err(unfinished) = builder.finish() else {
+        panic!(rt; "a token was taken for a tree");
+    };
+    assert_eq!(rt; unfinished.fault(), Fault::NotANode);
+    let mut builder = unfinished.into_builder();
+    builder.finish_node()?;
+    let Ok(tree) = builder.finish() else {
+        panic!(rt; "no tree");
+    };
+    let calls = [Call::Start(1), Call::Token(9, "x"), Call::Finish];
+    assert!(rt; tree == tree_of(rt.alloc(), calls.as_slice())?);
     Ok(())
 }

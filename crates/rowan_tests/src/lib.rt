@@ -4,7 +4,7 @@
 #[cfg(test)]
 mod builder;
 #[cfg(test)]
-mod checkpoints;
+mod cache;
 #[cfg(test)]
 mod children;
 #[cfg(test)]
