@@ -1,5 +1,5 @@
 -- Laws of runs: what a run makes of the cache, of the word, and of its text.
-use Rattle.std.proofs.Common.{◌≡◌, ℕ, List, [], ◌∷◌, ◌++◌, map, fold, Some, refl, sym, ◌∙◌, ap, append_assoc}
+use Rattle.std.proofs.Common.{◌≡◌, ℕ, List, [], ◌∷◌, ◌++◌, Ok, map, fold, Some, refl, sym, ◌∙◌, ap, append_assoc}
 use Rattle.std.proofs.lemmas.Grind.{fold-append}
 use Rattle.std.proofs.lemmas.List.{append-nil}
 use Rattle.std.specs.Prelude.{string_bytes}
@@ -14,8 +14,11 @@ use Rattle.rowan.specs.declared.script.calls.Call.{Call}
 use Rattle.rowan.specs.declared.script.calls.Call.TheVariants.{Token, StartNode, FinishNode, Mark, StartNodeAt, StartNodeAtCheckpoint}
 use Rattle.rowan.specs.declared.script.calls.Outcome.{Outcome}
 use Rattle.rowan.specs.declared.script.calls.Outcome.TheVariants.{Accepted, Marked, Refused}
-use Rattle.rowan.specs.Run.{Accepts, Gives, with_mark, RunFrom}
-use Rattle.rowan.specs.Stream.{asked_if_accepted, asked_by, stream_from, added_text, accepted_text}
+use Rattle.rowan_green.specs.declared.fault.Fault.{Fault}
+use Rattle.rowan_green.specs.Stream.{BuildsOn}
+use Rattle.rowan_green.proofs.StreamLemmas.{BuildsOn-same, BuildsOn-trans, BuildsOn-adds, BuildsOn-opens, BuildsOn-finishes, BuildsOn-wraps}
+use Rattle.rowan.specs.Run.{Run, Accepts, Gives, with_mark, RunFrom}
+use Rattle.rowan.specs.Asked.{asked_if_accepted, asked_by, stream_from, added_text, accepted_text}
 use Rattle.rowan.proofs.Exact.{Closes-unique, Wraps-unique}
 
 -- ---- the cache
@@ -147,3 +150,29 @@ text-run (call ∷ calls) (outcome ∷ outcomes) marks old new run =
     text-run calls outcomes (with_mark marks outcome) run.0 new run.2
     ∙ ap (λ t. t ++ accepted_text calls outcomes) (text-step marks old call outcome run.0 run.1.gives)
     ∙ append_assoc (word_text old.word) (added_text call outcome) (accepted_text calls outcomes)
+
+-- ---- what is left in the cache
+
+builds-accepted : (marks : List ℕ) (old : BuilderValue) (call : Call) (new : BuilderValue) → Accepts marks old call new → BuildsOn old new
+builds-accepted marks old (Token kind text) new a = BuildsOn-adds {E = Fault} old new (Ok tt) (record { kind = kind.0; text = string_bytes text }) a tt
+builds-accepted marks old (StartNode kind) new a = BuildsOn-opens {E = Fault} old new (Ok tt) kind.0 a tt
+builds-accepted marks old FinishNode new a = BuildsOn-finishes {E = Fault} old new (Ok tt) a tt
+builds-accepted marks old Mark new a = absurd a
+builds-accepted marks old (StartNodeAt mark kind) new a = BuildsOn-wraps {E = Fault} old new (Ok tt) a.0 kind.0 a.2 tt
+builds-accepted marks old (StartNodeAtCheckpoint c kind) new a = BuildsOn-wraps {E = Fault} old new (Ok tt) c kind.0 a tt
+
+builds-step : (marks : List ℕ) (old : BuilderValue) (call : Call) (outcome : Outcome) (new : BuilderValue) → Gives marks old call outcome new → BuildsOn old new
+builds-step marks old call Accepted new g = builds-accepted marks old call new g
+builds-step marks old call (Marked c) new g = BuildsOn-same old new g.2
+builds-step marks old call (Refused fault) new g = BuildsOn-same old new g.1
+
+pub builds-from : (calls : List Call) (outcomes : List Outcome) (marks : List ℕ) (old new : BuilderValue) → RunFrom marks old calls outcomes new → BuildsOn old new
+builds-from [] [] marks old new run = BuildsOn-same old new run
+builds-from [] (outcome ∷ outcomes) marks old new run = absurd run
+builds-from (call ∷ calls) [] marks old new run = absurd run
+builds-from (call ∷ calls) (outcome ∷ outcomes) marks old new run =
+    BuildsOn-trans old run.0 new (builds-step marks old call outcome run.0 run.1.gives) (builds-from calls outcomes (with_mark marks outcome) run.0 new run.2)
+
+-- a run is calls of the builder
+pub builds-run : (old new : BuilderValue) (calls : List Call) (outcomes : List Outcome) → Run old calls outcomes new → BuildsOn old new
+builds-run old new calls outcomes run = builds-from calls outcomes [] old new run.steps

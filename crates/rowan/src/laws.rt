@@ -1,17 +1,15 @@
-//! Laws of what stands below this crate, and of runs, each as the contract of a function that does nothing.
+//! Laws of runs, each as the contract of a function that does nothing; and the laws of green trees.
 ghost use Rattle.std.specs.Prelude.{◌≡◌, List, [], ◌++◌, fold};
 ghost use Rattle.rowan_green.specs.Builder.{BuilderValue};
 ghost use Rattle.rowan_green.specs.Cache.{with_term, first_seen};
+ghost use Rattle.rowan_green.specs.Stream.{BuildsOn};
 ghost use Rattle.rowan_green.specs.Word.{word_text};
 ghost use Rattle.rowan.specs.declared.script.calls.Call.{Call};
 ghost use Rattle.rowan.specs.declared.script.calls.Outcome.{Outcome};
 ghost use Rattle.rowan.specs.Run.{Run};
-ghost use Rattle.rowan.specs.Stream.{stream, accepted_text};
+ghost use Rattle.rowan.specs.Asked.{stream, accepted_text};
 
-pub use rowan_green::laws::{
-    equality_is_of_terms, node_has_its_children_text, word_determines_node, word_has_one_reading,
-    word_keeps_text,
-};
+pub use rowan_green::laws as green;
 
 /// After a run the cache keeps what it kept, and then the terms that the run asked for, each where it was first asked for.
 pub fn cache_keeps_the_stream()
@@ -29,4 +27,10 @@ pub fn word_is_independent_of_the_cache()
 /// A run adds the texts of the accepted tokens to the text of the word, in order.
 pub fn run_adds_the_accepted_text()
     ensures { (old new : BuilderValue) (calls : List Call) (outcomes : List Outcome) → Run old calls outcomes new → word_text new.word ≡ word_text old.word ++ accepted_text calls outcomes }
+{}
+
+/// What the calls of a builder say of its cache holds of a run, too: the cache grew, and was asked for the subterms that ended
+/// meanwhile.
+pub fn run_builds_on()
+    ensures { (old new : BuilderValue) (calls : List Call) (outcomes : List Outcome) → Run old calls outcomes new → BuildsOn old new }
 {}

@@ -3,6 +3,7 @@ mod calls;
 
 ghost use Rattle.std.specs.Prelude.{◌≡◌, IfOk, IfErr, OnErr};
 ghost use Rattle.rowan_green.specs.Loan.{value_of, word_of, loan_of};
+ghost use Rattle.rowan_green.specs.Stream.{BuildsOn};
 ghost use Rattle.rowan.specs.Run.{Gives, Precedes, Run};
 
 use crate::builder::{CacheHome, Checkpoint, GreenNodeBuilder};
@@ -26,6 +27,7 @@ pub fn replay<H: CacheHome>(
     ensures ok { IfOk result (λ outcomes. Run (value_of builder.old) calls.now outcomes.items (value_of builder.new)) }
     ensures err { IfErr result (λ e. e ≡ Fault.Memory) }
     ensures unchanged { OnErr result (value_of builder.new ≡ value_of builder.old) }
+    ensures stream { BuildsOn (value_of builder.old) (value_of builder.new) }
 {
     let mut outcomes = Vec::with_capacity(alloc, calls.len())?;
     let mut marks = Vec::with_capacity(alloc, calls.len())?;

@@ -14,19 +14,14 @@ pub enum Operation {
 }
 
 impl Operation {
-    /// The operation and the number of levels that the words ask for.
-    pub fn from_words(words: &[String]) -> Option<(Operation, usize)> {
-        if words.len() != 3 || words[0].as_str() != "depth" {
-            return None;
+    /// The operation of that name.
+    pub fn from_word(word: &str) -> Option<Operation> {
+        match word {
+            "parse" => Some(Operation::Parse),
+            "compare" => Some(Operation::Compare),
+            "show" => Some(Operation::Show),
+            _ => None,
         }
-        let operation = match words[1].as_str() {
-            "parse" => Operation::Parse,
-            "compare" => Operation::Compare,
-            "show" => Operation::Show,
-            _ => return None,
-        };
-        let levels = words[2].as_str().parse::<usize>().ok()?;
-        Some((operation, levels))
     }
 
     /// Does it, and answers how many bytes the tree has.

@@ -2,44 +2,122 @@
 #![tactic(auto)]
 
 mod depth;
+mod timed;
 
+use anyhow::{Context, Result, bail};
 use depth::Operation;
-use std::env;
+use rowan::{NodeCache, TextSize};
+use rowan_tool::sexp;
 use std::process::ExitCode;
+use std::time::Instant;
+use std::{env, io};
 
 const HELP: &str = "\
 usage: rowan_bench depth parse|compare|show LEVELS
+       rowan_bench build TOKENS
+       rowan_bench parse
+       rowan_bench intern tokens|nodes COUNT
 
-Parses that many lists, one in the other, and then
-  parse    drops the tree
-  compare  compares it with the tree of another parse
-  show     writes its text
-The status is 0 if it ends; a stack that is too small ends the process by a signal.";
+depth   parses that many lists, one in the other, and then
+          parse    drops the tree
+          compare  compares it with the tree of another parse
+          show     writes its text
+        The status is 0 if it ends; a stack that is too small ends the process by a signal.
+build   builds a tree of that many tokens, with a new cache and once more with the same cache
+parse   parses the s-expressions of standard input, with a new cache and once more with the same cache
+intern  makes that many tokens, or nodes of two tokens, no two equal, and keeps them in a cache";
 
 fn main(rt: HostRuntime) -> ExitCode {
-    let words: Option<Vec<String>> = match env::args(&rt) {
-        Ok(args) => args.skip(1).collect(rt.alloc()).ok(),
-        Err(_) => None,
-    };
-    let Some(words) = words else {
-        return ExitCode::FAILURE;
-    };
-    if words.is_empty() {
-        let _ = println!(rt; "{HELP}");
-        return ExitCode::SUCCESS;
-    }
-    let Some((operation, levels)) = Operation::from_words(words.as_slice()) else {
-        let _ = eprintln!(rt; "{HELP}");
-        return ExitCode::from(2);
-    };
-    match operation.run(rt.alloc(), levels) {
-        Ok(bytes) => {
-            let _ = println!(rt; "{levels} levels, {bytes} bytes");
-            ExitCode::SUCCESS
-        }
-        Err(fault) => {
-            let _ = eprintln!(rt; "rowan_bench: {fault}");
+    match run(&rt) {
+        Ok(()) => ExitCode::SUCCESS,
+        Err(why) => {
+            let _ = eprintln!(rt; "rowan_bench: {why}");
             ExitCode::FAILURE
         }
     }
+}
+
+fn run(rt: &HostRuntime) -> Result<()> {
+    let words: Vec<String> = env::args(rt)?.skip(1).collect(rt.alloc())?;
+    let words = words.as_slice();
+    let Some(command) = words.first() else {
+        println!(rt; "{HELP}")?;
+        return Ok(());
+    };
+    match command.as_str() {
+        "depth" => nest(rt, words),
+        "build" => build(rt, number_at(words, 1)?),
+        "parse" => parse(rt),
+        "intern" => intern(rt, words),
+        _ => bail!("there is no such command"),
+    }
+}
+
+/// The word at a place, as a number.
+fn number_at(words: &[String], place: usize) -> Result<usize> {
+    let number = words
+        .get(place)
+        .and_then(|word| word.as_str().parse::<usize>().ok());
+    number.context("a number is missing")
+}
+
+fn nest(rt: &HostRuntime, words: &[String]) -> Result<()> {
+    let word = words.get(1).map(|word| word.as_str());
+    let operation = word
+        .and_then(Operation::from_word)
+        .context("parse, compare or show is missing")?;
+    let levels = number_at(words, 2)?;
+    let bytes = operation.run(rt.alloc(), levels)?;
+    println!(rt; "{levels} levels, {bytes} bytes")?;
+    Ok(())
+}
+
+fn build(rt: &HostRuntime, tokens: usize) -> Result<()> {
+    let texts = timed::texts(rt.alloc(), tokens)?;
+    let mut cache = NodeCache::new(rt.alloc());
+    for state in ["new", "warm"] {
+        let start = Instant::now(rt)?;
+        let tree = timed::build(rt.alloc(), &mut cache, texts.as_slice(), tokens)?;
+        tell(rt, state, start, &cache, tree.text_len())?;
+    }
+    Ok(())
+}
+
+fn parse(rt: &HostRuntime) -> Result<()> {
+    let text = io::read_to_string(rt.alloc(), rt.reader())?;
+    let mut cache = NodeCache::new(rt.alloc());
+    for state in ["new", "warm"] {
+        let start = Instant::now(rt)?;
+        let tree = sexp::parse_with(rt.alloc(), text.as_str(), &mut cache)?;
+        tell(rt, state, start, &cache, tree.green().text_len())?;
+    }
+    Ok(())
+}
+
+fn intern(rt: &HostRuntime, words: &[String]) -> Result<()> {
+    let count = number_at(words, 2)?;
+    let mut cache = NodeCache::new(rt.alloc());
+    let start = Instant::now(rt)?;
+    match words.get(1).map(|word| word.as_str()) {
+        Some("tokens") => timed::intern_tokens(rt.alloc(), &mut cache, count)?,
+        Some("nodes") => timed::intern_nodes(rt.alloc(), &mut cache, count)?,
+        _ => bail!("tokens or nodes is missing"),
+    }
+    tell(rt, "new", start, &cache, TextSize::from(0))
+}
+
+/// Prints what was done, and since when.
+fn tell(
+    rt: &HostRuntime,
+    state: &str,
+    start: Instant,
+    cache: &NodeCache,
+    len: TextSize,
+) -> Result<()> {
+    let micros = start.elapsed(rt)?.as_micros();
+    let (tokens, nodes) = (cache.token_count(), cache.node_count());
+    println!(rt;
+        "{state} {micros} us, {len:?} bytes, {tokens} tokens and {nodes} nodes in the cache"
+    )?;
+    Ok(())
 }

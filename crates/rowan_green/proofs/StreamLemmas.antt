@@ -9,8 +9,8 @@ use Rattle.std.proofs.lemmas.Grind.{flat_map-append}
 use Rattle.std.specs.List.{flat_map}
 use Rattle.rowan_green.specs.declared.utility_types.NodeOrToken.TheVariants.{Node, Token}
 use Rattle.rowan_green.specs.Term.{TokenTerm, NodeTerm, Term, forest, node_of}
-use Rattle.rowan_green.specs.Word.{Symbol, Open, Leaf, Close, Item, Bare, Whole, spelled, HasParts, whole_terms, HasTerms, Closes, IsFinished}
-use Rattle.rowan_green.specs.Cache.{CacheValue, asked, with_term, first_seen, Continues}
+use Rattle.rowan_green.specs.Word.{Symbol, Open, Leaf, Close, Bare, Whole, spelled, whole_terms, HasTerms, Closes, IsFinished}
+use Rattle.rowan_green.specs.Cache.{CacheValue, asked, with_term, first_seen}
 use Rattle.rowan_green.specs.Builder.{BuilderValue, adds, opens, FinishesNode, WrapsAt}
 use Rattle.rowan_green.specs.Stream.{forest_subterms, subterms, asked_for, AskedForWord, Grows, BuildsOn}
 use Rattle.rowan_green.proofs.CacheLemmas.{Continues-with_term}
@@ -100,8 +100,8 @@ AskedForWord-finishes cache old new h f =
     let ended : subterms node ≡ flat_map subterms c.children ++ node ∷ [] = ap (λ m. subterms (Node m)) c.closes ∙ subterms-node_of c.kind c.children ∙ ap (λ m. flat_map subterms c.children ++ Node m ∷ []) (sym c.closes) in
     let before : flat_map subterms h.terms ≡ flat_map subterms outer ++ flat_map subterms c.children = ap (flat_map subterms) same ∙ flat_map-append subterms outer c.children in
     let behind : flat_map subterms (outer ++ node ∷ []) ≡ flat_map subterms h.terms ++ node ∷ [] =
-      flat_map-append subterms outer (node ∷ []) ∙ ap (λ us. flat_map subterms outer ++ us) (append-nil (subterms node) ∙ ended)
-      ∙ sym (append_assoc (flat_map subterms outer) (flat_map subterms c.children) (node ∷ [])) ∙ ap (λ us. us ++ node ∷ []) (sym before) in
+    flat_map-append subterms outer (node ∷ []) ∙ ap (λ us. flat_map subterms outer ++ us) (append-nil (subterms node) ∙ ended)
+    ∙ sym (append_assoc (flat_map subterms outer) (flat_map subterms c.children) (node ∷ [])) ∙ ap (λ us. us ++ node ∷ []) (sym before) in
     record {
       terms = outer ++ node ∷ [];
       stand = HasTerms-behind old.word f.node new.word c;

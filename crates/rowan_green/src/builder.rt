@@ -6,6 +6,7 @@ ghost use Rattle.std.specs.Prelude.{◌≡◌, ◌<◌, [], length, IfOk, IfErr,
 ghost use Rattle.std.specs.Borrow.{sem};
 ghost use Rattle.std.specs.Fn.{FnOnceReturnsAtMut};
 ghost use Rattle.rowan_green.specs.Builder.{adds, opens, FinishesNode, WrapsAt};
+ghost use Rattle.rowan_green.specs.Cache.{first_seen};
 ghost use Rattle.rowan_green.specs.Fits.{byte_limit};
 ghost use Rattle.rowan_green.specs.Loan.{value_of, word_of, cache_of, loan_of, returned, fault_of, returned_loan, LeavesCacheUnlessRefused, KeepsLoan, LeavesCacheOfRun};
 ghost use Rattle.rowan_green.specs.Stream.{BuildsOn};
@@ -18,7 +19,6 @@ pub use loan::{CacheHome, HoldsCache, NoHome, OwnCache};
 pub use owning::OwningBuilder;
 use std::alloc::Global;
 use std::marker::Model;
-use std::mem;
 
 /// A place in what a builder holds: the number of elements that are finished.
 ///
@@ -97,11 +97,12 @@ impl<'cache> GreenNodeBuilder<'cache> {
     pub fn with_cache(alloc: Global, cache: &'cache mut NodeCache) -> GreenNodeBuilder<'cache>
         ensures loan { loan_of result ≡ cache.entry.ghost_name }
         ensures empty { value_of result ≡ record { word = []; cache = cache.old } }
+        ensures first { first_seen cache.old.limit cache.old.seen ≡ cache.old.seen }
     {
-        let content = mem::replace(cache, NodeCache::new(alloc));
+        let kept = cache.take();
         GreenNodeBuilder {
             home: cache,
-            inner: OwningBuilder::new(alloc, content),
+            inner: OwningBuilder::new(alloc, kept),
         }
     }
 

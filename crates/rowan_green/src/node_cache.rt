@@ -15,6 +15,7 @@ use std::alloc::{AllocError, Global};
 use std::collections::HashMap;
 use std::hash::Hash;
 use std::marker::Model;
+use std::mem;
 
 /// The greatest number of children of a node that `NodeCache::new` keeps.
 const MAX_CHILDREN: usize = 3;
@@ -83,6 +84,15 @@ impl NodeCache {
             numbers: Vec::new(alloc),
             token_count: 0,
         }
+    }
+
+    // Takes what the cache keeps, for a builder to which it is lent. Until that is put back it keeps nothing.
+    pub(crate) fn take(&mut self) -> NodeCache
+        ensures kept { result ≡ self.old }
+        ensures first { first_seen self.old.limit self.old.seen ≡ self.old.seen }
+    {
+        let empty = NodeCache::with_limit(self.alloc, self.limit);
+        mem::replace(self, empty)
     }
 
     /// How many tokens the cache keeps.

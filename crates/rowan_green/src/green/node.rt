@@ -162,24 +162,7 @@ impl GreenNode {
         Ok(draft.finish(alloc, kind)?)
     }
 
-    // The node of a kind and these children, which stay with the caller too.
-    pub(crate) fn from_slice(
-        alloc: Global,
-        kind: SyntaxKind,
-        children: &[GreenElement],
-    ) -> Result<GreenNode, Fault>
-        ensures ok { IfOk result (λ n. n ≡ node_of kind.0 children.now) }
-        ensures within { OnOk result (AreWithin children.now) }
-        ensures err { IfErr result (λ e. e ≢ Fault.Memory → PassesLimit children.now e) }
-    {
-        let mut draft = NodeDraft::new(Vec::with_capacity(alloc, children.len())?);
-        for child in children {
-            draft.push(child.as_ref().to_owned()?)?;
-        }
-        Ok(draft.finish(alloc, kind)?)
-    }
-
-    // The same of elements that stand beside their numbers.
+    // The node of a kind and these elements, which stay with the caller too.
     pub(crate) fn from_interned(
         alloc: Global,
         kind: SyntaxKind,

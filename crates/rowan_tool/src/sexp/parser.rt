@@ -1,8 +1,9 @@
 //! The parser of s-expressions: no text is refused for its form, and no byte of it is lost.
 ghost use Rattle.std.specs.Prelude.{◌≡◌, ◌≢◌, ℕ, ◌+◌, ◌<◌, ◌≤◌, [], ◌∷◌, ◌++◌, length, IfOk, IfErr, OnOk};
+ghost use Rattle.rowan_green.specs.Cache.{first_seen};
 ghost use Rattle.rowan_green.specs.Fits.{byte_limit};
 ghost use Rattle.rowan_green.specs.Loan.{word_of, value_of, loan_of};
-ghost use Rattle.rowan_green.specs.Stream.{subterms, asked_for, Grows, BuildsOn};
+ghost use Rattle.rowan_green.specs.Stream.{subterms, Grows, BuildsOn};
 ghost use Rattle.rowan_green.specs.declared.utility_types.NodeOrToken.TheVariants.{Node};
 ghost use Rattle.rowan_green.specs.Term.{node_text};
 ghost use Rattle.rowan_green.specs.Word.{Open, Leaf, Close, word_text};
@@ -34,7 +35,7 @@ pub fn parse(alloc: Global, text: &str) -> Result<Parse, Fault>
 /// of its first ones there; one of a text past the limit leaves the cache as it was.
 pub fn parse_with(alloc: Global, text: &str, cache: &mut NodeCache) -> Result<Parse, Fault>
     ensures text { IfOk result (λ p. node_text p ≡ text.now) }
-    ensures interned { IfOk result (λ p. cache.new ≡ asked_for cache.old (subterms (Node p))) }
+    ensures interned { IfOk result (λ p. cache.new.seen ≡ first_seen cache.old.limit (cache.old.seen ++ subterms (Node p))) }
     ensures grows { Grows cache.old cache.new }
     ensures err { IfErr result (λ e. e ≢ Fault.Memory → e ≡ Fault.TextTooLong) }
     ensures too_long { byte_limit < length text.now → result ≡ Err Fault.TextTooLong }

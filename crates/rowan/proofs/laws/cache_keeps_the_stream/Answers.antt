@@ -1,6 +1,6 @@
 use Rattle.std.proofs.Common.{◌∙◌, ap, fold}
 use Rattle.rowan_green.specs.Cache.{with_term}
-use Rattle.rowan.specs.Stream.{stream}
+use Rattle.rowan.specs.Asked.{stream}
 use Rattle.rowan.proofs.RunLaws.{cache-run}
 use Rattle.rowan.proofs.laws.cache_keeps_the_stream.Goals as goal
 

@@ -1,6 +1,7 @@
-use Rattle.std.proofs.Common.{◌≡◌, [], ◌∷◌, ◌++◌, vec_len, vec_capacity, sym, ◌∙◌, ap, arith}
+use Rattle.std.proofs.Common.{◌≡◌, [], ◌∷◌, ◌++◌, take, vec_len, vec_capacity, sym, ◌∙◌, ap, arith}
 use Rattle.rowan_green.specs.Loan.{value_of}
 use Rattle.rowan.specs.Run.{Step, with_mark}
+use Rattle.rowan.proofs.RunLaws.{builds-from}
 use Rattle.rowan.proofs.Runs.{with_mark-other, with_marks-more, RunFrom-more}
 use Rattle.rowan.proofs.script.replay.Goals as goal
 use Rattle.rowan.proofs.script.replay.Goals.{in-Marked, in_default}
@@ -24,3 +25,7 @@ loop-call-preserved g c =
       marks_room = elim c.match-outcome.branch [ in-Marked w ↦ omega (arith, ap vec_capacity w.marks-is) | in_default w ↦ omega (arith, ap vec_capacity w.marks-is) ];
       marks_len = elim c.match-outcome.branch [ in-Marked w ↦ omega (arith, ap vec_len w.marks-is) | in_default w ↦ omega (arith, ap vec_len w.marks-is) ];
     }
+
+pub returns-clause-stream : goal.returns-clause-stream
+returns-clause-stream g c =
+    builds-from (take c.loop-call.call-index c.args.calls.now) c.loop-call.outcomes.items [] (value_of c.args.builder.now) (value_of c.loop-call.builder) c.loop-call.invariant.run

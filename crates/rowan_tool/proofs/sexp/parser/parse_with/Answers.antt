@@ -1,9 +1,10 @@
-use Rattle.std.proofs.Common.{◌≡◌, sym, ◌∙◌, ap, subst}
+use Rattle.std.proofs.Common.{◌++◌, ◌≡◌, sym, ◌∙◌, ap, subst}
 use Rattle.std.specs.Result.{OnOk}
 use Rattle.rowan_green.specs.declared.utility_types.NodeOrToken.TheVariants.{Node}
-use Rattle.rowan_green.specs.Stream.{subterms, asked_for}
+use Rattle.rowan_green.specs.Cache.{first_seen}
+use Rattle.rowan_green.specs.Stream.{subterms}
 use Rattle.rowan_green.specs.Term.{node_text}
-use Rattle.rowan_green.proofs.StreamLemmas.{AskedForWord-starts, AskedForWord-finished}
+use Rattle.rowan_green.proofs.StreamLemmas.{AskedForWord-starts, AskedForWord-finished, asked_for-first_seen}
 use Rattle.rowan_tool.specs.Sexp.{joined}
 use Rattle.rowan_tool.proofs.ParsingLemmas.{IsTree-finishes, IsTree-refuses}
 use Rattle.rowan_tool.proofs.sexp.parser.parse_with.Goals as goal
@@ -19,7 +20,9 @@ returns-in-Ok-clause-interned c =
     let ended = c.build.new.builder.inner in
     let asked = c.build.ensures.stream.keeps c.args.cache.now (AskedForWord-starts c.args.cache.now began (ap (λ b. b.word) c.with_cache-builder.ensures.empty) (ap (λ b. b.cache) c.with_cache-builder.ensures.empty)) in
     let left = subst (λ r. OnOk r (c.finish.follows.lender-at-none ≡ ended.cache)) c.in-Ok.is c.finish.follows.holds-at-none in
-    c.cache-in-Ok-2.given.1 (sym (c.build.ensures.loan ∙ c.with_cache-builder.ensures.loan)) ∙ left ∙ AskedForWord-finished c.args.cache.now ended c.in-Ok.green asked c.in-Ok.ensures.ok ∙ ap (λ n. asked_for c.args.cache.now (subterms (Node n))) (sym c.new.ensures)
+    let all = c.cache-in-Ok-2.given.1 (sym (c.build.ensures.loan ∙ c.with_cache-builder.ensures.loan)) ∙ left ∙ AskedForWord-finished c.args.cache.now ended c.in-Ok.green asked c.in-Ok.ensures.ok in
+    ap (λ d. d.seen) (all ∙ asked_for-first_seen c.args.cache.now (subterms (Node c.in-Ok.green)) c.with_cache-builder.ensures.first)
+    ∙ ap (λ n. first_seen c.args.cache.now.limit (c.args.cache.now.seen ++ subterms (Node n))) (sym c.new.ensures)
 
 pub unreachable-requires : goal.unreachable-requires
 unreachable-requires c = IsTree-refuses c.build.new.builder.inner.word c.in-Err._unfinished.fault c.in_ok-build.ensures.ok c.in-Err.ensures.err

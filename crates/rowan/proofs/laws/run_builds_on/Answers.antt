@@ -1,0 +1,5 @@
+use Rattle.rowan.proofs.RunLaws.{builds-run}
+use Rattle.rowan.proofs.laws.run_builds_on.Goals as goal
+
+pub returns : goal.returns
+returns c = builds-run

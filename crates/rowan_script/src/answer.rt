@@ -1,0 +1,75 @@
+//! The answers to a script.
+ghost use Rattle.std.specs.Prelude.{◌≢◌, ◌↔◌, IsTrue};
+ghost use Rattle.rowan_script.specs.declared.answer.Answer.TheVariants.{Unsupported};
+
+use crate::{operand, tree};
+use rowan::{Fault, GreenNode, NodeCache};
+use std::alloc::{AllocError, Global};
+
+/// The answer to one line.
+#[derive(Drop)]
+pub enum Answer<'a> {
+    /// A case begins.
+    Case(&'a str),
+    Accepted,
+    Refused(Fault),
+    /// The number of a checkpoint.
+    Marked(usize),
+    Finished(GreenNode),
+    /// How many tokens and how many nodes a cache keeps.
+    Counts(usize, usize),
+    /// A step before a tree is finished.
+    NoTree,
+    /// A building instruction after a tree is finished.
+    NoBuilder,
+    /// The instruction has no call yet.
+    Unsupported,
+}
+
+/// An answer, and the number of the script's line that it is to.
+#[derive(Drop)]
+pub struct Answered<'a> {
+    pub line: usize,
+    pub answer: Answer<'a>,
+}
+
+impl<'a> Answer<'a> {
+    /// The answer to a call that can be refused.
+    pub fn to_call(outcome: Result<(), Fault>) -> Answer<'a> {
+        match outcome {
+            Ok(()) => Answer::Accepted,
+            Err(fault) => Answer::Refused(fault),
+        }
+    }
+
+    /// The answer that tells what a cache keeps.
+    pub fn counts(cache: &NodeCache) -> Answer<'a> {
+        Answer::Counts(cache.token_count(), cache.node_count())
+    }
+
+    /// Whether there is a call for what was asked.
+    pub fn is_supported(&self) -> bool
+        ensures { IsTrue result ↔ (self.now ≢ Unsupported) }
+    {
+        !matches!(self, Answer::Unsupported)
+    }
+
+    /// The line that is written.
+    pub fn text(&self, alloc: Global) -> Result<String, AllocError> {
+        match self {
+            Answer::Case(name) => format!(in alloc; "case {name}"),
+            Answer::Accepted => String::from_str(alloc, "Accepted"),
+            Answer::Refused(fault) => format!(in alloc; "Refused {fault:?}"),
+            Answer::Marked(number) => format!(in alloc; "Marked {number}"),
+            Answer::Finished(root) => {
+                let mut text = String::from_str(alloc, "Finished ")?;
+                tree::push_node(alloc, &mut text, root)?;
+                Ok(text)
+            }
+            Answer::Counts(tokens, nodes) => format!(in alloc; "Counts {tokens} {nodes}"),
+            Answer::NoTree => String::from_str(alloc, "NoTree"),
+            Answer::NoBuilder => String::from_str(alloc, "NoBuilder"),
+            Answer::Unsupported => String::from_str(alloc, "Unsupported"),
+        }
+    }
+}

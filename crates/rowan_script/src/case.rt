@@ -1,0 +1,116 @@
+//! Runs the cases of a script.
+
+use crate::answer::{Answer, Answered};
+use crate::building::{Built, build};
+use crate::instruction::Instruction;
+use crate::script::{CacheLine, Line, Script};
+use rowan::{Fault, GreenNode, GreenNodeBuilder, NodeCache};
+use rowan_tool::sexp;
+use std::alloc::Global;
+
+/// A cache that the cases of a script share.
+#[derive(Drop)]
+struct SharedCache {
+    number: u32,
+    cache: NodeCache,
+}
+
+/// The answers to all lines of a script, in order.
+pub fn answers_of<'s>(alloc: Global, script: &'s Script<'_>) -> Result<Vec<Answered<'s>>, Fault> {
+    let mut answers = Vec::new(alloc);
+    let mut caches = Vec::new(alloc);
+    for case in script.cases.as_slice() {
+        answers.push(Answered {
+            line: case.number,
+            answer: Answer::Case(case.name),
+        })?;
+        let lines = case.lines.as_slice();
+        match &case.cache {
+            None => {
+                let mut own = NodeCache::new(alloc);
+                answer_lines(alloc, &mut own, lines, &mut answers)?;
+            }
+            Some(line) => {
+                let cache = shared_cache(alloc, &mut caches, *line)?;
+                answers.push(Answered {
+                    line: line.line,
+                    answer: Answer::counts(cache),
+                })?;
+                answer_lines(alloc, cache, lines, &mut answers)?;
+            }
+        }
+    }
+    Ok(answers)
+}
+
+/// The cache of that number, which is made where the script first names it.
+fn shared_cache<'c>(
+    alloc: Global,
+    caches: &'c mut Vec<SharedCache>,
+    line: CacheLine,
+) -> Result<&'c mut NodeCache, Fault> {
+    let found = caches
+        .as_slice()
+        .iter()
+        .position(|shared| shared.number == line.number);
+    let place = match found {
+        Some(place) => place,
+        None => {
+            caches.push(SharedCache {
+                number: line.number,
+                cache: NodeCache::with_limit(alloc, line.limit as usize),
+            })?;
+            caches.len() - 1
+        }
+    };
+    Ok(&mut caches[place].cache)
+}
+
+fn answer_lines<'s>(
+    alloc: Global,
+    cache: &mut NodeCache,
+    lines: &'s [Line],
+    answers: &mut Vec<Answered<'s>>,
+) -> Result<(), Fault> {
+    let builder = GreenNodeBuilder::with_cache(alloc, cache);
+    let (tree, rest) = match build(alloc, builder, lines, answers)? {
+        Built::Finished(tree, rest) => (Some(tree), rest),
+        Built::Parse(line, text, rest) => (parse(alloc, cache, line, text, answers)?, rest),
+        Built::Open => return Ok(()),
+    };
+    for line in rest {
+        answers.push(line.answered(step(tree.as_ref(), cache, &line.instruction)))?;
+    }
+    Ok(())
+}
+
+/// Parses a text in place of builder calls.
+fn parse<'s>(
+    alloc: Global,
+    cache: &mut NodeCache,
+    line: &'s Line,
+    text: &str,
+    answers: &mut Vec<Answered<'s>>,
+) -> Result<Option<GreenNode>, Fault> {
+    let (tree, answer) = match sexp::parse_with(alloc, text, cache) {
+        Ok(parse) => {
+            let tree = parse.green().clone()?;
+            (Some(tree.clone()?), Answer::Finished(tree))
+        }
+        Err(fault) => (None, Answer::Refused(fault)),
+    };
+    answers.push(line.answered(answer))?;
+    Ok(tree)
+}
+
+/// Answers an instruction behind the building part. There is no tree where a text was refused.
+fn step<'s>(tree: Option<&GreenNode>, cache: &NodeCache, instruction: &Instruction) -> Answer<'s> {
+    match instruction {
+        Instruction::Counts => Answer::counts(cache),
+        Instruction::Call(_) | Instruction::Finish | Instruction::Parse(_) => Answer::NoBuilder,
+        Instruction::Step(_) => match tree {
+            Some(_) => Answer::Unsupported,
+            None => Answer::NoTree,
+        },
+    }
+}

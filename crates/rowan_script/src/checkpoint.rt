@@ -1,0 +1,32 @@
+//! Checkpoints by their numbers: a builder that holds so many tokens gives the checkpoint of that number.
+ghost use Rattle.std.specs.Prelude.{◌≡◌, IfOk};
+
+use rowan::{Checkpoint, Fault, GreenNodeBuilder, SyntaxKind};
+use std::alloc::Global;
+
+const KIND: SyntaxKind = SyntaxKind(0);
+
+/// The checkpoint of a builder that holds so many tokens.
+pub fn with_tokens(alloc: Global, tokens: usize) -> Result<Checkpoint, Fault>
+    ensures { IfOk result (λ checkpoint. checkpoint ≡ tokens) }
+{
+    let mut builder = GreenNodeBuilder::new(alloc);
+    for _token in 0..tokens {
+        builder.token(KIND, "")?;
+    }
+    Ok(builder.checkpoint())
+}
+
+/// The number of a checkpoint: how many tokens a builder holds whose checkpoint is equal.
+pub fn number_of(alloc: Global, checkpoint: Checkpoint) -> Result<usize, Fault>
+    ensures { IfOk result (λ number. number ≡ checkpoint) }
+{
+    let mut builder = GreenNodeBuilder::new(alloc);
+    for number in 0..usize::MAX {
+        if builder.checkpoint() == checkpoint {
+            return Ok(number);
+        }
+        builder.token(KIND, "")?;
+    }
+    Ok(usize::MAX)
+}

@@ -1,0 +1,42 @@
+//! The operands of instructions: words, numbers, kinds and texts.
+
+use anyhow::{Context, Result, bail, ensure};
+use rowan::SyntaxKind;
+use serde_json::Value;
+use std::alloc::{AllocError, Global};
+
+/// Two operands with a space between. The second has all that is behind the space.
+pub fn pair(operands: &str) -> Result<(&str, &str)> {
+    operands.split_once(' ').context("an operand is missing")
+}
+
+/// A number up to 4294967295.
+pub fn number(word: &str) -> Result<u32> {
+    word.parse::<u32>()
+        .context(format_args!("`{word}` is no number up to {}", u32::MAX))
+}
+
+/// A raw kind, a number up to 65535.
+pub fn kind(word: &str) -> Result<SyntaxKind> {
+    let raw = word
+        .parse::<u16>()
+        .context(format_args!("`{word}` is no kind"))?;
+    Ok(SyntaxKind(raw))
+}
+
+/// A text that is written as a JSON string.
+pub fn text(alloc: Global, quoted: &str) -> Result<String> {
+    ensure!(
+        quoted.starts_with('"') && quoted.ends_with('"'),
+        "{quoted} is no text in quotes"
+    );
+    match Value::from_str(alloc, quoted)? {
+        Value::String(text) => Ok(text),
+        _ => bail!("{quoted} is no text in quotes"),
+    }
+}
+
+/// A text as a JSON string.
+pub fn quoted(alloc: Global, text: &str) -> Result<String, AllocError> {
+    Value::String(String::from_str(alloc, text)?).to_string(alloc)
+}

@@ -1,0 +1,109 @@
+//! Reads trees.
+ghost use Rattle.std.specs.Prelude.{◌<◌, ◌≤◌, length, IfOk, IfSome};
+
+use crate::operand;
+use anyhow::{Context, Result, bail, ensure};
+use rowan::{GreenElement, GreenNode, GreenNodeBuilder, GreenToken, NodeOrToken, SyntaxKind};
+use std::alloc::Global;
+
+// The kind of the node that holds what is read.
+const HOLDER: SyntaxKind = SyntaxKind(0);
+
+/// Reads a node.
+pub fn node(alloc: Global, text: &str) -> Result<GreenNode> {
+    match only_element(alloc, text)? {
+        NodeOrToken::Node(node) => Ok(node),
+        NodeOrToken::Token(_) => bail!("{text} is a token"),
+    }
+}
+
+/// Reads a token.
+pub fn token(alloc: Global, text: &str) -> Result<GreenToken> {
+    match only_element(alloc, text)? {
+        NodeOrToken::Node(_) => bail!("{text} is a node"),
+        NodeOrToken::Token(token) => Ok(token),
+    }
+}
+
+fn only_element(alloc: Global, text: &str) -> Result<GreenElement> {
+    let holder = holder_of(alloc, text)?;
+    let mut elements = holder.children();
+    ensure!(elements.len() == 1, "{text} is not one tree");
+    let element = elements.next().context("no tree")??;
+    Ok(element)
+}
+
+/// A node that holds all trees of a text, which stand with a space between.
+fn holder_of(alloc: Global, text: &str) -> Result<GreenNode> {
+    let mut builder = GreenNodeBuilder::new(alloc);
+    builder.start_node(HOLDER)?;
+    let mut open_nodes = 0usize;
+    let mut rest = text;
+    while !rest.is_empty() {
+        if let Some(behind) = behind(rest, b' ') {
+            rest = behind;
+        } else if let Some(behind) = behind(rest, b']') {
+            open_nodes = open_nodes
+                .checked_sub(1)
+                .context("a bracket that closes no node")?;
+            builder.finish_node()?;
+            rest = behind;
+        } else {
+            let (kind, body) = split_kind(rest)?;
+            if let Some(behind) = behind(body, b'[') {
+                open_nodes = open_nodes.saturating_add(1);
+                builder.start_node(kind)?;
+                rest = behind;
+            } else {
+                let (quoted, behind) = split_quoted(body)?;
+                builder.token(kind, operand::text(alloc, quoted)?.as_str())?;
+                rest = behind;
+            }
+        }
+    }
+    ensure!(open_nodes == 0, "a bracket is not closed");
+    builder.finish_node()?;
+    match builder.finish() {
+        Ok(holder) => Ok(holder),
+        Err(unfinished) => Err(unfinished.fault().into()),
+    }
+}
+
+/// What stands behind the first character, where that is this one.
+fn behind(text: &str, first: u8) -> Option<&str>
+    ensures { IfSome result (λ rest. length rest.now < length text.now) }
+{
+    if text.as_bytes().first().copied() != Some(first) {
+        return None;
+    }
+    let (_, rest) = text.split_at_checked(1)?;
+    Some(rest)
+}
+
+/// The kind that a text begins with, and what stands behind it.
+fn split_kind(text: &str) -> Result<(SyntaxKind, &str)>
+    ensures { IfOk result (λ r. length r.1.now ≤ length text.now) }
+{
+    let digits = match text.find(|c: char| !c.is_ascii_digit()) {
+        Some(digits) => digits,
+        None => text.len(),
+    };
+    let (kind, rest) = text.split_at_checked(digits).context("a kind is missing")?;
+    Ok((operand::kind(kind)?, rest))
+}
+
+/// The text in quotes that a text begins with, and what stands behind it.
+fn split_quoted(text: &str) -> Result<(&str, &str)>
+    ensures { IfOk result (λ r. length r.1.now < length text.now) }
+{
+    let mut is_escaped = false;
+    for (place, byte) in text.bytes().enumerate().skip(1) {
+        if byte == b'"' && !is_escaped {
+            return text
+                .split_at_checked(place.saturating_add(1))
+                .context("a text in quotes is missing");
+        }
+        is_escaped = byte == b'\\' && !is_escaped;
+    }
+    bail!("a text in quotes is missing")
+}
