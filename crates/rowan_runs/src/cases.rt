@@ -44,7 +44,7 @@ const Z: Step = Token(9, "z");
 
 const BLANK: Step = Token(WHITESPACE, " ");
 
-const CASES: [Case; 9] = [
+const CASES: [Case; 10] = [
     Case {
         name: "math_operations",
         calls: &[
@@ -164,6 +164,17 @@ const CASES: [Case; 9] = [
             (Finish, Accepted),
         ],
         finished: Ok(&[Open(A), Leaf(9, "x"), Leaf(9, "y"), Open(B), Close, Close]),
+    },
+    Case {
+        name: "checkpoint_of_other_builder, which holds nothing",
+        calls: &[
+            (Finish, Refused(Fault::NothingOpen)),
+            (Start(A), Accepted),
+            (StartAtCount(0, C), Accepted),
+            (Finish, Accepted),
+            (Finish, Accepted),
+        ],
+        finished: Ok(&[Open(A), Open(C), Close, Close]),
     },
     Case {
         name: "mark_below_open_node",

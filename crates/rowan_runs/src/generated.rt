@@ -3,7 +3,7 @@ use crate::draws::Draws;
 use crate::model::{Kept, Model};
 use crate::run::{with_cache, with_own_cache};
 use crate::step::{Checkpoints, Step, script};
-use rowan::{Fault, NodeCache};
+use rowan::{Fault, GreenNode, NodeCache};
 use std::test::Fail;
 
 /// The form of a list of calls.
@@ -69,7 +69,16 @@ fn draw_one_token(model: &mut Model<'_>, draws: &mut Draws, kept: &mut Kept) -> 
     Ok(())
 }
 
-/// How many lists there are of each form, and how each that is not free ends.
+/// Whether a list of this form may end so.
+fn may_end(form: Form, finished: &Result<GreenNode, Fault>) -> bool {
+    match form {
+        Form::Free => true,
+        Form::Rooted => finished.is_ok(),
+        Form::OneToken => matches!(finished, Err(Fault::NotANode)),
+    }
+}
+
+/// How many lists there are of each form.
 const FORMS: [(Form, u32); 3] = [
     (Form::Free, 1_000),
     (Form::Rooted, 1_000),
@@ -88,6 +97,7 @@ fn drawn_runs_are_those_of_the_plain_word(rt: HostRuntime) -> Result<(), Fail> {
             draw(&mut model, form, &mut draws, &mut kept)?;
             let calls = script(rt.alloc(), model.steps(), &checkpoints)?;
             let expected = model.finish()?;
+            assert!(rt; may_end(form, &expected.finished), "{calls:?}");
             let own = with_own_cache(rt.alloc(), calls.as_slice())?;
             assert!(rt; own == expected, "{calls:?}");
             let shared = with_cache(rt.alloc(), calls.as_slice(), &mut cache)?;

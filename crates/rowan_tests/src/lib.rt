@@ -20,8 +20,6 @@ mod limits;
 #[cfg(test)]
 mod nodes;
 #[cfg(test)]
-mod script;
-#[cfg(test)]
 mod text;
 #[cfg(test)]
 mod tokens;
