@@ -19,4 +19,4 @@ pub use rowan_api::api;
 pub use rowan_cursor::cursor;
 pub use rowan_green::{builder, fault, green, node_cache, text, utility_types};
 pub use text::{TextLen, TextRange, TextSize};
-pub use utility_types::NodeOrToken;
+pub use utility_types::{Direction, NodeOrToken, TokenAtOffset, WalkEvent};

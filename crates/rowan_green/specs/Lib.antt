@@ -17,7 +17,9 @@ pub mod Span
 pub mod Stream
 pub mod Tables
 pub mod Term
+pub mod TokenAtOffset
 pub mod TokenText
 pub mod View
+pub mod WalkEvent
 pub mod Weave
 pub mod Word

@@ -17,4 +17,4 @@ pub use green::{
 };
 pub use node_cache::NodeCache;
 pub use text::{TextLen, TextRange, TextSize};
-pub use utility_types::NodeOrToken;
+pub use utility_types::{Direction, NodeOrToken, TokenAtOffset, WalkEvent};
