@@ -12,8 +12,10 @@ pub mod Lent
 pub mod Loan
 pub mod Path
 pub mod Same
+pub mod Search
 pub mod Sizes
 pub mod Span
+pub mod Steps
 pub mod Stream
 pub mod Tables
 pub mod Term

@@ -162,7 +162,8 @@ impl TextRange {
 
     /// Whether the other range starts and ends within this one.
     pub fn contains_range(self, other: TextRange) -> bool
-        ensures { IsTrue result ↔ ((self.start ≤ other.start) × (other.end ≤ self.end)) }
+        ensures contains { IsTrue result ↔ ((self.start ≤ other.start) × (other.end ≤ self.end)) }
+        ensures order { other.start ≤ other.end }
     {
         self.start <= other.start && other.end <= self.end
     }
