@@ -17,6 +17,7 @@ pub use green::{
 pub use node_cache::NodeCache;
 pub use rowan_api::api;
 pub use rowan_cursor::cursor;
-pub use rowan_green::{builder, fault, green, node_cache, text, utility_types};
+pub use rowan_green::{builder, fault, green, node_cache, steps, text, utility_types};
+pub use steps::Steps;
 pub use text::{TextLen, TextRange, TextSize};
-pub use utility_types::NodeOrToken;
+pub use utility_types::{Direction, NodeOrToken, TokenAtOffset, WalkEvent};

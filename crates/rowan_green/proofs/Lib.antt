@@ -5,6 +5,7 @@ pub mod Drops
 pub mod IndexLemmas
 pub mod NumberLemmas
 pub mod Paths
+pub mod SearchLemmas
 pub mod Sound
 pub mod StreamLemmas
 pub mod TableLemmas

@@ -12,12 +12,16 @@ pub mod Lent
 pub mod Loan
 pub mod Path
 pub mod Same
+pub mod Search
 pub mod Sizes
 pub mod Span
+pub mod Steps
 pub mod Stream
 pub mod Tables
 pub mod Term
+pub mod TokenAtOffset
 pub mod TokenText
 pub mod View
+pub mod WalkEvent
 pub mod Weave
 pub mod Word

@@ -3,6 +3,7 @@
 mod children;
 mod element;
 mod node;
+mod search;
 mod token;
 mod token_text;
 

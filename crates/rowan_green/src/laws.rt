@@ -1,8 +1,9 @@
 //! Laws of terms and words, each as the contract of a function that does nothing.
-ghost use Rattle.std.specs.Prelude.{◌≡◌, ◌↔◌, ℕ, List, [], ◌∷◌, ◌++◌, Some, Contains, IsTrue, slice_get};
+ghost use Rattle.std.specs.Prelude.{◌≡◌, ◌↔◌, ◌<◌, ◌≤◌, ◌^◌, ℕ, List, [], ◌∷◌, ◌++◌, Some, Contains, IsTrue, slice_get};
 ghost use Rattle.std.specs.Bool.{Decides};
 ghost use Rattle.rowan_green.specs.Cache.{is_eligible, with_term, first_seen, Continues};
 ghost use Rattle.rowan_green.specs.Same.{same_node, same_token};
+ghost use Rattle.rowan_green.specs.Search.{HasRange, IsChildAt, digits};
 ghost use Rattle.rowan_green.specs.Term.{TokenTerm, NodeTerm, Term, node_of, node_len, node_text, sum_of_lens, joined_text};
 ghost use Rattle.rowan_green.specs.Word.{Symbol, Item, HasParts, HasTerms, node_word, word_text};
 
@@ -40,4 +41,18 @@ pub fn cache_keeps_first_seen()
     ensures once { (limit : ℕ) (ts : List Term) (i j : ℕ) (t : Term) → slice_get (first_seen limit ts) i ≡ Some t → slice_get (first_seen limit ts) j ≡ Some t → i ≡ j }
     ensures continues { (limit : ℕ) (ts us : List Term) → Continues (first_seen limit ts) (first_seen limit (ts ++ us)) }
     ensures one_more { (limit : ℕ) (seen : List Term) (t : Term) → first_seen limit seen ≡ seen → with_term limit seen t ≡ first_seen limit (seen ++ t ∷ []) }
+{}
+
+/// At most one child of a node is the one at a range; of a range with bytes it is the one that has them all. It has the range in
+/// any case, so no child is at a range that ends behind the node.
+pub fn one_child_is_at_a_range()
+    ensures one { (ts : List Term) (a b j k : ℕ) → IsChildAt ts a b j → IsChildAt ts a b k → j ≡ k }
+    ensures bytes { (ts : List Term) (a b k : ℕ) → a < b → IsChildAt ts a b k ↔ HasRange ts a b k }
+    ensures has { (ts : List Term) (a b k : ℕ) → IsChildAt ts a b k → HasRange ts a b k }
+    ensures inside { (ts : List Term) (a b k : ℕ) → IsChildAt ts a b k → b ≤ sum_of_lens ts }
+{}
+
+/// A number has at most d binary digits exactly where it is below 2^d.
+pub fn digits_are_binary()
+    ensures { (n d : ℕ) → digits n ≤ d ↔ n < 2 ^ d }
 {}

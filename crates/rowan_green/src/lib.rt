@@ -6,6 +6,7 @@ pub mod fault;
 pub mod green;
 pub mod laws;
 pub mod node_cache;
+pub mod steps;
 pub mod text;
 pub mod utility_types;
 
@@ -16,5 +17,6 @@ pub use green::{
     SyntaxKind,
 };
 pub use node_cache::NodeCache;
+pub use steps::Steps;
 pub use text::{TextLen, TextRange, TextSize};
-pub use utility_types::NodeOrToken;
+pub use utility_types::{Direction, NodeOrToken, TokenAtOffset, WalkEvent};

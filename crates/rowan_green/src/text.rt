@@ -1,7 +1,11 @@
 //! Sizes and ranges of text, in bytes of UTF-8.
-ghost use Rattle.std.specs.Prelude.{◌≡◌, ℕ, ◌+◌, ◌-◌, ◌<◌, ◌≤◌, ◌↔◌, IsTrue, List, length};
+ghost use Rattle.std.specs.Prelude.{◌≡◌, ℕ, ◌+◌, ◌-◌, ◌<◌, ◌≤◌, ◌↔◌, ◌++◌, IsTrue, List, Some, codes, length};
+ghost use Rattle.std.specs.Fmt.{decimal};
+ghost use Rattle.std.specs.Option.{SomeIff};
 ghost use Rattle.rowan_green.specs.Fits.{byte_limit};
+ghost use Rattle.rowan_green.specs.Span.{Holds, intersection};
 
+use std::cmp::{self, Ordering};
 use std::fmt;
 use std::marker::Model;
 
@@ -29,9 +33,27 @@ impl TextSize {
     {
         text.text_len()
     }
+
+    /// The sum, or `None` where it is past the limit.
+    pub fn checked_add(self, rhs: TextSize) -> Option<TextSize>
+        ensures { SomeIff result (self + rhs ≤ byte_limit) (self + rhs) }
+    {
+        let raw = self.raw.checked_add(rhs.raw)?;
+        Some(TextSize { raw })
+    }
+
+    /// The difference, or `None` where it is below 0.
+    pub fn checked_sub(self, rhs: TextSize) -> Option<TextSize>
+        ensures { SomeIff result (rhs ≤ self) (self - rhs) }
+    {
+        let raw = self.raw.checked_sub(rhs.raw)?;
+        Some(TextSize { raw })
+    }
 }
 
 impl fmt::Debug for TextSize {
+    ghost debug_output = { λ size. Some (decimal size) };
+
     fn fmt<W: fmt::Write>(&self, f: &mut fmt::Formatter<W>) -> fmt::Result {
         let raw = self.raw;
         write!(f, "{raw}")
@@ -137,9 +159,55 @@ impl TextRange {
     {
         self.start == self.end
     }
+
+    /// Whether the other range starts and ends within this one.
+    pub fn contains_range(self, other: TextRange) -> bool
+        ensures contains { IsTrue result ↔ ((self.start ≤ other.start) × (other.end ≤ self.end)) }
+        ensures order { other.start ≤ other.end }
+    {
+        self.start <= other.start && other.end <= self.end
+    }
+
+    /// Whether the offset lies in the range or is its end.
+    pub fn contains_inclusive(self, offset: TextSize) -> bool
+        ensures { IsTrue result ↔ Holds self offset }
+    {
+        self.start <= offset && offset <= self.end
+    }
+
+    /// The offsets that both ranges hold, their ends among them: a range, which is empty where the two only touch. `None` where
+    /// there are none.
+    pub fn intersect(self, other: TextRange) -> Option<TextRange>
+        ensures { let common = intersection self other in SomeIff result (common.start ≤ common.end) common }
+    {
+        let start = cmp::max(self.start, other.start);
+        let end = cmp::min(self.end, other.end);
+        if end < start {
+            return None;
+        }
+        Some(TextRange::new(start, end))
+    }
+
+    /// `Less` where this range ends before the other starts, `Greater` the other way round, and `Equal` where they overlap. Ranges
+    /// that only touch do not overlap.
+    pub fn ordering(self, other: TextRange) -> Ordering
+        ensures less { (result ≡ Ordering.Less) ↔ (self.end ≤ other.start) }
+        ensures greater { (result ≡ Ordering.Greater) ↔ ((other.start < self.end) × (other.end ≤ self.start)) }
+        ensures equal { (result ≡ Ordering.Equal) ↔ ((other.start < self.end) × (self.start < other.end)) }
+    {
+        if self.end <= other.start {
+            Ordering::Less
+        } else if other.end <= self.start {
+            Ordering::Greater
+        } else {
+            Ordering::Equal
+        }
+    }
 }
 
 impl fmt::Debug for TextRange {
+    ghost debug_output = { λ range. Some (decimal range.start ++ codes ".." ++ decimal range.end) };
+
     fn fmt<W: fmt::Write>(&self, f: &mut fmt::Formatter<W>) -> fmt::Result {
         let start = self.start.raw;
         let end = self.end.raw;

@@ -1,6 +1,9 @@
 //! Small types that all layers share.
+ghost use Rattle.std.specs.Prelude.{◌≡◌, slice_get};
+ghost use Rattle.std.specs.List.{last_or};
+ghost use Rattle.std.specs.Option.{option_copied};
 
-use std::fmt;
+use std::{fmt, mem};
 
 /// A node or a token.
 #[derive(Clone, Copy, PartialEq, Eq, PartialOrd, Ord, Hash, Debug, Drop)]
@@ -10,8 +13,51 @@ pub enum NodeOrToken<N, T> {
 }
 
 impl<N, T> NodeOrToken<N, T> {
-    ghost use Rattle.std.specs.Prelude.{◌≡◌};
-    ghost use Rattle.rowan_green.specs.Lent.{pointee};
+    ghost use Rattle.rowan_green.specs.Lent.{pointee, into_node, into_token};
+
+    /// The node, or `None` of a token.
+    pub fn into_node(self) -> Option<N>
+    where
+        T: Drop,
+        ensures { result ≡ into_node self }
+    {
+        match self {
+            NodeOrToken::Node(node) => Some(node),
+            NodeOrToken::Token(_) => None,
+        }
+    }
+
+    /// The token, or `None` of a node.
+    pub fn into_token(self) -> Option<T>
+    where
+        N: Drop,
+        ensures { result ≡ into_token self }
+    {
+        match self {
+            NodeOrToken::Node(_) => None,
+            NodeOrToken::Token(token) => Some(token),
+        }
+    }
+
+    /// The node, lent, or `None` of a token.
+    pub fn as_node(&self) -> Option<&N>
+        ensures { option_copied result ≡ into_node self.now }
+    {
+        match self {
+            NodeOrToken::Node(node) => Some(node),
+            NodeOrToken::Token(_) => None,
+        }
+    }
+
+    /// The token, lent, or `None` of a node.
+    pub fn as_token(&self) -> Option<&T>
+        ensures { option_copied result ≡ into_token self.now }
+    {
+        match self {
+            NodeOrToken::Node(_) => None,
+            NodeOrToken::Token(token) => Some(token),
+        }
+    }
 
     /// The same, lent.
     pub fn as_ref(&self) -> NodeOrToken<&N, &T>
@@ -33,6 +79,130 @@ impl<N: fmt::Display, T: fmt::Display> fmt::Display for NodeOrToken<N, T> {
         match self {
             NodeOrToken::Node(node) => node.fmt(f),
             NodeOrToken::Token(token) => token.fmt(f),
+        }
+    }
+}
+
+/// The way along a list of siblings or tokens: to the next one, or back to the one before.
+#[derive(Clone, Copy, PartialEq, Eq, PartialOrd, Ord, Hash, Debug)]
+pub enum Direction {
+    Next,
+    Prev,
+}
+
+/// A step of a walk.
+#[derive(Clone, Copy, Debug, Drop)]
+pub enum WalkEvent<T> {
+    /// Comes before what is below the element.
+    Enter(T),
+    /// Comes after what is below the element.
+    Leave(T),
+}
+
+impl<T> WalkEvent<T> {
+    ghost use Rattle.rowan_green.specs.WalkEvent.{event_value, SameEvent};
+
+    /// The same event, at what `f` makes of its value.
+    pub fn map<F: FnOnce(T) -> U, U>(self, f: F) -> WalkEvent<U>
+        requires { F.pre f (event_value self) }
+        ensures { SameEvent (F.post f) self result }
+    {
+        match self {
+            WalkEvent::Enter(value) => WalkEvent::Enter(f(value)),
+            WalkEvent::Leave(value) => WalkEvent::Leave(f(value)),
+        }
+    }
+}
+
+/// The tokens at an offset. As an iterator it gives them from left to right.
+#[derive(Clone, Debug, Drop)]
+pub enum TokenAtOffset<T> {
+    /// There is no token.
+    None,
+    /// The offset lies in one token, or at an end of the text.
+    Single(T),
+    /// The offset lies between two tokens.
+    Between(T, T),
+}
+
+impl<T> TokenAtOffset<T> {
+    ghost use Rattle.rowan_green.specs.TokenAtOffset.{found, MapsInOrder};
+
+    /// As many tokens, each made by `f`, the left one first.
+    pub fn map<F: FnMut(T) -> U, U>(self, mut f: F) -> TokenAtOffset<U>
+        requires { F.IsAlwaysCallable f }
+        ensures { MapsInOrder F.step f self result }
+    {
+        match self {
+            TokenAtOffset::None => TokenAtOffset::None,
+            TokenAtOffset::Single(token) => TokenAtOffset::Single(f(token)),
+            TokenAtOffset::Between(left, right) => {
+                let left = f(left);
+                let right = f(right);
+                TokenAtOffset::Between(left, right)
+            }
+        }
+    }
+
+    /// The token, and of two the right one.
+    pub fn right_biased(self) -> Option<T>
+    where
+        T: Drop,
+        ensures { result ≡ last_or None (found self) }
+    {
+        match self {
+            TokenAtOffset::None => None,
+            TokenAtOffset::Single(token) => Some(token),
+            TokenAtOffset::Between(_, right) => Some(right),
+        }
+    }
+
+    /// The token, and of two the left one.
+    pub fn left_biased(self) -> Option<T>
+    where
+        T: Drop,
+        ensures { result ≡ slice_get (found self) 0 }
+    {
+        match self {
+            TokenAtOffset::None => None,
+            TokenAtOffset::Single(token) => Some(token),
+            TokenAtOffset::Between(left, _) => Some(left),
+        }
+    }
+}
+
+impl<T: Drop> Iterator for TokenAtOffset<T> {
+    type Item = T;
+
+    ghost use Rattle.std.specs.Iterator.{YieldsFirst, item_count};
+    ghost use Rattle.rowan_green.specs.TokenAtOffset.{found};
+
+    ghost next_gives = { YieldsFirst found };
+
+    ghost remaining = { item_count found };
+
+    fn next(&mut self) -> Option<T> {
+        match mem::replace(self, TokenAtOffset::None) {
+            TokenAtOffset::None => None,
+            TokenAtOffset::Single(token) => Some(token),
+            TokenAtOffset::Between(left, right) => {
+                *self = TokenAtOffset::Single(right);
+                Some(left)
+            }
+        }
+    }
+
+    fn size_hint(&self) -> (usize, Option<usize>) {
+        (self.len(), Some(self.len()))
+    }
+}
+
+impl<T: Drop> ExactSizeIterator for TokenAtOffset<T> {
+    fn len(&self) -> usize {
+        match self {
+            TokenAtOffset::None => 0,
+            TokenAtOffset::Single(_) => 1,
+            TokenAtOffset::Between(_, _) => 2,
         }
     }
 }

@@ -20,6 +20,8 @@ mod limits;
 #[cfg(test)]
 mod nodes;
 #[cfg(test)]
+mod search;
+#[cfg(test)]
 mod text;
 #[cfg(test)]
 mod tokens;

@@ -1,14 +1,17 @@
-ghost use Rattle.std.specs.Prelude.{◌≡◌, ◌≢◌, ◌+◌, ◌<◌, ◌≤◌, [], ◌∷◌, ◌++◌, length, IfOk, IfErr, OnOk, IfSome, IsNone, Some, ◌↔◌, map, take, slice_get};
+ghost use Rattle.std.specs.Prelude.{◌≡◌, ◌≢◌, ℕ, ◌+◌, ◌<◌, ◌≤◌, [], ◌∷◌, ◌++◌, length, IfOk, IfErr, OnOk, IfSome, IsNone, Some, ◌↔◌, map, take, slice_get};
 ghost use Rattle.std.specs.Iterator.{IsFiniteIterable};
 ghost use Rattle.std.specs.Iterator.Runs.{SomeRun, WholeRun};
 ghost use Rattle.rowan_green.specs.Fits.{byte_limit, FitsNode, ChildPasses, AreWithin, PassesLimit};
 ghost use Rattle.rowan_green.specs.Term.{node_of, node_len, node_kind, node_children, node_size, sum_of_lens};
 ghost use Rattle.rowan_green.specs.Lent.{pointee};
+ghost use Rattle.rowan_green.specs.Search.{IsChildAt, child_start, digits};
+ghost use Rattle.rowan_green.specs.Steps.{count_limit};
 
 use crate::fault::Fault;
 use crate::green::{Children, GreenElement, GreenElementRef, SyntaxKind};
 use crate::node_cache::Interned;
-use crate::text::TextSize;
+use crate::steps::Steps;
+use crate::text::{TextRange, TextSize};
 use crate::utility_types::NodeOrToken;
 use std::alloc::{AllocError, Global};
 use std::fmt::{self, Display};
@@ -209,6 +212,34 @@ impl GreenNode {
     {
         let child = self.data.children.get(index)?;
         Some((child.rel_offset, child.element.as_ref()))
+    }
+
+    /// The child at a range, which counts from the node's own start, with its place and offset: the one that has all bytes of the
+    /// range. An empty range is a place between bytes: it is at the child that has bytes on both sides of it, else at the last
+    /// child that ends there, and at the node's start at the first child. Takes no memory, and looks at no more children than
+    /// their number has binary digits.
+    pub fn child_at_range(
+        &self,
+        range: TextRange,
+        steps: &mut Steps,
+    ) -> Option<(usize, TextSize, GreenElementRef<'_>)>
+        ensures some { IfSome result (λ p. IsChildAt (node_children self.now) range.start range.end p.0
+            × (p.1 ≡ child_start (node_children self.now) p.0)
+            × (slice_get (node_children self.now) p.0 ≡ Some (pointee p.2))) }
+        ensures none { IsNone result → (k : ℕ) → IsChildAt (node_children self.now) range.start range.end k → ⊥ }
+        ensures most { steps.new.comparisons ≤ steps.old.comparisons + digits (length (node_children self.now)) }
+        ensures least { 0 < length (node_children self.now) → steps.old.comparisons < count_limit
+            → steps.old.comparisons < steps.new.comparisons }
+        ensures grows { steps.old.comparisons ≤ steps.new.comparisons }
+        ensures visits { steps.new.visits ≡ steps.old.visits }
+    {
+        let children = self.data.children.as_slice();
+        let index = GreenChild::search(children, range, steps);
+        let child = children.get(index)?;
+        if !child.rel_range().contains_range(range) {
+            return None;
+        }
+        Some((index, child.rel_offset, child.element.as_ref()))
     }
 }
 

@@ -1,0 +1,91 @@
+use Rattle.std.proofs.Common.{◌≡◌, ◌+◌, ◌<◌, ◌≤◌, List, map, length, Some, sym, ap, ◌∙◌, subst, arith}
+use Rattle.std.proofs.lemmas.List.{length-map}
+use Rattle.std.specs.Prelude.{slice_get}
+use Rattle.rowan_green.specs.declared.green.node.GreenChild.{GreenChild}
+use Rattle.rowan_green.specs.Term.{Term}
+use Rattle.rowan_green.specs.Fits.{AreWithin}
+use Rattle.rowan_green.specs.Search.{HasRange, IsOnlyChoice, IsChildAt, child_start, digits}
+use Rattle.rowan_green.specs.View.{child_term, HasOffsetsFrom}
+use Rattle.rowan_green.proofs.ChildList.{children-view}
+use Rattle.rowan_green.proofs.SearchLemmas.{IsPlaced, placed, bounds}
+use Rattle.rowan_green.proofs.green.node.GreenNode.child_at_range.Goals as goal
+
+pub returns-in_err-child-clause-none : goal.returns-in_err-child-clause-none
+returns-in_err-child-clause-none c =
+    let cs = c.as_slice-children.result.now in
+    let items = c.as_slice-children.ensures.value ∙ ap (λ d. d.children.items) c.deref.ensures in
+    let terms = ap (map child_term) items ∙ children-view c.self.inside.data.value c.args.self.now c.self.view_is in
+    let choice = subst (λ ts. c.args.range.start ≤ c.args.range.end → IsOnlyChoice ts c.args.range.start c.args.range.end c.search-index.result) terms c.search-index.ensures.choice in
+    λ none k p.
+    let at = ((choice (bounds _ _ _ _ p).order).only k p).1 in
+    omega (arith, at.place, length-map cs child_term, ap length terms, c.in_err-child.ensures.lookup.3)
+
+pub returns-in_err-child-clause-most : goal.returns-in_err-child-clause-most
+returns-in_err-child-clause-most c =
+    let cs = c.as_slice-children.result.now in
+    let items = c.as_slice-children.ensures.value ∙ ap (λ d. d.children.items) c.deref.ensures in
+    let terms = ap (map child_term) items ∙ children-view c.self.inside.data.value c.args.self.now c.self.view_is in
+    let count = sym (length-map cs child_term) ∙ ap length terms in
+    omega (arith, c.search-index.ensures.most, ap digits count)
+
+pub rel_range-requires : goal.rel_range-requires
+rel_range-requires c =
+    let cs = c.as_slice-children.result.now in
+    let items = c.as_slice-children.ensures.value ∙ ap (λ d. d.children.items) c.deref.ensures in
+    let look = c.in_ok-child.ensures.lookup in
+    let offsets : HasOffsetsFrom 0 cs = subst (λ xs. HasOffsetsFrom 0 xs) (sym items) c.self.invariant.offsets in
+    let within : AreWithin (map child_term cs) = subst (λ xs. AreWithin (map child_term xs)) (sym items) c.self.invariant.within in
+    let p = placed cs c.search-index.result c.in_ok-child.child.now offsets within look.3.0 look.1 in
+    omega (arith, p.end, p.limit)
+
+pub returns-then-not-contains_range-clause-none : goal.returns-then-not-contains_range-clause-none
+returns-then-not-contains_range-clause-none c =
+    let cs = c.as_slice-children.result.now in
+    let items = c.as_slice-children.ensures.value ∙ ap (λ d. d.children.items) c.deref.ensures in
+    let look = c.in_ok-child.ensures.lookup in
+    let offsets : HasOffsetsFrom 0 cs = subst (λ xs. HasOffsetsFrom 0 xs) (sym items) c.self.invariant.offsets in
+    let within : AreWithin (map child_term cs) = subst (λ xs. AreWithin (map child_term xs)) (sym items) c.self.invariant.within in
+    let p = placed cs c.search-index.result c.in_ok-child.child.now offsets within look.3.0 look.1 in
+    let terms = ap (map child_term) items ∙ children-view c.self.inside.data.value c.args.self.now c.self.view_is in
+    λ none k q.
+    let r : IsChildAt (map child_term cs) c.args.range.start c.args.range.end k = subst (λ ts. IsChildAt ts c.args.range.start c.args.range.end k) (sym terms) q in
+    let at = ((c.search-index.ensures.choice c.contains_range.ensures.order).only k r).1 in
+    let yes = c.contains_range.ensures.contains.1 (omega (arith, at.from, p.start, c.rel_range.ensures.start), omega (arith, at.to, p.end, c.rel_range.ensures.end)) in
+    absurd (cc (yes, c.if-not-contains_range.true))
+
+pub returns-then-not-contains_range-clause-most : goal.returns-then-not-contains_range-clause-most
+returns-then-not-contains_range-clause-most c =
+    let cs = c.as_slice-children.result.now in
+    let items = c.as_slice-children.ensures.value ∙ ap (λ d. d.children.items) c.deref.ensures in
+    let terms = ap (map child_term) items ∙ children-view c.self.inside.data.value c.args.self.now c.self.view_is in
+    let count = sym (length-map cs child_term) ∙ ap length terms in
+    omega (arith, c.search-index.ensures.most, ap digits count)
+
+pub returns-clause-some : goal.returns-clause-some
+returns-clause-some c =
+    let cs = c.as_slice-children.result.now in
+    let items = c.as_slice-children.ensures.value ∙ ap (λ d. d.children.items) c.deref.ensures in
+    let look = c.in_ok-child.ensures.lookup in
+    let offsets : HasOffsetsFrom 0 cs = subst (λ xs. HasOffsetsFrom 0 xs) (sym items) c.self.invariant.offsets in
+    let within : AreWithin (map child_term cs) = subst (λ xs. AreWithin (map child_term xs)) (sym items) c.self.invariant.within in
+    let p = placed cs c.search-index.result c.in_ok-child.child.now offsets within look.3.0 look.1 in
+    let terms = ap (map child_term) items ∙ children-view c.self.inside.data.value c.args.self.now c.self.view_is in
+    let has = c.contains_range.ensures.contains.0 c.if-not-contains_range.false in
+    let in_range : HasRange (map child_term cs) c.args.range.start c.args.range.end c.search-index.result = record {
+      place = omega (arith, look.3.0, length-map cs child_term);
+      from = omega (arith, has.0, p.start, c.rel_range.ensures.start);
+      to = omega (arith, has.1, p.end, c.rel_range.ensures.end);
+    } in
+    let at = (c.search-index.ensures.choice c.contains_range.ensures.order).is in_range in (
+      subst (λ ts. IsChildAt ts c.args.range.start c.args.range.end c.search-index.result) terms at,
+      p.start ∙ ap (λ ts. child_start ts c.search-index.result) terms,
+      sym (ap (λ ts. slice_get ts c.search-index.result) terms) ∙ p.term ∙ ap (λ t. Some t) (sym c.as_ref.ensures),
+    )
+
+pub returns-clause-most : goal.returns-clause-most
+returns-clause-most c =
+    let cs = c.as_slice-children.result.now in
+    let items = c.as_slice-children.ensures.value ∙ ap (λ d. d.children.items) c.deref.ensures in
+    let terms = ap (map child_term) items ∙ children-view c.self.inside.data.value c.args.self.now c.self.view_is in
+    let count = sym (length-map cs child_term) ∙ ap length terms in
+    omega (arith, c.search-index.ensures.most, ap digits count)
