@@ -1,6 +1,6 @@
 -- The children in a node's memory are those of its term, and each lies at its offset.
-use Rattle.std.proofs.Common.{◌≡◌, ℕ, zero, suc, ◌+◌, ◌<◌, List, [], ◌∷◌, map, length, take, get_or, Some, sym, ◌∙◌, ap, arith}
-use Rattle.std.proofs.lemmas.List.{length-map}
+use Rattle.std.proofs.Common.{◌≡◌, ℕ, zero, suc, ◌+◌, ◌<◌, List, [], ◌∷◌, map, length, take, drop, get_or, Some, sym, ◌∙◌, ap, arith}
+use Rattle.std.proofs.lemmas.List.{length-map, take-map, drop-map}
 use Rattle.std.specs.Prelude.{slice_get}
 use Rattle.rowan_green.specs.declared.green.node.NodeData.{NodeData}
 use Rattle.rowan_green.specs.declared.green.node.GreenChild.{GreenChild}
@@ -25,3 +25,10 @@ child-at at (d ∷ cs) zero c h l e = record { offset = (let p : c.rel_offset �
 child-at at (d ∷ cs) (suc i) c h l e =
     let p = child-at (at + term_len (child_term d)) cs i c h.1 (omega arith) e in
     record { offset = omega (arith, p.offset); term = p.term }
+
+-- the children before a place, and those from it on
+pub take-children : (i : ℕ) (cs : List GreenChild) (ts : List Term) → map child_term cs ≡ ts → map child_term (take i cs) ≡ take i ts
+take-children i cs ts e = sym (take-map child_term i cs) ∙ ap (take i) e
+
+pub drop-children : (i : ℕ) (cs : List GreenChild) (ts : List Term) → map child_term cs ≡ ts → map child_term (drop i cs) ≡ drop i ts
+drop-children i cs ts e = sym (drop-map child_term i cs) ∙ ap (drop i) e

@@ -2,6 +2,8 @@ pub mod BuilderLemmas
 pub mod CacheLemmas
 pub mod ChildList
 pub mod Drops
+pub mod EditLaws
+pub mod EditLemmas
 pub mod IndexLemmas
 pub mod NumberLemmas
 pub mod Paths

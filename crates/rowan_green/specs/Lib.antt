@@ -3,6 +3,7 @@ pub mod BuilderCoding
 pub mod Cache
 pub mod CacheCoding
 pub mod Coding
+pub mod Edits
 pub mod Falls
 pub mod Fault
 pub mod Feeds

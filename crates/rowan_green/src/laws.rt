@@ -1,10 +1,13 @@
 //! Laws of terms and words, each as the contract of a function that does nothing.
-ghost use Rattle.std.specs.Prelude.{◌≡◌, ◌↔◌, ◌<◌, ◌≤◌, ◌^◌, ℕ, List, [], ◌∷◌, ◌++◌, Some, Contains, IsTrue, slice_get};
+ghost use Rattle.std.specs.Prelude.{◌≡◌, ◌↔◌, ◌<◌, ◌≤◌, ◌^◌, ℕ, List, [], ◌∷◌, ◌++◌, Some, Contains, IsTrue, slice_get, ◌+◌, length, take, drop};
 ghost use Rattle.std.specs.Bool.{Decides};
 ghost use Rattle.rowan_green.specs.Cache.{is_eligible, with_term, first_seen, Continues};
+ghost use Rattle.rowan_green.specs.Edits.{replaced, inserted, removed, spliced};
+ghost use Rattle.rowan_green.specs.Fits.{AreWithin, PassesLimit};
 ghost use Rattle.rowan_green.specs.Same.{same_node, same_token};
 ghost use Rattle.rowan_green.specs.Search.{HasRange, IsChildAt, digits};
-ghost use Rattle.rowan_green.specs.Term.{TokenTerm, NodeTerm, Term, node_of, node_len, node_text, sum_of_lens, joined_text};
+ghost use Rattle.rowan_green.specs.Term.{TokenTerm, NodeTerm, Term, node_of, node_len, node_text, sum_of_lens, joined_text, node_kind, node_children, term_text};
+ghost use Rattle.rowan_green.specs.declared.fault.Fault.{Fault};
 ghost use Rattle.rowan_green.specs.Word.{Symbol, Item, HasParts, HasTerms, node_word, word_text};
 
 /// A word has at most one list of items: bare openings and whole terms.
@@ -27,6 +30,32 @@ pub fn equality_is_of_terms()
 pub fn node_has_its_children_text()
     ensures text { (k : ℕ) (ts : List Term) → node_text (node_of k ts) ≡ joined_text ts }
     ensures len { (k : ℕ) (ts : List Term) → node_len (node_of k ts) ≡ sum_of_lens ts }
+{}
+
+/// The text of an edited node is the texts of what stays before, of what is put there, and of what stays behind, in this order.
+pub fn edited_node_has_the_text_of_its_parts()
+    ensures replaced { (k : ℕ) (ts : List Term) (i : ℕ) (t : Term) → i < length ts
+        → node_text (node_of k (replaced ts i t)) ≡ joined_text (take i ts) ++ term_text t ++ joined_text (drop (i + 1) ts) }
+    ensures inserted { (k : ℕ) (ts : List Term) (i : ℕ) (t : Term)
+        → node_text (node_of k (inserted ts i t)) ≡ joined_text (take i ts) ++ term_text t ++ joined_text (drop i ts) }
+    ensures removed { (k : ℕ) (ts : List Term) (i : ℕ)
+        → node_text (node_of k (removed ts i)) ≡ joined_text (take i ts) ++ joined_text (drop (i + 1) ts) }
+    ensures spliced { (k : ℕ) (ts : List Term) (start end : ℕ) (us : List Term)
+        → node_text (node_of k (spliced ts start end us)) ≡ joined_text (take start ts) ++ joined_text us ++ joined_text (drop end ts) }
+{}
+
+/// A child that is replaced by itself, one that is not there, and one that is removed as soon as it is inserted, leave an equal
+/// node.
+pub fn some_edits_change_nothing()
+    ensures itself { (n : NodeTerm) (i : ℕ) (t : Term) → slice_get (node_children n) i ≡ Some t → node_of (node_kind n) (replaced (node_children n) i t) ≡ n }
+    ensures past { (n : NodeTerm) (i : ℕ) (t : Term) → length (node_children n) ≤ i → node_of (node_kind n) (replaced (node_children n) i t) ≡ n }
+    ensures taken_back { (n : NodeTerm) (i : ℕ) (t : Term) → i ≤ length (node_children n) → node_of (node_kind n) (removed (inserted (node_children n) i t) i) ≡ n }
+{}
+
+/// Children that pass a limit are not within the limits, and there is one limit that they pass first.
+pub fn one_limit_is_passed_first()
+    ensures excluded { (ts : List Term) (e : Fault) → PassesLimit ts e → ¬ AreWithin ts }
+    ensures one { (ts : List Term) (e f : Fault) → PassesLimit ts e → PassesLimit ts f → e ≡ f }
 {}
 
 /// The text of a word's whole terms is the texts of its leaves, in order: a finished tree has the text of the accepted tokens.

@@ -1,0 +1,11 @@
+use Rattle.std.proofs.Common.{length, sym, ◌∙◌, ap, subst}
+use Rattle.rowan_green.specs.Fits.{AreWithin}
+use Rattle.rowan_green.proofs.ChildList.{children-view, length-children}
+use Rattle.rowan_green.proofs.green.node.GreenNode.child_count.Goals as goal
+
+pub returns-clause-count : goal.returns-clause-count
+returns-clause-count c =
+    c.len.ensures ∙ c.deref.result.now.children.ok.0 ∙ ap (λ d. length d.children.items) c.deref.ensures ∙ sym (length-children c.self.inside.data.value c.args.self.now c.self.view_is)
+
+pub returns-clause-within : goal.returns-clause-within
+returns-clause-within c = subst AreWithin (children-view c.self.inside.data.value c.args.self.now c.self.view_is) c.self.invariant.within

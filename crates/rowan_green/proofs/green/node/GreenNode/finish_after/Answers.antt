@@ -1,0 +1,36 @@
+use Rattle.std.proofs.Common.{◌++◌, map, length, ◌∙◌, ap, subst, arith}
+use Rattle.std.proofs.lemmas.List.{length-map}
+use Rattle.std.proofs.lemmas.Result.{err_from_is_err_and}
+use Rattle.rowan_green.specs.Fits.{AreWithin, PassesLimit}
+use Rattle.rowan_green.specs.Term.{node_of, node_kind, node_children}
+use Rattle.rowan_green.specs.View.{child_term}
+use Rattle.rowan_green.proofs.ChildList.{children-view, drop-children}
+use Rattle.rowan_green.proofs.green.node.GreenNode.finish_after.Goals as goal
+
+pub split_at-requires : goal.split_at-requires
+split_at-requires c =
+    let items = c.deref-2.ensures.value ∙ ap (λ d. d.children.items) c.deref.ensures in
+    let terms = ap (map child_term) items ∙ children-view c.self.inside.data.value c.args.self.now c.self.view_is in
+    omega (arith, c.requires, ap length terms, length-map c.deref-2.result.now child_term)
+
+pub returns-in_err-share-clause-err : goal.returns-in_err-share-clause-err
+returns-in_err-share-clause-err c =
+    let p = err_from_is_err_and c.from_residual.result c.from_residual.ensures.1 in
+    let items = c.deref-2.ensures.value ∙ ap (λ d. d.children.items) c.deref.ensures in
+    let terms = ap (map child_term) items ∙ children-view c.self.inside.data.value c.args.self.now c.self.view_is in
+    let back = ap (map child_term) c.split_at.ensures.back ∙ drop-children c.args.index c.deref-2.result.now (node_children c.args.self.now) terms in
+    rw (p.1, p.2) (λ not_memory. subst (λ ts. PassesLimit (c.args.draft ++ ts) c.in_err-share.field-0.0) back (c.in_err-share.ensures.err not_memory))
+
+pub returns-clause-ok : goal.returns-clause-ok
+returns-clause-ok c =
+    let items = c.deref-2.ensures.value ∙ ap (λ d. d.children.items) c.deref.ensures in
+    let terms = ap (map child_term) items ∙ children-view c.self.inside.data.value c.args.self.now c.self.view_is in
+    let back = ap (map child_term) c.split_at.ensures.back ∙ drop-children c.args.index c.deref-2.result.now (node_children c.args.self.now) terms in
+    c.in_ok-finish.ensures.ok ∙ ap (λ k. node_of k c.share.new.self) c.kind.ensures ∙ ap (node_of (node_kind c.args.self.now)) (c.in_ok-share.ensures.ok ∙ ap (λ ts. c.args.draft ++ ts) back)
+
+pub returns-clause-within : goal.returns-clause-within
+returns-clause-within c =
+    let items = c.deref-2.ensures.value ∙ ap (λ d. d.children.items) c.deref.ensures in
+    let terms = ap (map child_term) items ∙ children-view c.self.inside.data.value c.args.self.now c.self.view_is in
+    let back = ap (map child_term) c.split_at.ensures.back ∙ drop-children c.args.index c.deref-2.result.now (node_children c.args.self.now) terms in
+    subst AreWithin (c.in_ok-share.ensures.ok ∙ ap (λ ts. c.args.draft ++ ts) back) c.in_ok-finish.ensures.within
