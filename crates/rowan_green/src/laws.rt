@@ -3,6 +3,7 @@ ghost use Rattle.std.specs.Prelude.{◌≡◌, ◌↔◌, ℕ, List, [], ◌∷�
 ghost use Rattle.std.specs.Bool.{Decides};
 ghost use Rattle.rowan_green.specs.Cache.{is_eligible, with_term, first_seen, Continues};
 ghost use Rattle.rowan_green.specs.Same.{same_node, same_token};
+ghost use Rattle.rowan_green.specs.Span.{Span, Holds, intersection};
 ghost use Rattle.rowan_green.specs.Term.{TokenTerm, NodeTerm, Term, node_of, node_len, node_text, sum_of_lens, joined_text};
 ghost use Rattle.rowan_green.specs.Word.{Symbol, Item, HasParts, HasTerms, node_word, word_text};
 
@@ -40,4 +41,9 @@ pub fn cache_keeps_first_seen()
     ensures once { (limit : ℕ) (ts : List Term) (i j : ℕ) (t : Term) → slice_get (first_seen limit ts) i ≡ Some t → slice_get (first_seen limit ts) j ≡ Some t → i ≡ j }
     ensures continues { (limit : ℕ) (ts us : List Term) → Continues (first_seen limit ts) (first_seen limit (ts ++ us)) }
     ensures one_more { (limit : ℕ) (seen : List Term) (t : Term) → first_seen limit seen ≡ seen → with_term limit seen t ≡ first_seen limit (seen ++ t ∷ []) }
+{}
+
+/// The offsets of an intersection are those that both ranges hold.
+pub fn intersection_holds_what_both_hold()
+    ensures { (a b : Span) (offset : ℕ) → Holds (intersection a b) offset ↔ (Holds a offset × Holds b offset) }
 {}

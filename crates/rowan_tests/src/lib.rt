@@ -23,3 +23,5 @@ mod nodes;
 mod text;
 #[cfg(test)]
 mod tokens;
+#[cfg(test)]
+mod utility_types;
