@@ -8,6 +8,7 @@ ghost use Rattle.rowan_green.specs.Same.{same_node, same_token};
 ghost use Rattle.rowan_green.specs.Search.{HasRange, IsChildAt, digits};
 ghost use Rattle.rowan_green.specs.Term.{TokenTerm, NodeTerm, Term, node_of, node_len, node_text, sum_of_lens, joined_text, node_kind, node_children, term_text};
 ghost use Rattle.rowan_green.specs.declared.fault.Fault.{Fault};
+ghost use Rattle.rowan_green.specs.Span.{Span, Holds, intersection};
 ghost use Rattle.rowan_green.specs.Word.{Symbol, Item, HasParts, HasTerms, node_word, word_text};
 
 /// A word has at most one list of items: bare openings and whole terms.
@@ -84,4 +85,9 @@ pub fn one_child_is_at_a_range()
 /// A number has at most d binary digits exactly where it is below 2^d.
 pub fn digits_are_binary()
     ensures { (n d : ℕ) → digits n ≤ d ↔ n < 2 ^ d }
+{}
+
+/// The offsets of an intersection are those that both ranges hold.
+pub fn intersection_holds_what_both_hold()
+    ensures { (a b : Span) (offset : ℕ) → Holds (intersection a b) offset ↔ (Holds a offset × Holds b offset) }
 {}

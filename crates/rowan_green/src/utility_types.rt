@@ -43,20 +43,14 @@ impl<N, T> NodeOrToken<N, T> {
     pub fn as_node(&self) -> Option<&N>
         ensures { option_copied result ≡ into_node self.now }
     {
-        match self {
-            NodeOrToken::Node(node) => Some(node),
-            NodeOrToken::Token(_) => None,
-        }
+        self.as_ref().into_node()
     }
 
     /// The token, lent, or `None` of a node.
     pub fn as_token(&self) -> Option<&T>
         ensures { option_copied result ≡ into_token self.now }
     {
-        match self {
-            NodeOrToken::Node(_) => None,
-            NodeOrToken::Token(token) => Some(token),
-        }
+        self.as_ref().into_token()
     }
 
     /// The same, lent.

@@ -25,3 +25,5 @@ mod search;
 mod text;
 #[cfg(test)]
 mod tokens;
+#[cfg(test)]
+mod utility_types;

@@ -1,5 +1,7 @@
 //! Sizes and ranges of text.
 use rowan::text::{TextLen, TextRange, TextSize};
+use std::cmp::Ordering;
+use std::process::Abort;
 use std::test::Fail;
 
 /// Texts with their lengths in bytes.
@@ -70,4 +72,97 @@ fn ranges_show_both_ends(rt: HostRuntime) -> Result<(), Fail> {
     let shown = format!(in rt.alloc(); "{range:?}")?;
     assert_eq!(rt; shown.as_str(), "3..11");
     Ok(())
+}
+
+/// Two numbers with their sum and their difference, where there is one.
+const SUMS: [(u32, u32, Option<u32>, Option<u32>); 6] = [
+    (0, 0, Some(0), Some(0)),
+    (11, 7, Some(18), Some(4)),
+    (7, 8, Some(15), None),
+    (u32::MAX, 0, Some(u32::MAX), Some(u32::MAX)),
+    (u32::MAX - 1, 1, Some(u32::MAX), Some(u32::MAX - 2)),
+    (u32::MAX, 1, None, Some(u32::MAX - 1)),
+];
+
+#[test]
+fn sums_and_differences_stay_within_the_limits(rt: HostRuntime) {
+    for (a, b, sum, difference) in SUMS {
+        let (a, b) = (TextSize::from(a), TextSize::from(b));
+        assert_eq!(rt; a.checked_add(b), sum.map(TextSize::from), "{a:?} + {b:?}");
+        assert_eq!(rt;
+            a.checked_sub(b),
+            difference.map(TextSize::from),
+            "{a:?} - {b:?}"
+        );
+    }
+}
+
+/// A range from its two ends.
+fn range(rt: &impl Abort, ends: (u32, u32)) -> TextRange {
+    let (start, end) = ends;
+    assert!(rt; start <= end);
+    TextRange::new(TextSize::from(start), TextSize::from(end))
+}
+
+/// Two ranges, and whether the first contains the second.
+const INNER: [((u32, u32), (u32, u32), bool); 6] = [
+    ((2, 9), (3, 7), true),
+    ((2, 9), (2, 9), true),
+    ((2, 9), (9, 9), true),
+    ((2, 9), (1, 3), false),
+    ((2, 9), (8, 10), false),
+    ((3, 3), (3, 3), true),
+];
+
+#[test]
+fn ranges_contain_ranges(rt: HostRuntime) {
+    for (outer, inner, is_inside) in INNER {
+        let (outer, inner) = (range(&rt, outer), range(&rt, inner));
+        assert_eq!(rt;
+            outer.contains_range(inner),
+            is_inside,
+            "{inner:?} in {outer:?}"
+        );
+    }
+}
+
+#[test]
+fn ranges_contain_their_ends(rt: HostRuntime) {
+    let range = range(&rt, (3, 7));
+    for (offset, is_inside) in [(2, false), (3, true), (5, true), (7, true), (8, false)] {
+        assert_eq!(rt;
+            range.contains_inclusive(TextSize::from(offset)),
+            is_inside,
+            "{offset}"
+        );
+    }
+}
+
+/// Two ranges, what both have, and where the first stands beside the second.
+const PAIRS: [((u32, u32), (u32, u32), Option<(u32, u32)>, Ordering); 8] = [
+    ((0, 10), (5, 15), Some((5, 10)), Ordering::Equal),
+    ((2, 9), (3, 7), Some((3, 7)), Ordering::Equal),
+    ((0, 6), (3, 3), Some((3, 3)), Ordering::Equal),
+    ((0, 5), (5, 10), Some((5, 5)), Ordering::Less),
+    ((5, 10), (0, 5), Some((5, 5)), Ordering::Greater),
+    ((3, 3), (3, 3), Some((3, 3)), Ordering::Less),
+    ((0, 4), (6, 9), None, Ordering::Less),
+    ((6, 9), (0, 4), None, Ordering::Greater),
+];
+
+#[test]
+fn ranges_intersect(rt: HostRuntime) {
+    for (a, b, common, _) in PAIRS {
+        let (a, b) = (range(&rt, a), range(&rt, b));
+        let common = common.map(|ends| range(&rt, ends));
+        assert_eq!(rt; a.intersect(b), common, "{a:?} and {b:?}");
+    }
+}
+
+#[test]
+fn ranges_stand_in_order(rt: HostRuntime) {
+    for (a, b, _, order) in PAIRS {
+        let (a, b) = (range(&rt, a), range(&rt, b));
+        assert_eq!(rt; a.ordering(b), order, "{a:?} and {b:?}");
+    }
 }

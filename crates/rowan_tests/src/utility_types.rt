@@ -1,0 +1,117 @@
+//! Nodes or tokens, directions, events of walks, and the tokens at an offset.
+use rowan::{Direction, NodeOrToken, TokenAtOffset, WalkEvent};
+use std::collections::HashSet;
+use std::mem;
+use std::test::Fail;
+
+type Element = NodeOrToken<u8, char>;
+
+/// An element, with its node and its token.
+const ELEMENTS: [(Element, Option<u8>, Option<char>); 2] = [
+    (NodeOrToken::Node(7), Some(7), None),
+    (NodeOrToken::Token('t'), None, Some('t')),
+];
+
+#[test]
+fn elements_are_nodes_or_tokens(rt: HostRuntime) {
+    for (element, node, token) in ELEMENTS {
+        assert_eq!(rt; element.as_node().copied(), node);
+        assert_eq!(rt; element.as_token().copied(), token);
+        assert_eq!(rt; element.into_node(), node);
+        assert_eq!(rt; element.into_token(), token);
+    }
+}
+
+#[test]
+fn elements_show_what_they_hold(rt: HostRuntime) -> Result<(), Fail> {
+    for (element, shown, debugged) in [
+        (Element::Node(7), "7", "Node(7)"),
+        (Element::Token('t'), "t", "Token('t')"),
+    ] {
+        assert_eq!(rt; element.to_string(rt.alloc())?.as_str(), shown);
+        assert_eq!(rt; format!(in rt.alloc(); "{element:?}")?.as_str(), debugged);
+    }
+    Ok(())
+}
+
+#[test]
+fn nodes_stand_before_tokens(rt: HostRuntime) {
+    assert!(rt; Element::Node(7) < Element::Token('a'));
+    assert!(rt; Element::Token('a') < Element::Token('b'));
+    assert_ne!(rt; Element::Node(7), Element::Node(8));
+}
+
+#[test]
+fn directions_are_two(rt: HostRuntime) -> Result<(), Fail> {
+    assert!(rt; Direction::Next < Direction::Prev);
+    for (direction, shown) in [(Direction::Next, "Next"), (Direction::Prev, "Prev")] {
+        assert_eq!(rt; format!(in rt.alloc(); "{direction:?}")?.as_str(), shown);
+    }
+    Ok(())
+}
+
+#[test]
+fn elements_and_directions_are_keys(rt: HostRuntime) -> Result<(), Fail> {
+    let mut keys = HashSet::new(rt.alloc());
+    for direction in [Direction::Next, Direction::Prev] {
+        for (element, _, _) in ELEMENTS {
+            assert!(rt; keys.insert((element, direction))?);
+            assert!(rt; !keys.insert((element, direction))?);
+        }
+    }
+    assert_eq!(rt; keys.len(), 4);
+    Ok(())
+}
+
+#[test]
+fn events_keep_their_case(rt: HostRuntime) -> Result<(), Fail> {
+    for (event, shown, mapped) in [
+        (WalkEvent::Enter(7u8), "Enter(7)", "Enter((7, true))"),
+        (WalkEvent::Leave(11), "Leave(11)", "Leave((11, true))"),
+    ] {
+        let paired = event.map(|value| (value, true));
+        assert_eq!(rt; format!(in rt.alloc(); "{paired:?}")?.as_str(), mapped);
+        assert_eq!(rt; format!(in rt.alloc(); "{event:?}")?.as_str(), shown);
+    }
+    Ok(())
+}
+
+/// Tokens at an offset, from left to right.
+const FOUND: [(TokenAtOffset<u8>, &[u8]); 3] = [
+    (TokenAtOffset::None, &[]),
+    (TokenAtOffset::Single(7), &[7]),
+    (TokenAtOffset::Between(7, 11), &[7, 11]),
+];
+
+#[test]
+fn tokens_come_from_left_to_right(rt: HostRuntime) {
+    for (mut found, tokens) in FOUND {
+        for (index, token) in tokens.iter().enumerate() {
+            assert_eq!(rt; found.len(), tokens.len() - index);
+            assert_eq!(rt; found.next(), Some(*token));
+        }
+        assert_eq!(rt; found.len(), 0);
+        assert_eq!(rt; found.next(), None);
+        assert_eq!(rt; found.next(), None);
+    }
+}
+
+#[test]
+fn a_bias_takes_one_of_two(rt: HostRuntime) -> Result<(), Fail> {
+    for (found, tokens) in FOUND {
+        assert_eq!(rt; found.clone()?.left_biased(), tokens.first().copied());
+        assert_eq!(rt; found.right_biased(), tokens.last().copied());
+    }
+    Ok(())
+}
+
+#[test]
+fn tokens_are_mapped_from_left_to_right(rt: HostRuntime) -> Result<(), Fail> {
+    let shown = ["None", "Single((0, 7))", "Between((0, 7), (7, 11))"];
+    for ((found, _), shown) in FOUND.into_iter().zip(shown) {
+        let mut before = 0;
+        let mapped = found.map(|token| (mem::replace(&mut before, token), token));
+        assert_eq!(rt; format!(in rt.alloc(); "{mapped:?}")?.as_str(), shown);
+    }
+    Ok(())
+}
