@@ -1,8 +1,9 @@
 -- A search by halves among the children of a node: what it has narrowed the range's child to, and how many steps are left.
-use Rattle.std.proofs.Common.{◌≡◌, ℕ, zero, suc, ◌+◌, ◌-◌, ◌/◌, ◌^◌, ◌<◌, ◌≤◌, List, [], ◌∷◌, map, length, take, get_or, Some, refl, sym, ◌∙◌, ap, subst, arith, add-one, ◌⊎◌, inl, inr}
+use Rattle.std.proofs.Common.{◌≡◌, ℕ, zero, suc, ◌+◌, ◌-◌, ◌/◌, ◌^◌, ◌<◌, ◌≤◌, List, [], ◌∷◌, map, length, get_or, Some, refl, sym, ap, subst, arith, add-one, ◌⊎◌, inl, inr}
+use Rattle.std.proofs.lemmas.List.{length-map}
 use Rattle.std.proofs.lemmas.Int.Digits.{length-digits_of-le, length-digits_of_step, number_lt, number_digits_of, all_below_base_digits_of}
 use Rattle.std.proofs.Math.Pow.{pow_mono}
-use Rattle.std.specs.Int.Digits.{digits_of, number_from_digits}
+use Rattle.std.specs.Int.Digits.{digits_of}
 use Rattle.std.specs.Prelude.{slice_get}
 use Rattle.rowan_green.specs.declared.green.node.GreenChild.{GreenChild}
 use Rattle.rowan_green.specs.Fits.{byte_limit, AreWithin}
@@ -10,7 +11,7 @@ use Rattle.rowan_green.specs.View.{child_term, HasOffsetsFrom}
 use Rattle.rowan_green.proofs.ChildList.{child-at}
 use Rattle.rowan_green.specs.Term.{Term, sum_of_lens, term_len}
 use Rattle.rowan_green.specs.Steps.{count_limit, one_more}
-use Rattle.rowan_green.specs.Search.{child_start, child_end, HasRange, HasInside, IsLastBefore, IsFirstBehind, IsChildAt, has_bytes, has_place, ends_there, begins_there, IsOnlyChoice, digits}
+use Rattle.rowan_green.specs.Search.{child_start, child_end, HasRange, IsChildAt, has_bytes, has_place, ends_there, begins_there, IsOnlyChoice, digits}
 
 pub child_start-le : (ts : List Term) (i j : ℕ) → i ≤ j → child_start ts i ≤ child_start ts j
 child_start-le ts zero j h = omega arith
@@ -142,12 +143,12 @@ pub record IsNarrowed (ts : List Term) (a b low high : ℕ) : Type 0 where
 pub not-narrowed : (ts : List Term) (a b n : ℕ) → n ≡ length ts → IsNarrowed ts a b 0 n
 not-narrowed ts a b n e = record { order = omega arith; place = omega arith; before = omega arith; behind = λ h. absurd (omega arith) }
 
--- the child in the middle lies before the range, or behind it
-pub narrowed-less : (ts : List Term) (a b low high middle : ℕ) → IsNarrowed ts a b low high → low < high → middle ≡ low + (high - low) / 2 → child_end ts middle ≤ a → IsNarrowed ts a b (middle + 1) high
-narrowed-less ts a b low high middle s h e less = record { order = omega arith; place = s.place; before = less; behind = s.behind }
+-- the child in the middle, or another one that is left, lies before the range, or behind it
+pub narrowed-less : (ts : List Term) (a b low high middle : ℕ) → IsNarrowed ts a b low high → middle < high → child_end ts middle ≤ a → IsNarrowed ts a b (middle + 1) high
+narrowed-less ts a b low high middle s h less = record { order = omega arith; place = s.place; before = less; behind = s.behind }
 
-pub narrowed-greater : (ts : List Term) (a b low high middle : ℕ) → IsNarrowed ts a b low high → low < high → middle ≡ low + (high - low) / 2 → a < child_end ts middle → b ≤ child_start ts middle → IsNarrowed ts a b low middle
-narrowed-greater ts a b low high middle s h e behind greater = record { order = omega arith; place = omega (arith, s.place); before = s.before; behind = λ l. (greater, behind) }
+pub narrowed-greater : (ts : List Term) (a b low high middle : ℕ) → IsNarrowed ts a b low high → low ≤ middle → middle < high → a < child_end ts middle → b ≤ child_start ts middle → IsNarrowed ts a b low middle
+narrowed-greater ts a b low high middle s l h behind greater = record { order = l; place = omega (arith, s.place); before = s.before; behind = λ q. (greater, behind) }
 
 border-is : (ts : List Term) (a b i : ℕ) → a ≤ b → IsNarrowed ts a b i i → HasRange ts a b (i - 1) → IsChildAt ts a b (i - 1)
 border-is ts a b zero ab s r =
@@ -202,6 +203,59 @@ border ts a b i ab s = record {
       (e, subst (HasRange ts a b) e (has-range ts a b j p));
 }
 
+-- the place x is reached among the first n children: child i is the first of them that ends behind it, if one does
+record IsReached (ts : List Term) (x n i : ℕ) : Type 0 where
+  bound : i ≤ n
+  before : child_start ts i ≤ x
+  behind : i < n → x < child_end ts i
+
+reached : (ts : List Term) (x n : ℕ) → n ≤ length ts → (i : ℕ) × IsReached ts x n i
+reached ts x zero h = (0, record { bound = omega arith; before = omega arith; behind = λ q. absurd (omega arith) })
+reached ts x (suc n) h =
+    let p = reached ts x n (omega arith) in
+    elim (order-cases p.0 n) [
+      | inl q ↦ (p.0, record { bound = omega (arith, p.1.bound); before = p.1.before; behind = λ r. p.1.behind q })
+      | inr q ↦
+          let e : p.0 ≡ n = elim q [ inl e ↦ e | inr g ↦ absurd (omega (arith, p.1.bound)) ] in
+          let before : child_start ts n ≤ x = subst (λ i. child_start ts i ≤ x) e p.1.before in
+          elim (order-cases x (child_end ts n)) [
+            | inl r ↦ (n, record { bound = omega arith; before = before; behind = λ l. r })
+            | inr r ↦ (
+              suc n,
+              record {
+                bound = omega arith;
+                before = (let end : child_end ts n ≡ child_start ts (suc n) = rw add-one refl in elim r [ inl g ↦ omega arith | inr g ↦ omega arith ]);
+                behind = λ l. absurd (omega arith);
+              },
+            )
+          ]
+    ]
+
+child_start-whole : (ts : List Term) → sum_of_lens ts ≤ child_start ts (length ts)
+child_start-whole [] = omega arith
+child_start-whole (t ∷ ts) = omega (arith, child_start-whole ts)
+
+-- each place in the text of a node with children is at a child
+pub child-at-place : (ts : List Term) (x : ℕ) → 0 < length ts → x ≤ sum_of_lens ts → (k : ℕ) × IsChildAt ts x x k
+child-at-place ts x some h =
+    let p = reached ts x (length ts) (omega arith) in
+    elim (order-cases (child_start ts p.0) x) [
+      | inl q ↦ elim (order-cases p.0 (length ts)) [
+        | inl l ↦ (p.0, has_place refl record { place = l; before = q; behind = p.1.behind l })
+        | inr l ↦ absurd (omega (arith, child_start-whole ts, child_start-le ts (length ts) p.0 (elim l [ inl e ↦ omega arith | inr g ↦ omega arith ])))
+      ]
+      | inr q ↦
+          let begins : x ≤ child_start ts p.0 = elim q [ inl e ↦ omega arith | inr g ↦ omega arith ] in
+          let s : IsNarrowed ts x x p.0 p.0 = record { order = omega arith; place = p.1.bound; before = p.1.before; behind = λ l. (begins, p.1.behind l) } in (
+            p.0 - 1,
+            border-is ts x x p.0 (omega arith) s record {
+              place = omega (arith, p.1.bound);
+              from = omega (arith, p.1.before, child_start-le ts (p.0 - 1) p.0 (omega arith));
+              to = omega (arith, begins, child_start-le ts p.0 (p.0 - 1 + 1) (omega arith));
+            },
+          )
+    ]
+
 -- a child in memory, at its place
 pub record IsPlaced (ts : List Term) (k : ℕ) (c : GreenChild) : Type 0 where
   pub start : c.rel_offset ≡ child_start ts k
@@ -209,8 +263,8 @@ pub record IsPlaced (ts : List Term) (k : ℕ) (c : GreenChild) : Type 0 where
   pub limit : child_end ts k ≤ byte_limit
   pub term : slice_get ts k ≡ Some (child_term c)
 
-pub placed : (cs : List GreenChild) (k : ℕ) (c : GreenChild) → HasOffsetsFrom 0 cs → AreWithin (map child_term cs) → k < length cs → c ≡ get_or cs k c → IsPlaced (map child_term cs) k c
-placed cs k c h w l e =
+pub placed : (cs : List GreenChild) (k : ℕ) (c : GreenChild) → HasOffsetsFrom 0 cs → AreWithin (map child_term cs) → c ≡ get_or cs k c → k < length cs → IsPlaced (map child_term cs) k c
+placed cs k c h w e l =
     let at = child-at 0 cs k c h l e in
     record {
       start = omega (arith, at.offset);
@@ -218,6 +272,10 @@ placed cs k c h w l e =
       limit = omega (arith, w.text, child_start-le_all (map child_term cs) (k + 1));
       term = at.term;
     }
+
+-- a child that is left to be looked at, at its place
+pub left-placed : (cs : List GreenChild) (a b low high k : ℕ) (c : GreenChild) → HasOffsetsFrom 0 cs → AreWithin (map child_term cs) → IsNarrowed (map child_term cs) a b low high → c ≡ get_or cs k c → k < high → IsPlaced (map child_term cs) k c
+left-placed cs a b low high k c h w s e l = placed cs k c h w e (omega (arith, s.place, length-map cs child_term))
 
 -- binary digits
 pub digits-le : (n d : ℕ) → n < 2 ^ d → digits n ≤ d

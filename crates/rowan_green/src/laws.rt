@@ -73,11 +73,13 @@ pub fn cache_keeps_first_seen()
     ensures one_more { (limit : ℕ) (seen : List Term) (t : Term) → first_seen limit seen ≡ seen → with_term limit seen t ≡ first_seen limit (seen ++ t ∷ []) }
 {}
 
-/// At most one child of a node is the one at a range; of a range with bytes it is the one that has them all. It has the range in
-/// any case, so no child is at a range that ends behind the node.
+/// At most one child of a node is the one at a range; of a range with bytes it is the one that has them all, and each place in
+/// the text, its ends among them, is at a child, if there are children. A child has the range that it is at, so no child is at a
+/// range that ends behind the node.
 pub fn one_child_is_at_a_range()
     ensures one { (ts : List Term) (a b j k : ℕ) → IsChildAt ts a b j → IsChildAt ts a b k → j ≡ k }
     ensures bytes { (ts : List Term) (a b k : ℕ) → a < b → IsChildAt ts a b k ↔ HasRange ts a b k }
+    ensures places { (ts : List Term) (x : ℕ) → 0 < length ts → x ≤ sum_of_lens ts → (k : ℕ) × IsChildAt ts x x k }
     ensures has { (ts : List Term) (a b k : ℕ) → IsChildAt ts a b k → HasRange ts a b k }
     ensures inside { (ts : List Term) (a b k : ℕ) → IsChildAt ts a b k → b ≤ sum_of_lens ts }
 {}

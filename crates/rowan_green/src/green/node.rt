@@ -216,10 +216,10 @@ impl GreenNode {
         Some((child.rel_offset, child.element.as_ref()))
     }
 
-    /// The child at a range, which counts from the node's own start, with its place and offset: the one that has all bytes of the
-    /// range. An empty range is a place between bytes: it is at the child that has bytes on both sides of it, else at the last
-    /// child that ends there, and at the node's start at the first child. Takes no memory, and looks at no more children than
-    /// their number has binary digits.
+    /// The child at a range, with its index and its offset, where all offsets count from the node's own start: the child that has
+    /// all bytes of the range. An empty range is a place between bytes, and the child there is the one with bytes on both sides of
+    /// it, else the last one that ends there, else the first one, if it begins there. Compares at most as many children as their
+    /// number has binary digits, and counts these comparisons. Takes no memory.
     pub fn child_at_range(
         &self,
         range: TextRange,
@@ -228,7 +228,7 @@ impl GreenNode {
         ensures some { IfSome result (λ p. IsChildAt (node_children self.now) range.start range.end p.0
             × (p.1 ≡ child_start (node_children self.now) p.0)
             × (slice_get (node_children self.now) p.0 ≡ Some (pointee p.2))) }
-        ensures none { IsNone result → (k : ℕ) → IsChildAt (node_children self.now) range.start range.end k → ⊥ }
+        ensures none { IsNone result → (k : ℕ) → ¬ IsChildAt (node_children self.now) range.start range.end k }
         ensures most { steps.new.comparisons ≤ steps.old.comparisons + digits (length (node_children self.now)) }
         ensures least { 0 < length (node_children self.now) → steps.old.comparisons < count_limit
             → steps.old.comparisons < steps.new.comparisons }

@@ -1,43 +1,33 @@
-use Rattle.std.proofs.Common.{◌≡◌, ◌+◌, ◌-◌, ◌/◌, ◌<◌, ◌≤◌, map, length, refl, subst, arith}
-use Rattle.std.proofs.lemmas.List.{length-map}
-use Rattle.rowan_green.specs.Search.{IsOnlyChoice}
+use Rattle.std.proofs.Common.{◌≡◌, map, refl, subst, arith}
 use Rattle.rowan_green.specs.View.{child_term}
-use Rattle.rowan_green.proofs.SearchLemmas.{IsNarrowed, IsPlaced, placed, narrowed-less, narrowed-greater, found, border, IsCounted-step}
+use Rattle.rowan_green.proofs.SearchLemmas.{IsNarrowed, left-placed, narrowed-less, narrowed-greater, found, border, IsCounted-step}
 use Rattle.rowan_green.proofs.green.node.GreenChild.search.Goals as goal
 
 pub compare-requires : goal.compare-requires
 compare-requires c =
-    let cs = c.args.children.now in
-    let s = c.loop-low.invariant.0 in
-    let p = placed cs (c.loop-low.low + (c.loop-low.high - c.loop-low.low) / 2) c.index-children-middle.result c.requires.placed c.requires.within (omega (arith, s.place, length-map cs child_term, c.loop-low-test.true)) c.index-children-middle.is in
+    let p = left-placed _ _ _ _ _ _ _ c.requires.placed c.requires.within c.loop-low.invariant.0 c.index-children-middle.is (omega (arith, c.loop-low-test.true)) in
     omega (arith, p.end, p.limit)
 
 pub loop-low-preserved-in-Less : goal.loop-low-preserved-in-Less
 loop-low-preserved-in-Less c =
-    let cs = c.args.children.now in
-    let s = c.loop-low.invariant.0 in
-    let p = placed cs (c.loop-low.low + (c.loop-low.high - c.loop-low.low) / 2) c.index-children-middle.result c.requires.placed c.requires.within (omega (arith, s.place, length-map cs child_term, c.loop-low-test.true)) c.index-children-middle.is in (
-      narrowed-less _ _ _ _ _ _ s c.loop-low-test.true refl (omega (arith, p.end, c.in-Less.ensures.less refl)),
+    let p = left-placed _ _ _ _ _ _ _ c.requires.placed c.requires.within c.loop-low.invariant.0 c.index-children-middle.is (omega (arith, c.loop-low-test.true)) in (
+      narrowed-less _ _ _ _ _ _ c.loop-low.invariant.0 (omega (arith, c.loop-low-test.true)) (omega (arith, p.end, c.in-Less.ensures.less refl)),
       IsCounted-step _ _ _ _ _ _ c.loop-low.invariant.1 (omega (arith, c.loop-low-test.true)) (omega arith) c.compare.ensures.comparisons c.compare.ensures.grows,
       omega arith,
     )
 
 pub loop-low-preserved : goal.loop-low-preserved
 loop-low-preserved c =
-    let cs = c.args.children.now in
-    let s = c.loop-low.invariant.0 in
-    let p = placed cs (c.loop-low.low + (c.loop-low.high - c.loop-low.low) / 2) c.index-children-middle.result c.requires.placed c.requires.within (omega (arith, s.place, length-map cs child_term, c.loop-low-test.true)) c.index-children-middle.is in
+    let p = left-placed _ _ _ _ _ _ _ c.requires.placed c.requires.within c.loop-low.invariant.0 c.index-children-middle.is (omega (arith, c.loop-low-test.true)) in
     let greater = c.in-Greater.ensures.greater refl in (
-      narrowed-greater _ _ _ _ _ _ s c.loop-low-test.true refl (omega (arith, p.end, greater.0)) (omega (arith, p.start, greater.1)),
+      narrowed-greater _ _ _ _ _ _ c.loop-low.invariant.0 (omega arith) (omega (arith, c.loop-low-test.true)) (omega (arith, p.end, greater.0)) (omega (arith, p.start, greater.1)),
       IsCounted-step _ _ _ _ _ _ c.loop-low.invariant.1 (omega (arith, c.loop-low-test.true)) (omega arith) c.compare.ensures.comparisons c.compare.ensures.grows,
       omega arith,
     )
 
 pub returns-in-Equal-clause-choice : goal.returns-in-Equal-clause-choice
 returns-in-Equal-clause-choice c =
-    let cs = c.args.children.now in
-    let s = c.loop-low.invariant.0 in
-    let p = placed cs (c.loop-low.low + (c.loop-low.high - c.loop-low.low) / 2) c.index-children-middle.result c.requires.placed c.requires.within (omega (arith, s.place, length-map cs child_term, c.loop-low-test.true)) c.index-children-middle.is in
+    let p = left-placed _ _ _ _ _ _ _ c.requires.placed c.requires.within c.loop-low.invariant.0 c.index-children-middle.is (omega (arith, c.loop-low-test.true)) in
     let over = c.in-Equal.ensures.equal refl in
     λ ordered. found _ _ _ _ ordered (omega (arith, p.end, over.0)) (omega (arith, p.start, over.1))
 

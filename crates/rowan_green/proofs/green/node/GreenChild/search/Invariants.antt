@@ -1,6 +1,4 @@
-use Rattle.std.proofs.Common.{◌≡◌, ◌+◌, ◌-◌, ◌<◌, ◌≤◌, map, length}
-use Rattle.rowan_green.specs.Search.{digits}
-use Rattle.rowan_green.specs.Steps.{count_limit}
+use Rattle.std.proofs.Common.{◌≡◌, ◌-◌, map, length}
 use Rattle.rowan_green.specs.View.{child_term}
 use Rattle.rowan_green.proofs.SearchLemmas.{IsNarrowed, IsCounted}
 use Rattle.rowan_green.proofs.green.node.GreenChild.search.Given as goal

@@ -1,13 +1,11 @@
-use Rattle.std.proofs.Common.{◌≡◌, ◌+◌, ◌<◌, ◌≤◌, List, map, length, Some, sym, ap, ◌∙◌, subst, arith}
+use Rattle.std.proofs.Common.{◌≤◌, map, length, Some, sym, ap, ◌∙◌, subst, arith}
 use Rattle.std.proofs.lemmas.List.{length-map}
 use Rattle.std.specs.Prelude.{slice_get}
-use Rattle.rowan_green.specs.declared.green.node.GreenChild.{GreenChild}
-use Rattle.rowan_green.specs.Term.{Term}
 use Rattle.rowan_green.specs.Fits.{AreWithin}
 use Rattle.rowan_green.specs.Search.{HasRange, IsOnlyChoice, IsChildAt, child_start, digits}
 use Rattle.rowan_green.specs.View.{child_term, HasOffsetsFrom}
 use Rattle.rowan_green.proofs.ChildList.{children-view}
-use Rattle.rowan_green.proofs.SearchLemmas.{IsPlaced, placed, bounds}
+use Rattle.rowan_green.proofs.SearchLemmas.{placed, bounds}
 use Rattle.rowan_green.proofs.green.node.GreenNode.child_at_range.Goals as goal
 
 pub returns-in_err-child-clause-none : goal.returns-in_err-child-clause-none
@@ -35,7 +33,7 @@ rel_range-requires c =
     let look = c.in_ok-child.ensures.lookup in
     let offsets : HasOffsetsFrom 0 cs = subst (λ xs. HasOffsetsFrom 0 xs) (sym items) c.self.invariant.offsets in
     let within : AreWithin (map child_term cs) = subst (λ xs. AreWithin (map child_term xs)) (sym items) c.self.invariant.within in
-    let p = placed cs c.search-index.result c.in_ok-child.child.now offsets within look.3.0 look.1 in
+    let p = placed cs c.search-index.result c.in_ok-child.child.now offsets within look.1 look.3.0 in
     omega (arith, p.end, p.limit)
 
 pub returns-then-not-contains_range-clause-none : goal.returns-then-not-contains_range-clause-none
@@ -45,7 +43,7 @@ returns-then-not-contains_range-clause-none c =
     let look = c.in_ok-child.ensures.lookup in
     let offsets : HasOffsetsFrom 0 cs = subst (λ xs. HasOffsetsFrom 0 xs) (sym items) c.self.invariant.offsets in
     let within : AreWithin (map child_term cs) = subst (λ xs. AreWithin (map child_term xs)) (sym items) c.self.invariant.within in
-    let p = placed cs c.search-index.result c.in_ok-child.child.now offsets within look.3.0 look.1 in
+    let p = placed cs c.search-index.result c.in_ok-child.child.now offsets within look.1 look.3.0 in
     let terms = ap (map child_term) items ∙ children-view c.self.inside.data.value c.args.self.now c.self.view_is in
     λ none k q.
     let r : IsChildAt (map child_term cs) c.args.range.start c.args.range.end k = subst (λ ts. IsChildAt ts c.args.range.start c.args.range.end k) (sym terms) q in
@@ -68,7 +66,7 @@ returns-clause-some c =
     let look = c.in_ok-child.ensures.lookup in
     let offsets : HasOffsetsFrom 0 cs = subst (λ xs. HasOffsetsFrom 0 xs) (sym items) c.self.invariant.offsets in
     let within : AreWithin (map child_term cs) = subst (λ xs. AreWithin (map child_term xs)) (sym items) c.self.invariant.within in
-    let p = placed cs c.search-index.result c.in_ok-child.child.now offsets within look.3.0 look.1 in
+    let p = placed cs c.search-index.result c.in_ok-child.child.now offsets within look.1 look.3.0 in
     let terms = ap (map child_term) items ∙ children-view c.self.inside.data.value c.args.self.now c.self.view_is in
     let has = c.contains_range.ensures.contains.0 c.if-not-contains_range.false in
     let in_range : HasRange (map child_term cs) c.args.range.start c.args.range.end c.search-index.result = record {
