@@ -10,6 +10,8 @@ mod children;
 #[cfg(test)]
 mod cursor;
 #[cfg(test)]
+mod edits;
+#[cfg(test)]
 mod equality;
 #[cfg(test)]
 mod faults;
