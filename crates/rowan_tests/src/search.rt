@@ -16,8 +16,10 @@ fn bytes(alloc: Global, count: usize) -> Result<GreenNode, Fault> {
 
 /// Place and offset of the child at a range.
 fn place(node: &GreenNode, range: TextRange, steps: &mut Steps) -> Option<(usize, u32)> {
-    let (index, offset, _) = node.child_at_range(range, steps)?;
-    Some((index, u32::from(offset)))
+    match node.child_at_range(range, steps) {
+        Some((index, offset, _)) => Some((index, u32::from(offset))),
+        None => None,
+    }
 }
 
 /// Starts and lengths of ranges, with the place and offset of the child there, in a node over `ab`, a node without children and
