@@ -1,11 +1,11 @@
 -- Laws of runs: what a run makes of the cache, of the word, and of its text.
-use Rattle.std.proofs.Common.{◌≡◌, ℕ, List, [], ◌∷◌, ◌++◌, Ok, map, fold, Some, refl, sym, ◌∙◌, ap, append_assoc}
+use Rattle.std.proofs.Common.{◌≡◌, ℕ, List, [], ◌∷◌, ◌++◌, Ok, map, Some, refl, sym, ◌∙◌, ap, append_assoc}
 use Rattle.std.proofs.lemmas.Grind.{fold-append}
 use Rattle.std.proofs.lemmas.List.{append-nil}
 use Rattle.std.specs.Prelude.{string_bytes}
 use Rattle.rowan_green.specs.declared.utility_types.NodeOrToken.TheVariants.{Node as node_term}
 use Rattle.rowan_green.specs.Builder.{BuilderValue}
-use Rattle.rowan_green.specs.Cache.{CacheValue, with_term}
+use Rattle.rowan_green.specs.Cache.{asked}
 use Rattle.rowan_green.specs.Term.{Term, joined_text}
 use Rattle.rowan_green.specs.Word.{Symbol, Open, Leaf, Close, Bare, Whole, whole_terms, word_text, Wraps}
 use Rattle.rowan_green.proofs.WeaveLemmas.{whole_terms-append}
@@ -15,7 +15,7 @@ use Rattle.rowan.specs.declared.script.calls.Call.TheVariants.{Token, StartNode,
 use Rattle.rowan.specs.declared.script.calls.Outcome.{Outcome}
 use Rattle.rowan.specs.declared.script.calls.Outcome.TheVariants.{Accepted, Marked, Refused}
 use Rattle.rowan_green.specs.declared.fault.Fault.{Fault}
-use Rattle.rowan_green.specs.Stream.{BuildsOn}
+use Rattle.rowan_green.specs.Stream.{asked_for, BuildsOn}
 use Rattle.rowan_green.proofs.StreamLemmas.{BuildsOn-same, BuildsOn-trans, BuildsOn-adds, BuildsOn-opens, BuildsOn-finishes, BuildsOn-wraps}
 use Rattle.rowan.specs.Run.{Run, Accepts, Gives, with_mark, RunFrom}
 use Rattle.rowan.specs.Asked.{asked_if_accepted, asked_by, stream_from, added_text, accepted_text}
@@ -23,14 +23,7 @@ use Rattle.rowan.proofs.Exact.{Closes-unique, Wraps-unique}
 
 -- ---- the cache
 
--- the cache after it was asked for these terms in turn
-abbrev pub asked_all : CacheValue → List Term → CacheValue
-asked_all cache ts = record { limit = cache.limit; seen = fold (with_term cache.limit) cache.seen ts }
-
-asked_all-append : (cache : CacheValue) (ts us : List Term) → asked_all (asked_all cache ts) us ≡ asked_all cache (ts ++ us)
-asked_all-append cache ts us = ap (λ s. record { limit = cache.limit; seen = s }) (sym (fold-append (with_term cache.limit) cache.seen ts us))
-
-cache-accepted : (marks : List ℕ) (old : BuilderValue) (call : Call) (new : BuilderValue) (a : Accepts marks old call new) → new.cache ≡ asked_all old.cache (asked_if_accepted marks old call new a)
+cache-accepted : (marks : List ℕ) (old : BuilderValue) (call : Call) (new : BuilderValue) (a : Accepts marks old call new) → new.cache ≡ asked_for old.cache (asked_if_accepted marks old call new a)
 cache-accepted marks old (Token kind text) new a = ap (λ b. b.cache) a
 cache-accepted marks old (StartNode kind) new a = ap (λ b. b.cache) a
 cache-accepted marks old FinishNode new a = a.interns
@@ -38,19 +31,19 @@ cache-accepted marks old Mark new a = absurd a
 cache-accepted marks old (StartNodeAt mark kind) new a = a.2.same_cache
 cache-accepted marks old (StartNodeAtCheckpoint c kind) new a = a.same_cache
 
-cache-step : (marks : List ℕ) (old : BuilderValue) (call : Call) (outcome : Outcome) (new : BuilderValue) (g : Gives marks old call outcome new) → new.cache ≡ asked_all old.cache (asked_by marks old call outcome new g)
+cache-step : (marks : List ℕ) (old : BuilderValue) (call : Call) (outcome : Outcome) (new : BuilderValue) (g : Gives marks old call outcome new) → new.cache ≡ asked_for old.cache (asked_by marks old call outcome new g)
 cache-step marks old call Accepted new g = cache-accepted marks old call new g
 cache-step marks old call (Marked c) new g = ap (λ b. b.cache) g.2
 cache-step marks old call (Refused fault) new g = ap (λ b. b.cache) g.1
 
-pub cache-run : (calls : List Call) (outcomes : List Outcome) (marks : List ℕ) (old new : BuilderValue) (run : RunFrom marks old calls outcomes new) → new.cache ≡ asked_all old.cache (stream_from marks old calls outcomes new run)
+pub cache-run : (calls : List Call) (outcomes : List Outcome) (marks : List ℕ) (old new : BuilderValue) (run : RunFrom marks old calls outcomes new) → new.cache ≡ asked_for old.cache (stream_from marks old calls outcomes new run)
 cache-run [] [] marks old new run = ap (λ b. b.cache) run
 cache-run [] (outcome ∷ outcomes) marks old new run = absurd run
 cache-run (call ∷ calls) [] marks old new run = absurd run
 cache-run (call ∷ calls) (outcome ∷ outcomes) marks old new run =
     let here = asked_by marks old call outcome run.0 run.1.gives in
     let rest = stream_from (with_mark marks outcome) run.0 calls outcomes new run.2 in
-    cache-run calls outcomes (with_mark marks outcome) run.0 new run.2 ∙ ap (λ cache. asked_all cache rest) (cache-step marks old call outcome run.0 run.1.gives) ∙ asked_all-append old.cache here rest
+    cache-run calls outcomes (with_mark marks outcome) run.0 new run.2 ∙ ap (λ cache. asked_for cache rest) (cache-step marks old call outcome run.0 run.1.gives) ∙ sym (fold-append asked old.cache here rest)
 
 -- ---- the word
 

@@ -1,8 +1,8 @@
 //! Laws of runs, each as the contract of a function that does nothing; and the laws of green trees.
-ghost use Rattle.std.specs.Prelude.{◌≡◌, List, [], ◌++◌, fold};
+ghost use Rattle.std.specs.Prelude.{◌≡◌, List, [], ◌++◌};
 ghost use Rattle.rowan_green.specs.Builder.{BuilderValue};
-ghost use Rattle.rowan_green.specs.Cache.{with_term, first_seen};
-ghost use Rattle.rowan_green.specs.Stream.{BuildsOn};
+ghost use Rattle.rowan_green.specs.Cache.{first_seen};
+ghost use Rattle.rowan_green.specs.Stream.{asked_for, BuildsOn};
 ghost use Rattle.rowan_green.specs.Word.{word_text};
 ghost use Rattle.rowan.specs.declared.script.calls.Call.{Call};
 ghost use Rattle.rowan.specs.declared.script.calls.Outcome.{Outcome};
@@ -11,9 +11,12 @@ ghost use Rattle.rowan.specs.Asked.{stream, accepted_text};
 
 pub use rowan_green::laws as green;
 
-/// After a run the cache keeps what it kept, and then the terms that the run asked for, each where it was first asked for.
+/// A run asks its cache for the terms of its stream, in their order. So where the cache kept what is first seen of some terms,
+/// as each cache does, it keeps what is first seen of these followed by the stream, and a cache that kept nothing what is first
+/// seen of the stream.
 pub fn cache_keeps_the_stream()
-    ensures grows { (old new : BuilderValue) (calls : List Call) (outcomes : List Outcome) (run : Run old calls outcomes new) → new.cache ≡ record { limit = old.cache.limit; seen = fold (with_term old.cache.limit) old.cache.seen (stream run) } }
+    ensures asked { (old new : BuilderValue) (calls : List Call) (outcomes : List Outcome) (run : Run old calls outcomes new) → new.cache ≡ asked_for old.cache (stream run) }
+    ensures first { (old new : BuilderValue) (calls : List Call) (outcomes : List Outcome) (run : Run old calls outcomes new) → first_seen old.cache.limit old.cache.seen ≡ old.cache.seen → new.cache.seen ≡ first_seen old.cache.limit (old.cache.seen ++ stream run) }
     ensures from_empty { (old new : BuilderValue) (calls : List Call) (outcomes : List Outcome) (run : Run old calls outcomes new) → old.cache.seen ≡ [] → new.cache.seen ≡ first_seen old.cache.limit (stream run) }
 {}
 

@@ -3,6 +3,7 @@ use Rattle.std.proofs.Common.{◌≡◌, ℕ, zero, suc, Bool, true, false, cond
 use Rattle.std.specs.Prelude.{Contains, IsTrue, ◌↔◌, fold}
 use Rattle.std.specs.List.{slice_get}
 use Rattle.std.specs.Cmp.{IsEquivalence, decided}
+use Rattle.std.proofs.Math.Bool.{or-false}
 use Rattle.std.proofs.lemmas.Bool.{cases_Bool, false≢true, and_parts, or_cases, both_ways}
 use Rattle.std.proofs.lemmas.List.{append-nil}
 use Rattle.std.proofs.lemmas.List.Folds.{list_any-append}
@@ -82,7 +83,7 @@ pub Continues-with_term : (limit : ℕ) (seen : List Term) (t : Term) → Contin
 Continues-with_term limit seen t =
     with_term-by (λ us. Continues seen us) limit seen t (record { more = []; goes_on = sym (append-nil seen) }) (λ fit fresh. record { more = t ∷ []; goes_on = refl })
 
-Continues-trans : (xs ys zs : List Term) → Continues xs ys → Continues ys zs → Continues xs zs
+pub Continues-trans : (xs ys zs : List Term) → Continues xs ys → Continues ys zs → Continues xs zs
 Continues-trans xs ys zs f g = record { more = f.more ++ g.more; goes_on = g.goes_on ∙ ap (λ us. us ++ g.more) f.goes_on ∙ append_assoc xs f.more g.more }
 
 Continues-fold : (limit : ℕ) (seen ts : List Term) → Continues seen (fold (with_term limit) seen ts)
@@ -130,10 +131,6 @@ first_seen-once limit ts = StandsOnce-fold limit [] ts (λ i j t at_i at_j. absu
 
 -- ---- which terms are first seen
 
-or_false : (b : Bool) → (b || false) ≡ b
-or_false true = refl
-or_false false = refl
-
 regroup : (a s r e : Bool) → ((a || (s && e)) || (r && e)) ≡ (a || ((s || r) && e))
 regroup true s r e = refl
 regroup false true r true = refl
@@ -141,7 +138,7 @@ regroup false true r false = elim r as (λ b. (b && false) ≡ false) [ true ↦
 regroup false false r e = refl
 
 is_among-push : (seen : List Term) (u t : Term) → is_among (seen ++ u ∷ []) t ≡ (is_among seen t || same_term t u)
-is_among-push seen u t = list_any-append (same_term t) seen (u ∷ []) ∙ ap (λ b. is_among seen t || b) (or_false (same_term t u))
+is_among-push seen u t = list_any-append (same_term t) seen (u ∷ []) ∙ ap (λ b. is_among seen t || b) (or-false (same_term t u))
 
 is_among-with_term : (limit : ℕ) (seen : List Term) (u t : Term) → is_among (with_term limit seen u) t ≡ (is_among seen t || (same_term t u && is_eligible limit t))
 is_among-with_term limit seen u t =
@@ -151,7 +148,7 @@ is_among-with_term limit seen u t =
           rw same (
           subst (λ v. is_among (with_term limit seen v) t ≡ (is_among seen t || is_eligible limit t)) e (
           elim (cases_Bool (is_eligible limit t)) [
-            | inr no_fit ↦ ap (λ us. is_among us t) (with_term-ineligible limit seen t no_fit) ∙ sym (or_false (is_among seen t)) ∙ ap (λ b. is_among seen t || b) (sym no_fit)
+            | inr no_fit ↦ ap (λ us. is_among us t) (with_term-ineligible limit seen t no_fit) ∙ sym (or-false (is_among seen t)) ∙ ap (λ b. is_among seen t || b) (sym no_fit)
             | inl fit ↦ elim (cases_Bool (is_among seen t)) [
               | inl known ↦ ap (λ us. is_among us t) (with_term-known limit seen t known) ∙ known ∙ ap (λ b. b || is_eligible limit t) (sym known)
               | inr fresh ↦ ap (λ us. is_among us t) (with_term-fresh limit seen t fit fresh) ∙ is_among-push seen t t ∙ ap (λ b. is_among seen t || b) (same_term-refl t ∙ sym fit)
@@ -161,13 +158,13 @@ is_among-with_term limit seen u t =
           )
       | inr apart ↦
           rw apart (
-          with_term-by (λ us. is_among us t ≡ (is_among seen t || false)) limit seen u (sym (or_false (is_among seen t)))
+          with_term-by (λ us. is_among us t ≡ (is_among seen t || false)) limit seen u (sym (or-false (is_among seen t)))
           (λ fit fresh. is_among-push seen u t ∙ ap (λ b. is_among seen t || b) apart)
           )
     ]
 
 is_among-fold : (limit : ℕ) (seen ts : List Term) (t : Term) → is_among (fold (with_term limit) seen ts) t ≡ (is_among seen t || (is_among ts t && is_eligible limit t))
-is_among-fold limit seen [] t = sym (or_false (is_among seen t))
+is_among-fold limit seen [] t = sym (or-false (is_among seen t))
 is_among-fold limit seen (u ∷ ts) t =
     is_among-fold limit (with_term limit seen u) ts t ∙ ap (λ b. b || (is_among ts t && is_eligible limit t)) (is_among-with_term limit seen u t)
     ∙ regroup (is_among seen t) (same_term t u) (is_among ts t) (is_eligible limit t)

@@ -3,7 +3,7 @@ use Rattle.std.proofs.Common.{◌≡◌, ◌≢◌, ℕ, zero, suc, ◌+◌, ◌
 use Rattle.std.proofs.lemmas.Bool.{le-ltb}
 use Rattle.std.proofs.lemmas.List.{take-append-drop}
 use Rattle.std.specs.declared.result.Result.{Result}
-use Rattle.std.specs.Result.{IfOk, IfErr, OnOk}
+use Rattle.std.specs.Result.{IfOk, OnOk}
 use Rattle.rowan_green.specs.declared.fault.Fault.{Fault}
 use Rattle.rowan_green.specs.declared.fault.Fault.TheVariants.{TextTooLong, TooManyChildren, Memory}
 use Rattle.rowan_green.specs.Edits.{replaced, removed}
@@ -69,10 +69,7 @@ AreWithin-removed i ts w = rw add-one record {
 pub replaced-past : {A : Type 0} (xs : List A) (i : ℕ) (x : A) → length xs ≤ i → replaced xs i x ≡ xs
 replaced-past xs i x h = ap (λ b. if b then take i xs ++ x ∷ drop (i + 1) xs else xs) (le-ltb i (length xs) h)
 
-pub IfErr-weaker : {T E : Type 0} (r : Result T E) (P Q : E → Type 0) → ((e : E) → P e → Q e) → IfErr r P → IfErr r Q
-IfErr-weaker (Ok x) P Q f h = h
-IfErr-weaker (Err e) P Q f h = f e h
-
-pub IfOk-weaker : {T E B : Type 0} (r : Result T E) (P Q : T → Type 0) → ((x : T) → P x → B → Q x) → IfOk r P → OnOk r B → IfOk r Q
-IfOk-weaker (Ok x) P Q f h b = f x h b
-IfOk-weaker (Err e) P Q f h b = h
+-- what the value and a fact of success say together
+pub IfOk-with : {T E B : Type 0} (r : Result T E) (P Q : T → Type 0) → ((x : T) → P x → B → Q x) → IfOk r P → OnOk r B → IfOk r Q
+IfOk-with (Ok x) P Q f h b = f x h b
+IfOk-with (Err e) P Q f h b = h

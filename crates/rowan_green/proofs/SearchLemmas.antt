@@ -1,5 +1,7 @@
 -- A search by halves among the children of a node: what it has narrowed the range's child to, and how many steps are left.
-use Rattle.std.proofs.Common.{◌≡◌, ℕ, zero, suc, ◌+◌, ◌-◌, ◌/◌, ◌^◌, ◌<◌, ◌≤◌, List, [], ◌∷◌, map, length, get_or, Some, refl, sym, ap, subst, arith, add-one, ◌⊎◌, inl, inr}
+use Rattle.std.proofs.Common.{◌≡◌, ℕ, zero, suc, ◌+◌, ◌-◌, ◌/◌, ◌^◌, ◌<◌, ◌≤◌, List, [], ◌∷◌, map, length, get_or, Some, refl, sym, ap, subst, arith, add-one, inl, inr}
+use Rattle.std.proofs.lemmas.Bool.{cases_lt, cases_order}
+use Rattle.std.proofs.Math.Nat.{lt_of_not-le}
 use Rattle.std.proofs.lemmas.List.{length-map}
 use Rattle.std.proofs.lemmas.Int.Digits.{length-digits_of-le, length-digits_of_step, number_lt, number_digits_of, all_below_base_digits_of}
 use Rattle.std.proofs.Math.Pow.{pow_mono}
@@ -32,17 +34,6 @@ after-child (u ∷ ts) (suc k) t e = omega (arith, after-child ts k t e)
 pub child_end-is : (ts : List Term) (k : ℕ) (t : Term) → slice_get ts k ≡ Some t → child_end ts k ≡ child_start ts k + term_len t
 child_end-is ts k t e = rw add-one (after-child ts k t e)
 
-order-cases : (j k : ℕ) → (j < k) ⊎ ((j ≡ k) ⊎ (k < j))
-order-cases zero zero = inr (inl refl)
-order-cases zero (suc k) = inl (omega arith)
-order-cases (suc j) zero = inr (inr (omega arith))
-order-cases (suc j) (suc k) =
-    elim (order-cases j k) [ inl h ↦ inl (omega arith) | inr p ↦ elim p [ inl e ↦ inr (inl (ap suc e)) | inr h ↦ inr (inr (omega arith)) ] ]
-
-not-at_most : (m n : ℕ) → (n ≤ m → ⊥) → m < n
-not-at_most m n h =
-    elim (order-cases m n) [ inl l ↦ l | inr p ↦ absurd (h (elim p [ inl e ↦ omega arith | inr g ↦ omega arith ])) ]
-
 -- what is true of the child at a range, whichever it is
 pub record Bounds (ts : List Term) (a b k : ℕ) : Type 0 where
   pub place : k < length ts
@@ -74,7 +65,7 @@ bounds ts a b k (ends_there ab r) = record {
   order = omega arith;
   from = omega (arith, r.ends, child_start-le ts k (k + 1) (omega arith));
   to = omega (arith, r.ends);
-  later = λ j h l. not-at_most a (child_end ts j) (λ q. omega (arith, r.last j l (omega arith)));
+  later = λ j h l. lt_of_not-le (λ q. omega (arith, r.last j l q));
   own = λ h l. omega (arith, r.ends);
 }
 bounds ts a b k (begins_there ab r) = record {
@@ -95,9 +86,9 @@ pub one_child-at : (ts : List Term) (a b j k : ℕ) → IsChildAt ts a b j → I
 one_child-at ts a b j k p q =
     let x = bounds ts a b j p in
     let y = bounds ts a b k q in
-    elim (order-cases j k) [
-      | inl h ↦ absurd (not-before ts a b j k x y h)
-      | inr r ↦ elim r [ inl e ↦ e | inr h ↦ absurd (not-before ts a b k j y x h) ]
+    elim (cases_order j k) [
+      | inl e ↦ e
+      | inr r ↦ elim r [ inl h ↦ absurd (not-before ts a b j k x y h) | inr h ↦ absurd (not-before ts a b k j y x h) ]
     ]
 
 -- the child at a range has the range, which so lies inside the node
@@ -110,19 +101,19 @@ inside-node ts a b k p = omega (arith, (bounds ts a b k p).to, child_start-le_al
 -- A search that has found a child which lies over some of the range.
 found-is : (ts : List Term) (a b k : ℕ) → a ≤ b → a < child_end ts k → child_start ts k < b → HasRange ts a b k → IsChildAt ts a b k
 found-is ts a b k ab behind before r =
-    elim (order-cases a b) [
+    elim (cases_lt a b) [
       | inl h ↦ has_bytes h r
-      | inr p ↦ elim p [
-        | inl e ↦ has_place e record { place = r.place; before = omega arith; behind = behind }
-        | inr h ↦ absurd (omega arith)
-      ]
+      | inr h ↦ has_place (omega arith) record { place = r.place; before = omega arith; behind = behind }
     ]
 
 found-only : (ts : List Term) (a b k j : ℕ) → a < child_end ts k → child_start ts k < b → Bounds ts a b j → j ≡ k
 found-only ts a b k j behind before x =
-    elim (order-cases j k) [
-      | inl h ↦ absurd (omega (arith, x.to, child_start-le ts (j + 1) k (omega arith)))
-      | inr p ↦ elim p [ inl e ↦ e | inr h ↦ absurd (omega (arith, x.from, child_start-le ts (k + 1) j (omega arith))) ]
+    elim (cases_order j k) [
+      | inl e ↦ e
+      | inr p ↦ elim p [
+        | inl h ↦ absurd (omega (arith, x.to, child_start-le ts (j + 1) k (omega arith)))
+        | inr h ↦ absurd (omega (arith, x.from, child_start-le ts (k + 1) j (omega arith)))
+      ]
     ]
 
 pub found : (ts : List Term) (a b k : ℕ) → a ≤ b → a < child_end ts k → child_start ts k < b → IsOnlyChoice ts a b k
@@ -167,10 +158,9 @@ border-is ts a b (suc i) ab s r =
     let is : IsChildAt ts a b i = ends_there (omega (arith, p.to, s.before)) record {
       place = p.place;
       ends = omega (arith, p.to, s.before);
-      last = λ j l h. elim (order-cases j (suc i)) [
+      last = λ j l h. elim (cases_lt j (suc i)) [
         | inl q ↦ omega arith
-        | inr q ↦ absurd (let from : suc i ≤ j = elim q [ inl e ↦ omega arith | inr g ↦ omega arith ] in
-            omega (arith, (s.behind (omega arith)).1, child_start-le ts (suc i + 1) (j + 1) (omega arith)))
+        | inr q ↦ absurd (omega (arith, (s.behind (omega arith)).1, child_start-le ts (suc i + 1) (j + 1) (omega arith)))
       ];
     } in
     subst (IsChildAt ts a b) (sym here) is
@@ -178,16 +168,16 @@ border-is ts a b (suc i) ab s r =
 border-only : (ts : List Term) (a b i j : ℕ) → IsNarrowed ts a b i i → Bounds ts a b j → j ≡ i - 1
 border-only ts a b zero j s x =
     let at = s.behind (omega (arith, x.place)) in
-    elim (order-cases 0 j) [
+    elim (cases_lt 0 j) [
       | inl h ↦ absurd (omega (arith, at.0, at.1, x.order, x.own h (omega (arith, at.1, child_start-le ts (0 + 1) (j + 1) (omega arith)))))
-      | inr p ↦ omega (arith, elim p as (λ _. j ≡ 0) [ inl e ↦ sym e | inr h ↦ absurd (omega arith) ])
+      | inr h ↦ omega arith
     ]
 border-only ts a b (suc i) j s x =
     let end : child_end ts i ≡ child_start ts (suc i) = rw add-one refl in
-    elim (order-cases j i) [
-      | inl h ↦ absurd (omega (arith, x.later i h (omega (arith, s.place)), s.before))
+    elim (cases_order j i) [
+      | inl e ↦ omega arith
       | inr p ↦ elim p [
-        | inl e ↦ omega arith
+        | inl h ↦ absurd (omega (arith, x.later i h (omega (arith, s.place)), s.before))
         | inr h ↦ absurd (
             let at = s.behind (omega (arith, x.place)) in
             omega (arith, at.0, at.1, x.own (omega arith) (omega (arith, at.1, child_start-le ts (suc i + 1) (j + 1) (omega arith))), child_start-le ts (suc i) j (omega arith)))
@@ -213,18 +203,18 @@ reached : (ts : List Term) (x n : ℕ) → n ≤ length ts → (i : ℕ) × IsRe
 reached ts x zero h = (0, record { bound = omega arith; before = omega arith; behind = λ q. absurd (omega arith) })
 reached ts x (suc n) h =
     let p = reached ts x n (omega arith) in
-    elim (order-cases p.0 n) [
+    elim (cases_lt p.0 n) [
       | inl q ↦ (p.0, record { bound = omega (arith, p.1.bound); before = p.1.before; behind = λ r. p.1.behind q })
       | inr q ↦
-          let e : p.0 ≡ n = elim q [ inl e ↦ e | inr g ↦ absurd (omega (arith, p.1.bound)) ] in
+          let e : p.0 ≡ n = omega (arith, p.1.bound) in
           let before : child_start ts n ≤ x = subst (λ i. child_start ts i ≤ x) e p.1.before in
-          elim (order-cases x (child_end ts n)) [
+          elim (cases_lt x (child_end ts n)) [
             | inl r ↦ (n, record { bound = omega arith; before = before; behind = λ l. r })
             | inr r ↦ (
               suc n,
               record {
                 bound = omega arith;
-                before = (let end : child_end ts n ≡ child_start ts (suc n) = rw add-one refl in elim r [ inl g ↦ omega arith | inr g ↦ omega arith ]);
+                before = (let end : child_end ts n ≡ child_start ts (suc n) = rw add-one refl in omega arith);
                 behind = λ l. absurd (omega arith);
               },
             )
@@ -239,19 +229,18 @@ child_start-whole (t ∷ ts) = omega (arith, child_start-whole ts)
 pub child-at-place : (ts : List Term) (x : ℕ) → 0 < length ts → x ≤ sum_of_lens ts → (k : ℕ) × IsChildAt ts x x k
 child-at-place ts x some h =
     let p = reached ts x (length ts) (omega arith) in
-    elim (order-cases (child_start ts p.0) x) [
-      | inl q ↦ elim (order-cases p.0 (length ts)) [
+    elim (cases_lt (child_start ts p.0) x) [
+      | inl q ↦ elim (cases_lt p.0 (length ts)) [
         | inl l ↦ (p.0, has_place refl record { place = l; before = q; behind = p.1.behind l })
-        | inr l ↦ absurd (omega (arith, child_start-whole ts, child_start-le ts (length ts) p.0 (elim l [ inl e ↦ omega arith | inr g ↦ omega arith ])))
+        | inr l ↦ absurd (omega (arith, child_start-whole ts, child_start-le ts (length ts) p.0 l))
       ]
       | inr q ↦
-          let begins : x ≤ child_start ts p.0 = elim q [ inl e ↦ omega arith | inr g ↦ omega arith ] in
-          let s : IsNarrowed ts x x p.0 p.0 = record { order = omega arith; place = p.1.bound; before = p.1.before; behind = λ l. (begins, p.1.behind l) } in (
+          let s : IsNarrowed ts x x p.0 p.0 = record { order = omega arith; place = p.1.bound; before = p.1.before; behind = λ l. (q, p.1.behind l) } in (
             p.0 - 1,
             border-is ts x x p.0 (omega arith) s record {
               place = omega (arith, p.1.bound);
               from = omega (arith, p.1.before, child_start-le ts (p.0 - 1) p.0 (omega arith));
-              to = omega (arith, begins, child_start-le ts p.0 (p.0 - 1 + 1) (omega arith));
+              to = omega (arith, q, child_start-le ts p.0 (p.0 - 1 + 1) (omega arith));
             },
           )
     ]

@@ -1,8 +1,7 @@
 -- What a builder asked its cache for, with each of its calls.
 use Rattle.std.proofs.Common.{◌≡◌, ℕ, List, [], ◌∷◌, ◌++◌, map, refl, sym, ◌∙◌, ap, subst, append_assoc}
-use Rattle.std.specs.Prelude.{fold}
 use Rattle.std.proofs.lemmas.List.{append-nil}
-use Rattle.std.specs.Prelude.{Result, Ok, Err}
+use Rattle.std.specs.Prelude.{fold, Result, Ok, Err}
 use Rattle.std.specs.Result.{OnOk, OnErr}
 use Rattle.std.proofs.lemmas.List.Sums.{fold-append}
 use Rattle.std.proofs.lemmas.Grind.{flat_map-append}
@@ -13,8 +12,8 @@ use Rattle.rowan_green.specs.Word.{Symbol, Open, Leaf, Close, Bare, Whole, spell
 use Rattle.rowan_green.specs.Cache.{CacheValue, asked, with_term, first_seen}
 use Rattle.rowan_green.specs.Builder.{BuilderValue, adds, opens, FinishesNode, WrapsAt}
 use Rattle.rowan_green.specs.Stream.{forest_subterms, subterms, asked_for, AskedForWord, Grows, BuildsOn}
-use Rattle.rowan_green.proofs.CacheLemmas.{Continues-with_term}
-use Rattle.rowan_green.proofs.WeaveLemmas.{whole_terms-append, whole_terms-map, spelled-close}
+use Rattle.rowan_green.proofs.CacheLemmas.{Continues-with_term, Continues-trans}
+use Rattle.rowan_green.proofs.WeaveLemmas.{whole_terms-append, whole_terms-map, whole_terms-open, spelled-close}
 use Rattle.rowan_green.proofs.Words.{parts-unique, parts-more}
 
 forest_subterms-forest : (ts : List Term) → forest_subterms (forest ts) ≡ flat_map subterms ts
@@ -50,7 +49,7 @@ module _ (v : List Symbol) (n : NodeTerm) (w : List Symbol) (c : Closes v n w) w
   HasTerms-before = record {
     items = c.before ++ Bare c.kind ∷ map Whole c.children;
     parts = c.parts;
-    terms = whole_terms-append c.before (Bare c.kind ∷ map Whole c.children) ∙ ap (λ us. whole_terms c.before ++ us) (whole_terms-map c.children);
+    terms = whole_terms-open c.before c.kind c.children;
   }
 
   HasTerms-behind : HasTerms w (whole_terms c.before ++ Node n ∷ [])
@@ -125,10 +124,7 @@ Grows-asked c d t e =
 pub Grows-trans : (c d e : CacheValue) → Grows c d → Grows d e → Grows c e
 Grows-trans c d e h g = record {
   same_limit = g.same_limit ∙ h.same_limit;
-  continues = record {
-    more = h.continues.more ++ g.continues.more;
-    goes_on = g.continues.goes_on ∙ ap (λ ts. ts ++ g.continues.more) h.continues.goes_on ∙ append_assoc c.seen h.continues.more g.continues.more;
-  };
+  continues = Continues-trans c.seen d.seen e.seen h.continues g.continues;
 }
 
 -- ---- first seen
@@ -160,7 +156,7 @@ AskedForWord-wraps cache old new c k h f =
         items = w.before ++ Bare k ∷ map Whole w.after;
         parts = w.opened;
         terms =
-            whole_terms-append w.before (Bare k ∷ map Whole w.after) ∙ ap (λ us. whole_terms w.before ++ us) (whole_terms-map w.after)
+            whole_terms-open w.before k w.after
             ∙ HasTerms-unique old.word (whole_terms w.before ++ w.after) h.terms around h.stand;
       };
       asked = f.same_cache ∙ h.asked;

@@ -83,6 +83,10 @@ pub whole_terms-map : (ts : List Term) → whole_terms (map Whole ts) ≡ ts
 whole_terms-map [] = refl
 whole_terms-map (t ∷ ts) = ap (λ us. t ∷ us) (whole_terms-map ts)
 
+-- behind an opening
+pub whole_terms-open : (before : List Item) (k : ℕ) (ts : List Term) → whole_terms (before ++ Bare k ∷ map Whole ts) ≡ whole_terms before ++ ts
+whole_terms-open before k ts = whole_terms-append before (Bare k ∷ map Whole ts) ∙ ap (λ us. whole_terms before ++ us) (whole_terms-map ts)
+
 -- the whole terms are the elements
 pub whole_terms-weave : (at : ℕ) (os : List OpenNode) (ts : List Term) → whole_terms (weave at os ts) ≡ ts
 whole_terms-weave at [] ts = whole_terms-map ts

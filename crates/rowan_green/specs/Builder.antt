@@ -10,6 +10,10 @@ pub record BuilderValue : Type 0 where
   pub word : List Symbol
   pub cache : CacheValue
 
+-- no calls yet
+abbrev pub new_builder : CacheValue → BuilderValue
+new_builder cache = record { word = []; cache = cache }
+
 -- a leaf at the word's end
 abbrev pub adds : BuilderValue → TokenTerm → BuilderValue
 adds b t = record { word = b.word ++ Leaf t ∷ []; cache = asked b.cache (Token t) }

@@ -57,6 +57,10 @@ pub record CacheValue : Type 0 where
   pub limit : ℕ
   pub seen : List Term
 
+-- a cache of this limit that keeps nothing
+abbrev pub empty_cache : ℕ → CacheValue
+empty_cache limit = record { limit = limit; seen = [] }
+
 -- the cache after it was asked for a term
 abbrev pub asked : CacheValue → Term → CacheValue
 asked cache t = record { limit = cache.limit; seen = with_term cache.limit cache.seen t }

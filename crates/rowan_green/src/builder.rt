@@ -2,11 +2,11 @@
 mod loan;
 mod owning;
 
-ghost use Rattle.std.specs.Prelude.{◌≡◌, ◌<◌, [], length, IfOk, IfErr, OnOk, OnErr};
+ghost use Rattle.std.specs.Prelude.{◌≡◌, ◌<◌, length, IfOk, IfErr, OnOk, OnErr};
 ghost use Rattle.std.specs.Borrow.{sem};
 ghost use Rattle.std.specs.Fn.{FnOnceReturnsAtMut};
-ghost use Rattle.rowan_green.specs.Builder.{adds, opens, FinishesNode, WrapsAt};
-ghost use Rattle.rowan_green.specs.Cache.{first_seen};
+ghost use Rattle.rowan_green.specs.Builder.{new_builder, adds, opens, FinishesNode, WrapsAt};
+ghost use Rattle.rowan_green.specs.Cache.{empty_cache, first_seen};
 ghost use Rattle.rowan_green.specs.Fits.{byte_limit};
 ghost use Rattle.rowan_green.specs.Loan.{value_of, word_of, cache_of, loan_of, returned, fault_of, returned_loan, LeavesCacheUnlessRefused, KeepsLoan, LeavesCacheOfRun};
 ghost use Rattle.rowan_green.specs.Stream.{BuildsOn};
@@ -64,7 +64,7 @@ impl<H: CacheHome, B: HoldsCache> Drop for GreenNodeBuilder<'_, H, B> {
 impl<'cache> GreenNodeBuilder<'cache, OwnCache> {
     /// A builder with nothing in it, and with a cache of its own. Takes no memory.
     pub fn new(alloc: Global) -> GreenNodeBuilder<'cache, OwnCache>
-        ensures { value_of result ≡ record { word = []; cache = record { limit = 3; seen = [] } } }
+        ensures { value_of result ≡ new_builder (empty_cache 3) }
     {
         let nowhere: &'cache mut [NoHome] = &mut [];
         let Some(home) = nowhere.first_chunk_mut::<0>() else {
@@ -96,7 +96,7 @@ impl<'cache> GreenNodeBuilder<'cache> {
     /// A builder with nothing in it, over a cache that is lent to it and has what is interned. Takes no memory.
     pub fn with_cache(alloc: Global, cache: &'cache mut NodeCache) -> GreenNodeBuilder<'cache>
         ensures loan { loan_of result ≡ cache.entry.ghost_name }
-        ensures empty { value_of result ≡ record { word = []; cache = cache.old } }
+        ensures empty { value_of result ≡ new_builder cache.old }
         ensures first { first_seen cache.old.limit cache.old.seen ≡ cache.old.seen }
     {
         let kept = cache.take();

@@ -1,11 +1,11 @@
 //! The cache of green values: equal tokens, and equal nodes of few children, are stored once.
-ghost use Rattle.std.specs.Prelude.{◌≡◌, ◌≢◌, ◌<◌, [], length, IfOk, IfErr, OnOk, OnErr, is_some, nat_le, ◌&&◌, map, true, Some};
+ghost use Rattle.std.specs.Prelude.{◌≡◌, ◌≢◌, ◌<◌, length, IfOk, IfErr, OnOk, OnErr, is_some, nat_le, ◌&&◌, map, true, Some};
 ghost use Rattle.std.specs.List.{list_all, slice_get};
 ghost use Rattle.rowan_green.specs.declared.utility_types.NodeOrToken.TheVariants.{Node, Token};
 ghost use Rattle.rowan_green.specs.Term.{node_of};
 ghost use Rattle.rowan_green.specs.Fits.{byte_limit, AreWithin, PassesLimit};
 ghost use Rattle.rowan_green.specs.Word.{WhyNoToken};
-ghost use Rattle.rowan_green.specs.Cache.{first_seen, count_tokens, count_nodes, asked, IsNumbered, AreNumbered, elements};
+ghost use Rattle.rowan_green.specs.Cache.{empty_cache, first_seen, count_tokens, count_nodes, asked, IsNumbered, AreNumbered, elements};
 ghost use Rattle.rowan_green.specs.Tables.{PutsNumber, SameNumbers, number_of_token, number_of_node};
 
 use crate::fault::Fault;
@@ -66,14 +66,14 @@ impl Model for NodeCache {
 impl NodeCache {
     /// A cache that keeps nothing yet, for nodes of at most three children. Takes no memory.
     pub fn new(alloc: Global) -> NodeCache
-        ensures { result ≡ record { limit = 3; seen = [] } }
+        ensures { result ≡ empty_cache 3 }
     {
         NodeCache::with_limit(alloc, MAX_CHILDREN)
     }
 
     /// A cache that keeps nothing yet, for nodes of at most `limit` children. Takes no memory.
     pub fn with_limit(alloc: Global, limit: usize) -> NodeCache
-        ensures { result ≡ record { limit = limit; seen = [] } }
+        ensures { result ≡ empty_cache limit }
     {
         NodeCache {
             alloc,

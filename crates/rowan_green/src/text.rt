@@ -160,7 +160,7 @@ impl TextRange {
         self.start == self.end
     }
 
-    /// Whether the other range starts and ends within this one.
+    /// Whether the other range, whose end does not lie before its start, starts and ends within this one.
     pub fn contains_range(self, other: TextRange) -> bool
         ensures contains { IsTrue result ↔ ((self.start ≤ other.start) × (other.end ≤ self.end)) }
         ensures order { other.start ≤ other.end }

@@ -168,7 +168,9 @@ impl<T> TokenAtOffset<T> {
 impl<T: Drop> Iterator for TokenAtOffset<T> {
     type Item = T;
 
-    ghost use Rattle.std.specs.Iterator.{YieldsFirst, item_count};
+    ghost use Rattle.std.specs.Prelude.{length, IfSome, Some};
+    ghost use Rattle.std.specs.Iterator.{YieldsFirst, item_count, UpTo};
+    ghost use Rattle.std.specs.Iterator.SizeHint.{IsWithinCount};
     ghost use Rattle.rowan_green.specs.TokenAtOffset.{found};
 
     ghost next_gives = { YieldsFirst found };
@@ -186,7 +188,11 @@ impl<T: Drop> Iterator for TokenAtOffset<T> {
         }
     }
 
-    fn size_hint(&self) -> (usize, Option<usize>) {
+    fn size_hint(&self) -> (usize, Option<usize>)
+        ensures lower { IsWithinCount result.0 (item_count found self.now) }
+        ensures upper { IfSome result.1 (UpTo (item_count found self.now)) }
+        ensures exact { result ≡ (length (found self.now), Some (length (found self.now))) }
+    {
         (self.len(), Some(self.len()))
     }
 }

@@ -9,7 +9,8 @@ use Rattle.rowan_green.specs.Fits.{byte_limit, ChildPasses, PassesLimit}
 use Rattle.rowan_green.specs.Term.{TokenTerm, NodeTerm, Term, node_of, node_text, node_len, term_text, term_len, joined_text, sum_of_lens}
 use Rattle.rowan_green.specs.Word.{Symbol, Open, Leaf, Close, term_word, Item, Bare, Whole, HasParts, whole_terms, HasTerms, word_text, Closes, WhyNotClosed, WhyUnfinished, IsFinished}
 use Rattle.rowan_green.proofs.Terms.{node_len-node_of, sum_of_lens-append, length-joined_text}
-use Rattle.rowan_green.proofs.WeaveLemmas.{whole_terms-append, whole_terms-map, spelled-close}
+use Rattle.rowan_green.proofs.WeaveLemmas.{whole_terms-append, whole_terms-open, spelled-close}
+use Rattle.rowan_green.proofs.StreamLemmas.{HasTerms-unique}
 use Rattle.rowan_green.proofs.Words.{parts-unique, parts-more, word_text-append, word_text-parts, word_text-terms}
 use Rattle.rowan_tool.specs.declared.sexp.lang.SyntaxKind.{SyntaxKind}
 use Rattle.rowan_tool.specs.declared.sexp.lang.SyntaxKind.TheVariants.{L_PAREN, R_PAREN, WORD, WHITESPACE, ERROR, LIST, ATOM, ROOT}
@@ -50,9 +51,6 @@ EndsWhole-append (x ∷ xs) t = subst IsWhole (sym (last_item-append x xs (Whole
 not_EndsWhole : (xs : List Item) (k : ℕ) → EndsWhole (xs ++ Bare k ∷ []) → ⊥
 not_EndsWhole [] k h = h
 not_EndsWhole (x ∷ xs) k h = subst IsWhole (last_item-append x xs (Bare k)) h
-
-whole_terms-open : (before : List Item) (k : ℕ) (ts : List Term) → whole_terms (before ++ Bare k ∷ map Whole ts) ≡ whole_terms before ++ ts
-whole_terms-open before k ts = whole_terms-append before (Bare k ∷ map Whole ts) ∙ ap (λ us. whole_terms before ++ us) (whole_terms-map ts)
 
 -- ---- a closing
 
@@ -241,7 +239,7 @@ pub IsTree-refuses : (w : List Symbol) (f : Fault) → IsTree w → WhyUnfinishe
 IsTree-refuses w f h why = refuted f why
   where
     only : (ts : List Term) → HasTerms w ts → ts ≡ Node h.root ∷ []
-    only ts k = sym k.terms ∙ ap whole_terms (parts-unique w k.items (Whole (Node h.root) ∷ []) k.parts h.parts)
+    only ts k = HasTerms-unique w ts (Node h.root ∷ []) k (record { items = Whole (Node h.root) ∷ []; parts = h.parts; terms = refl })
 
     refuted : (g : Fault) → WhyUnfinished w g → ⊥
     refuted NotOneElement k = k.2 (ap length (only k.0 k.1))

@@ -33,9 +33,7 @@ pub struct NoHome;
 impl CacheHome for [NoHome; 0] {
     ghost left = { λ home cache. Unit {0} };
 
-    fn leave(&mut self, cache: NodeCache) {
-        drop(cache);
-    }
+    fn leave(&mut self, _cache: NodeCache) {}
 }
 
 /// What has a cache by value. `GreenNodeBuilder` takes it as a type parameter with one instance, since only so a contract

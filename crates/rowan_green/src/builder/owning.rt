@@ -1,7 +1,7 @@
 //! The builder over a cache of its own: all that a builder does to its word.
-ghost use Rattle.std.specs.Prelude.{◌≡◌, ◌<◌, [], ◌∷◌, ◌++◌, length, IfOk, IfErr, OnOk, OnErr};
+ghost use Rattle.std.specs.Prelude.{◌≡◌, ◌<◌, length, IfOk, IfErr, OnOk, OnErr};
 ghost use Rattle.rowan_green.specs.declared.utility_types.NodeOrToken.TheVariants.{Node, Token};
-ghost use Rattle.rowan_green.specs.Builder.{adds, opens, FinishesNode, WrapsAt};
+ghost use Rattle.rowan_green.specs.Builder.{new_builder, adds, opens, FinishesNode, WrapsAt};
 ghost use Rattle.rowan_green.specs.Fits.{byte_limit};
 ghost use Rattle.rowan_green.specs.Weave.{last_place};
 ghost use Rattle.rowan_green.specs.Word.{WhyNoToken, HasNoneOpen, WhyNotClosed, HasCount, IsPast, IsBeforeOpening, WhyNotWrapped, IsFinished, WhyUnfinished};
@@ -58,7 +58,7 @@ impl HoldsCache for OwningBuilder {
 
 impl OwningBuilder {
     pub(super) fn new(alloc: Global, cache: NodeCache) -> OwningBuilder
-        ensures { result ≡ record { word = []; cache = cache } }
+        ensures { result ≡ new_builder cache }
     {
         OwningBuilder {
             parents: Vec::new(alloc),

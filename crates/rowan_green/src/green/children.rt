@@ -52,8 +52,9 @@ impl<'a> Children<'a> {
 impl<'a> Iterator for Children<'a> {
     type Item = Result<GreenElement, Fault>;
 
-    ghost use Rattle.std.specs.Prelude.{length};
-    ghost use Rattle.std.specs.Iterator.{at_most};
+    ghost use Rattle.std.specs.Prelude.{length, IfSome, Some};
+    ghost use Rattle.std.specs.Iterator.{at_most, UpTo};
+    ghost use Rattle.std.specs.Iterator.SizeHint.{IsWithinCount};
     ghost use Rattle.rowan_green.specs.Gives.{GivesFirst};
 
     ghost next_gives = { λ s r t. GivesFirst s r t };
@@ -71,7 +72,11 @@ impl<'a> Iterator for Children<'a> {
         }
     }
 
-    fn size_hint(&self) -> (usize, Option<usize>) {
+    fn size_hint(&self) -> (usize, Option<usize>)
+        ensures lower { IsWithinCount result.0 (at_most (length self.now)) }
+        ensures upper { IfSome result.1 (UpTo (at_most (length self.now))) }
+        ensures exact { result ≡ (length self.now, Some (length self.now)) }
+    {
         (self.rest.len(), Some(self.rest.len()))
     }
 }

@@ -1,9 +1,10 @@
+use Rattle.std.proofs.lemmas.Result.{IfErr-weaker}
 use Rattle.std.proofs.Common.{◌≡◌, ◌≢◌, ◌+◌, ◌++◌, drop, ap, subst}
 use Rattle.rowan_green.specs.declared.fault.Fault.TheVariants.{Memory}
 use Rattle.rowan_green.specs.Edits.{removed}
 use Rattle.rowan_green.specs.Fits.{PassesLimit}
 use Rattle.rowan_green.specs.Term.{node_children}
-use Rattle.rowan_green.proofs.EditLemmas.{memory_only, AreWithin-removed, IfErr-weaker}
+use Rattle.rowan_green.proofs.EditLemmas.{memory_only, AreWithin-removed}
 use Rattle.rowan_green.proofs.green.node.GreenNode.remove_child.Goals as goal
 
 pub returns-in_err-draft-clause-within : goal.returns-in_err-draft-clause-within

@@ -5,7 +5,8 @@ use Rattle.rowan_green.specs.declared.fault.Fault.TheVariants.{Memory}
 use Rattle.rowan_green.specs.Edits.{spliced}
 use Rattle.rowan_green.specs.Fits.{AreWithin, ChildPasses, PassesLimit}
 use Rattle.rowan_green.specs.Term.{node_of, node_kind, node_children}
-use Rattle.rowan_green.proofs.EditLemmas.{IfErr-weaker, IfOk-weaker}
+use Rattle.std.proofs.lemmas.Result.{IfErr-weaker}
+use Rattle.rowan_green.proofs.EditLemmas.{IfOk-with}
 use Rattle.rowan_green.proofs.green.node.GreenNode.splice_children.Goals as goal
 
 pub returns-in_err-push-clause-err : goal.returns-in_err-push-clause-err
@@ -42,7 +43,7 @@ returns-clause-ok g c =
     let end = c.args.range.end in
     let xs = c.loop-element.yielded in
     let whole = ap (λ d. d ++ drop end ts) c.loop-element.invariant in
-    IfOk-weaker c.finish_after.result (λ n. n ≡ node_of k (c.loop-element.draft ++ drop end ts)) _
+    IfOk-with c.finish_after.result (λ n. n ≡ node_of k (c.loop-element.draft ++ drop end ts)) _
     (λ n is within. (
       it,
       subst (λ t. g.I.IntoIterator.into_iter_gives c.args.replace_with t) (sym c.into_iter-element-iterator.ensures.into_iter_gives) c.into_iter-new_children.ensures.into_iter_gives,
