@@ -1,5 +1,5 @@
 //! The steps of a case, behind its building part.
-ghost use Rattle.std.specs.Prelude.{◌≡◌, IfOk, OnOk};
+ghost use Rattle.std.specs.Prelude.{◌≡◌, IfOk, IfErr, OnOk};
 ghost use Rattle.rowan_green.specs.Term.{node_children};
 ghost use Rattle.rowan_script.specs.Steps.{Answers, AnswersEdit, AnswersSearch, place_behind};
 
@@ -17,9 +17,10 @@ pub enum Place {
 }
 
 impl Place {
-    /// Answers a step, and goes where it leads.
+    /// Answers a step, and goes where it leads. Refused only for want of memory.
     pub fn answer<'a>(&mut self, step: &Step) -> Result<Answer<'a>, Fault>
         ensures answers { IfOk result (Answers self.old step.now) }
+        ensures err { IfErr result (λ e. e ≡ Fault.Memory) }
         ensures place { OnOk result (self.new ≡ place_behind self.old step.now) }
     {
         let answer = match (&*self, step) {
@@ -38,7 +39,8 @@ impl Place {
 }
 
 fn answer_search<'a>(node: &GreenNode, range: TextRange) -> Result<Answer<'a>, Fault>
-    ensures { IfOk result (AnswersSearch (node_children node.now) range) }
+    ensures ok { IfOk result (AnswersSearch (node_children node.now) range) }
+    ensures err { IfErr result (λ e. e ≡ Fault.Memory) }
 {
     match node.child_at_range(range, &mut Steps::new()) {
         Some((index, offset, child)) => Ok(Answer::Child(index, offset, child.to_owned()?)),
