@@ -1,5 +1,6 @@
 pub mod Cursor
 pub mod CursorCode
+pub mod Moves
 pub use Rattle.rowan_green.specs.Term
 pub use Rattle.rowan_green.specs.Fits
 pub use Rattle.rowan_green.specs.Path
