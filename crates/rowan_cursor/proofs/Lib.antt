@@ -1,1 +1,4 @@
 pub mod PathLemmas
+pub mod RowLemmas
+pub mod RowViews
+pub mod ClimbLemmas

@@ -115,3 +115,8 @@ element_at root p = element_if (is_node_at root p) (cursor_at root p)
 abbrev pub place_of : Element → Cursor
 place_of (Node c) = c
 place_of (Token c) = c
+
+-- the paths of the nodes from a node on up to the root, and of a token from its parent on
+abbrev pub element_ancestors : Element → List Path
+element_ancestors (Node c) = ancestor_paths c.path
+element_ancestors (Token c) = option_map_or ancestor_paths (parent_path c.path) []

@@ -1,5 +1,6 @@
 //! The table that all cursors of one tree share: an entry for each node and token.
 
+mod elements;
 mod fill;
 mod rows;
 
