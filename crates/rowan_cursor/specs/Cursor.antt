@@ -1,7 +1,7 @@
 -- A cursor is a root and a path in it. What it answers follows from these two alone.
-use Rattle.std.specs.Prelude.{◌≡◌, ℕ, ◌+◌, List, [], ◌∷◌, Option, Some}
+use Rattle.std.specs.Prelude.{◌≡◌, ℕ, List, [], ◌∷◌, Some}
 use Rattle.rowan_green.specs.declared.utility_types.NodeOrToken.TheVariants.{Node}
-use Rattle.rowan_green.specs.Term.{NodeTerm, Term}
+use Rattle.rowan_green.specs.Term.{NodeTerm}
 use Rattle.rowan_green.specs.Path.{Path, subterm, text_of}
 
 pub record Cursor : Type 0 where
