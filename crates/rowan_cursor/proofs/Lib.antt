@@ -1,1 +1,2 @@
+pub mod LeafLemmas
 pub mod PathLemmas
