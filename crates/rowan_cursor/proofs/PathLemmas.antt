@@ -24,10 +24,10 @@ lt_not j i h = grind (arith, nat_tests)
 eq_is : (i : ℕ) → nat_eq i i ≡ true
 eq_is i = grind (arith, nat_tests)
 
-eq_not : (j i : ℕ) → i < j → nat_eq j i ≡ false
+pub eq_not : (j i : ℕ) → i < j → nat_eq j i ≡ false
 eq_not j i h = grind (arith, nat_tests)
 
-eq_less : (j i : ℕ) → j < i → nat_eq j i ≡ false
+pub eq_less : (j i : ℕ) → j < i → nat_eq j i ≡ false
 eq_less j i h = grind (arith, nat_tests)
 
 pub before_at_less : (j i : ℕ) (q p : Path) → j < i → stands_before (j ∷ q) (i ∷ p) ≡ true
