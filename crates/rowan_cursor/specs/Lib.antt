@@ -1,6 +1,8 @@
 pub mod Cursor
 pub mod CursorCode
 pub mod Moves
+pub mod Table
+pub mod TableProp
 pub use Rattle.rowan_green.specs.Term
 pub use Rattle.rowan_green.specs.Fits
 pub use Rattle.rowan_green.specs.Path
