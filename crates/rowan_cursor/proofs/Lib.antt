@@ -1,3 +1,4 @@
+pub mod FillLemmas
 pub mod LeafLemmas
 pub mod PathLemmas
 pub mod RowLemmas

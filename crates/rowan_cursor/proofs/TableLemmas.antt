@@ -125,6 +125,12 @@ same_parent a b h k = omega arith
 same_index : (m a b i j : ℕ) → m ≡ a + i → m ≡ b + j → a ≡ b → i ≡ j
 same_index m a b i j d e f = omega arith
 
+same_entry : (es : List Entry) (m n : ℕ) (d e : Entry) → slice_get es m ≡ Some d → slice_get es n ≡ Some e → m ≡ n → d ≡ e
+same_entry es m n d e p q h = same_Some d e (sym p ∙ ap (λ k. slice_get es k) h ∙ q)
+
+same_first : (d e : Entry) → d ≡ e → d.first_child ≡ e.first_child
+same_first d e h = ap (λ (x : Entry). x.first_child) h
+
 pub has_child : (es : List Entry) → IsTable es → (n : ℕ) (e : Entry) (j : ℕ) → slice_get es n ≡ Some e → j < e.child_count → HasChild es n e j
 has_child es t n e j at h =
     let f = t.filling in
@@ -141,12 +147,12 @@ has_child es t n e j at h =
     let place : m ≡ p.first_child + c.index = is.place in
     let same : c.parent ≡ n =
     same_parent c.parent n (λ before. omega (arith, rows_apart es f c.parent n p e above.1 at before)) (λ before. omega (arith, rows_apart es f n c.parent e p at above.1 before)) in
-    let entry : p ≡ e = same_Some p e (sym above.1 ∙ ap (λ k. slice_get es k) same ∙ at) in
+    let entry : p ≡ e = same_entry es c.parent n p e above.1 at same in
     record {
       child = c;
       at = found.1;
       parent = same;
-      index = same_index m p.first_child e.first_child c.index j place refl (ap (λ (x : Entry). x.first_child) entry);
+      index = same_index m p.first_child e.first_child c.index j place refl (same_first p e entry);
     }
 
 pub path_at-row : (es : List Entry) → IsTable es → (n : ℕ) (e : Entry) (j : ℕ) → slice_get es n ≡ Some e → j < e.child_count → path_at es (e.first_child + j) ≡ path_at es n ++ j ∷ []
