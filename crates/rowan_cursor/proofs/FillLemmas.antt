@@ -1,17 +1,17 @@
 -- Laws of filling a table: what one more entry leaves true, and what is left to be done.
-use Rattle.std.proofs.Common.{◌≡◌, ℕ, zero, suc, ◌+◌, ◌-◌, ◌<◌, ◌≤◌, ◌⊎◌, inl, inr, List, [], ◌∷◌, ◌++◌, map, length, take, drop, Option, Some, None, refl, sym, ◌∙◌, ap, subst, arith, length-append, append_assoc}
+use Rattle.std.proofs.Common.{◌≡◌, ℕ, zero, suc, ◌+◌, ◌<◌, ◌≤◌, ◌⊎◌, inl, inr, List, [], ◌∷◌, ◌++◌, map, length, take, drop, Some, refl, sym, ◌∙◌, ap, subst, arith, length-append, append_assoc}
 use Rattle.std.specs.Prelude.{slice_get}
-use Rattle.std.proofs.lemmas.List.{take-append-le, take_all, append-nil, map-append, length-map, take_more, drop-append-le}
+use Rattle.std.proofs.lemmas.List.{take-append-le, take_all, length-take-le, append-nil, map-append, length-map, take_more, drop-append-le}
 use Rattle.std.proofs.lemmas.Option.{slice_get_within, same_Some, get_or_from_slice_get}
 use Rattle.rowan_green.specs.declared.utility_types.NodeOrToken.TheVariants.{Node, Token}
 use Rattle.rowan_green.specs.Fits.{byte_limit, Fits}
 use Rattle.rowan_green.specs.Search.{child_start}
 use Rattle.rowan_green.specs.Sizes.{term_size, terms_size}
-use Rattle.rowan_green.specs.Term.{NodeTerm, node, Forest, Term, terms, node_of, node_children, node_len, term_len, sum_of_lens}
+use Rattle.rowan_green.specs.Term.{NodeTerm, node, Term, terms, node_children, node_len, term_len, sum_of_lens}
 use Rattle.rowan_green.specs.Path.{term_children}
 use Rattle.rowan_green.proofs.Drops.{terms_size-node_children}
 use Rattle.rowan_green.proofs.Terms.{forest-terms, node_len-node_of}
-use Rattle.rowan_cursor.specs.Table.{node_in, root_of, counts, IsTop, IsChildOf, IsFilling, IsTable, GrowsBy}
+use Rattle.rowan_cursor.specs.Table.{node_in, root_of, counts, IsTop, IsChildOf, IsFilling, GrowsBy}
 use Rattle.rowan_cursor.specs.declared.tree.Entry.{Entry}
 
 -- ---- lists
@@ -91,19 +91,19 @@ IsFilling-push es p y t next = record {
   counted = λ n e at. elim (push_cases es y e n at) [ inl h ↦ t.counted n e h.1 | inr h ↦ subst (λ (x : Entry). x.child_count ≡ length (term_children x.green)) h.1 next.counted ];
   ends = λ n e at. elim (push_cases es y e n at) [ inl h ↦ t.ends n e h.1 | inr h ↦ subst (λ (x : Entry). x.offset + term_len x.green ≤ byte_limit) h.1 next.end ];
   firsts = λ n e at. elim (push_cases es y e n at) [
-    inl h ↦ t.firsts n e h.1 ∙ ap (λ ds. counts ds + 1) (sym (take-append-le n es (y ∷ []) (omega (arith, h.0))))
+    | inl h ↦ t.firsts n e h.1 ∙ ap (λ ds. counts ds + 1) (sym (take-append-le n es (y ∷ []) (omega (arith, h.0))))
     | inr h ↦
         subst (λ (x : Entry). x.first_child ≡ counts (take n (es ++ y ∷ [])) + 1) h.1
         (next.first ∙ ap (λ ds. counts ds + 1) (sym (take-append-le n es (y ∷ []) (omega (arith, h.0)) ∙ take_all n es (omega (arith, h.0)))))
   ];
   earlier = λ n e at behind. elim (push_cases es y e n at) [
-    inl h ↦ t.earlier n e h.1 behind
+    | inl h ↦ t.earlier n e h.1 behind
     | inr h ↦ subst (λ (x : Entry). x.parent < n) h.1 (omega (arith, h.0, slice_get_within es y.parent p next.above))
   ];
   parents = λ n e q at behind above. elim (push_cases es y e n at) [
-    inl h ↦
+    | inl h ↦
         elim (push_cases es y q e.parent above) [
-          inl k ↦ t.parents n e q h.1 behind k.1
+          | inl k ↦ t.parents n e q h.1 behind k.1
           | inr k ↦ absurd (omega (arith, h.0, k.0, t.earlier n e h.1 behind))
         ]
     | inr h ↦
@@ -178,3 +178,104 @@ start_within es t parent p n at is i =
 
 pub counts-push : (es : List Entry) (y : Entry) → counts (es ++ y ∷ []) ≡ counts es + y.child_count
 counts-push es y = omega (arith, counts-append es (y ∷ []))
+
+-- ---- all children of an entry, one after the other
+
+pub GrowsBy-more : (a b c : List Entry) (ts : List Term) (i : ℕ) (t : Term) → GrowsBy a b (take i ts) → slice_get ts i ≡ Some t → GrowsBy b c (t ∷ []) → GrowsBy a c (take (i + 1) ts)
+GrowsBy-more a b c ts i t g at h =
+    let more : take (i + 1) ts ≡ take i ts ++ t ∷ [] = take_more ts i t (slice_get_within ts i t at) ∙ ap (λ u. take i ts ++ u ∷ []) (get_or_from_slice_get ts i t t at) in
+    subst (λ us. GrowsBy a c us) (sym more) (GrowsBy-then a b c (take i ts) (t ∷ []) g h)
+
+pub GrowsBy-all : (a b : List Entry) (ts : List Term) (i : ℕ) → length ts ≤ i → GrowsBy a b (take i ts) → GrowsBy a b ts
+GrowsBy-all a b ts i h g = subst (λ us. GrowsBy a b us) (take_all i ts h) g
+
+-- the next child's number
+pub child_place : (es ds : List Entry) → IsFilling es → (parent i : ℕ) (p e : Entry) → slice_get es parent ≡ Some p → length es ≡ counts (take parent es) + 1 → i < p.child_count
+    → GrowsBy es ds (take i (term_children p.green)) → slice_get ds parent ≡ Some e → (i < e.child_count) × (length ds ≡ e.first_child + i)
+child_place es ds t parent i p e at place less g found =
+    let same : p ≡ e = same_Some p e (sym (GrowsBy-at es ds (take i (term_children p.green)) parent p g at) ∙ found) in
+    let count : p.child_count ≡ length (term_children p.green) = t.counted parent p at in
+    let here : (i < p.child_count) × (length ds ≡ p.first_child + i) =
+    (less, omega (arith, t.firsts parent p at, place, GrowsBy-length es ds (take i (term_children p.green)) g, length-take-le i (term_children p.green) (omega arith))) in
+    subst (λ (x : Entry). (i < x.child_count) × (length ds ≡ x.first_child + i)) same here
+
+-- ---- the root alone
+
+one_case : (y e : Entry) (n : ℕ) → slice_get (y ∷ []) n ≡ Some e → (n ≡ 0) × (y ≡ e)
+one_case y e n at =
+    elim (push_cases [] y e n at) [ inl h ↦ absurd (omega (arith, h.0)) | inr h ↦ h ]
+
+pub record IsRootEntry (y : Entry) (root : NodeTerm) : Type 0 where
+  pub green : y.green ≡ Node root
+  pub start : y.offset ≡ 0
+  pub index : y.index ≡ 0
+  pub first : y.first_child ≡ 1
+  pub counted : y.child_count ≡ length (term_children y.green)
+  pub fits : Fits y.green
+
+IsTop-one : (y : Entry) (root : NodeTerm) → IsRootEntry y root → IsTop (y ∷ []) y
+IsTop-one y root r = record {
+  green = r.green ∙ ap (λ (t : Term). let u : Term = Node (node_in t) in u) (sym r.green);
+  start = r.start;
+  index = r.index;
+}
+
+pub IsFilling-one : (y : Entry) (root : NodeTerm) → IsRootEntry y root → IsFilling (y ∷ [])
+IsFilling-one y root r = record {
+  some = omega arith;
+  top = λ e at. subst (λ (x : Entry). IsTop (y ∷ []) x) (one_case y e 0 at).1 (IsTop-one y root r);
+  counted = λ n e at. subst (λ (x : Entry). x.child_count ≡ length (term_children x.green)) (one_case y e n at).1 r.counted;
+  ends = λ n e at. subst (λ (x : Entry). x.offset + term_len x.green ≤ byte_limit) (one_case y e n at).1 (omega (arith, r.start, Fits-len y.green r.fits));
+  firsts = λ n e at.
+      let c = one_case y e n at in
+      subst (λ (x : Entry). x.first_child ≡ counts (take n (y ∷ [])) + 1) c.1 (omega (arith, r.first, ap (λ m. counts (take m (y ∷ []))) c.0));
+  earlier = λ n e at behind. absurd (omega (arith, (one_case y e n at).0));
+  parents = λ n e p at behind above. absurd (omega (arith, (one_case y e n at).0));
+}
+
+-- ---- one entry after the other
+
+counts-more : (es : List Entry) (n : ℕ) (e : Entry) → slice_get es n ≡ Some e → counts (take (n + 1) es) ≡ counts (take n es) + e.child_count
+counts-more es n e at =
+    let more : take (n + 1) es ≡ take n es ++ e ∷ [] = take_more es n e (slice_get_within es n e at) ∙ ap (λ x. take n es ++ x ∷ []) (get_or_from_slice_get es n e e at) in
+    ap counts more ∙ counts-push (take n es) e
+
+-- the entries before an entry have their children, and then it has its own
+pub next_done : (es ds : List Entry) → IsFilling es → (done : ℕ) (e : Entry) → slice_get es done ≡ Some e → length es ≡ counts (take done es) + 1
+    → GrowsBy es ds (term_children e.green) → (done + 1 ≤ length ds) × (length ds ≡ counts (take (done + 1) ds) + 1) × (root_of ds ≡ root_of es)
+next_done es ds t done e at place g =
+    let within : done < length es = slice_get_within es done e at in
+    let longer : length ds ≡ length es + length (term_children e.green) = GrowsBy-length es ds (term_children e.green) g in
+    let front : take (done + 1) ds ≡ take (done + 1) es = ap (take (done + 1)) g.grown ∙ take-append-le (done + 1) es g.row (omega arith) in (
+      omega arith,
+      omega (arith, ap counts front, counts-more es done e at, t.counted done e at),
+      ap root_of g.grown ∙ root_of-grown es g.row t.some,
+    )
+
+terms_size-append : (ts us : List Term) → terms_size (ts ++ us) ≡ terms_size ts + terms_size us
+terms_size-append [] us = omega arith
+terms_size-append (t ∷ ts) us = omega (arith, terms_size-append ts us)
+
+terms_size-children : (t : Term) → terms_size (term_children t) < term_size t
+terms_size-children (Node n) = omega (arith, terms_size-node_children n)
+terms_size-children (Token t) = omega arith
+
+-- how much is left: the sizes of the entries from one on
+abbrev pub left_from : ℕ → List Entry → ℕ
+left_from n es = terms_size (map (λ e. e.green) (drop n es))
+
+left_from-first : (es : List Entry) (n : ℕ) (e : Entry) → slice_get es n ≡ Some e → left_from n es ≡ term_size e.green + left_from (suc n) es
+left_from-first [] n e at = absurd cc
+left_from-first (x ∷ es) zero e at =
+    ap (λ (y : Entry). term_size y.green + terms_size (map (λ d. d.green) es)) (same_Some x e at)
+left_from-first (x ∷ es) (suc n) e at = left_from-first es n e at
+
+left_from-grown : (es row : List Entry) (n : ℕ) → n ≤ length es → left_from n (es ++ row) ≡ left_from n es + terms_size (map (λ e. e.green) row)
+left_from-grown es row n h =
+    ap (λ ds. terms_size (map (λ (e : Entry). e.green) ds)) (drop-append-le n es row h)
+    ∙ ap terms_size (map-append (λ (e : Entry). e.green) (drop n es) row) ∙ terms_size-append (map (λ e. e.green) (drop n es)) (map (λ e. e.green) row)
+
+pub less_left : (es ds : List Entry) (done : ℕ) (e : Entry) → slice_get es done ≡ Some e → GrowsBy es ds (term_children e.green) → left_from (done + 1) ds < left_from done es
+less_left es ds done e at g =
+    let next : suc done ≡ done + 1 = omega arith in
+    omega (arith, ap (λ n. left_from n es) next, ap (left_from (done + 1)) g.grown, left_from-grown es g.row (done + 1) (omega (arith, slice_get_within es done e at)), ap terms_size g.greens, left_from-first es done e at, terms_size-children e.green)

@@ -1,5 +1,5 @@
 -- Laws of tables: what the local facts say of the paths that are read off by going up.
-use Rattle.std.proofs.Common.{◌≡◌, true, ℕ, zero, suc, ◌+◌, ◌-◌, ◌<◌, ◌≤◌, List, [], ◌∷◌, ◌++◌, map, reverse, length, take, Option, Some, None, refl, sym, ◌∙◌, ap, subst, arith, add-one}
+use Rattle.std.proofs.Common.{◌≡◌, true, ℕ, zero, suc, ◌+◌, ◌-◌, ◌<◌, ◌≤◌, List, [], ◌∷◌, ◌++◌, map, reverse, length, take, Option, Some, None, refl, sym, ◌∙◌, ap, arith}
 use Rattle.std.specs.Prelude.{slice_get}
 use Rattle.std.specs.Option.{option_map_or}
 use Rattle.std.proofs.lemmas.List.{take_all}
@@ -11,7 +11,7 @@ use Rattle.rowan_green.specs.Path.{Path, subterm, offset, term_children}
 use Rattle.rowan_green.proofs.Paths.{offset-empty}
 use Rattle.rowan_cursor.specs.Cursor.{last_place}
 use Rattle.rowan_cursor.specs.Moves.{numbers, below, child_count, children_of, is_node, child_paths, following, preceding}
-use Rattle.rowan_cursor.specs.Table.{root_of, counts, path_within, path_at, IsTop, IsChildOf, IsFilling, IsTable, IsRow, IsRowBack, IsBelow, IsEntry, IsNodeEntry}
+use Rattle.rowan_cursor.specs.Table.{root_of, counts, path_within, path_at, IsTop, IsChildOf, IsFilling, IsTable, IsRow, IsRowBack, IsEntry, IsNodeEntry}
 use Rattle.rowan_cursor.specs.declared.tree.Entry.{Entry}
 use Rattle.rowan_cursor.proofs.RowLemmas.{map-reverse}
 use Rattle.rowan_cursor.proofs.PathLemmas.{subterm-child, offset-child, last_place-child, following-child, preceding-child}

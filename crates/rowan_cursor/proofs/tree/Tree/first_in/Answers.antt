@@ -1,7 +1,7 @@
-use Rattle.std.proofs.Common.{sym, ap, arith, ◌<◌}
+use Rattle.std.proofs.Common.{sym, ap, arith}
 use Rattle.rowan_cursor.specs.Moves.{first_at}
 use Rattle.rowan_cursor.specs.Table.{path_at}
-use Rattle.rowan_cursor.proofs.RowLemmas.{first_split, empty_row}
+use Rattle.rowan_cursor.proofs.RowLemmas.{first_split}
 use Rattle.rowan_cursor.proofs.tree.Tree.first_in.Goals as goal
 
 pub returns-clause-path : goal.returns-clause-path

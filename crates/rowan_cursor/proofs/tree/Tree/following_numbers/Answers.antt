@@ -1,5 +1,5 @@
 use Rattle.std.proofs.Common.{arith}
-use Rattle.rowan_cursor.proofs.TableLemmas.{following_row, following_none}
+use Rattle.rowan_cursor.proofs.TableLemmas.{following_row}
 use Rattle.rowan_cursor.proofs.tree.Tree.following_numbers.Goals as goal
 
 pub returns : goal.returns

@@ -1,4 +1,4 @@
-use Rattle.std.proofs.Common.{◌≡◌, ◌-◌, ◌≤◌, map, reverse}
+use Rattle.std.proofs.Common.{◌≡◌, ◌-◌, map, reverse}
 use Rattle.rowan_cursor.specs.Moves.{numbers, first_node_at}
 use Rattle.rowan_cursor.specs.Table.{root_of, path_at}
 use Rattle.rowan_cursor.proofs.tree.Tree.last_node_in.Given as goal

@@ -1,5 +1,5 @@
 use Rattle.std.proofs.Common.{arith}
-use Rattle.rowan_cursor.proofs.TableLemmas.{preceding_row, preceding_none}
+use Rattle.rowan_cursor.proofs.TableLemmas.{preceding_row}
 use Rattle.rowan_cursor.proofs.tree.Tree.preceding_numbers.Goals as goal
 
 pub returns : goal.returns
