@@ -2,6 +2,8 @@
 
 mod fill;
 mod rows;
+#[cfg(test)]
+mod tests;
 
 ghost use Rattle.std.specs.Prelude.{◌≡◌, ◌<◌, IfOk, IfErr, IfSome, length, reverse};
 ghost use Rattle.std.specs.Option.{option_map};
