@@ -1,4 +1,7 @@
+pub mod ClimbLemmas
+pub mod FillLemmas
+pub mod LeafLemmas
 pub mod PathLemmas
 pub mod RowLemmas
 pub mod RowViews
-pub mod ClimbLemmas
+pub mod TableLemmas

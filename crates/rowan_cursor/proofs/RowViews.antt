@@ -1,8 +1,8 @@
 -- What a row's numbers stand for, by their paths.
-use Rattle.std.proofs.Common.{◌≡◌, ℕ, ◌+◌, ◌-◌, Bool, true, false, cond, List, [], ◌∷◌, ◌++◌, map, refl, sym, ◌∙◌, ap, Ok, Err, IfOk}
-use Rattle.std.specs.Prelude.{reverse, Some}
+use Rattle.std.proofs.Common.{◌≡◌, ℕ, suc, ◌+◌, ◌-◌, ◌<◌, Bool, true, false, cond, List, [], ◌∷◌, ◌++◌, map, refl, sym, ◌∙◌, ap, Ok, Err, IfOk, arith}
+use Rattle.std.specs.Prelude.{reverse, Option, Some, None}
 use Rattle.std.specs.List.{filter}
-use Rattle.std.proofs.lemmas.List.{map-append, reverse-append}
+use Rattle.std.proofs.lemmas.List.{reverse-append}
 use Rattle.rowan_green.specs.Path.{Path}
 use Rattle.rowan_green.specs.Term.{NodeTerm}
 use Rattle.rowan_green.specs.declared.utility_types.Direction.{Direction}
@@ -14,6 +14,7 @@ use Rattle.rowan_cursor.specs.Moves.{numbers, cursor_at, element_at, Element, no
 use Rattle.rowan_cursor.specs.Rows.{has_node, option_list, in_order}
 use Rattle.rowan_cursor.specs.Table.{root_of, path_at, IsRow, IsRowBack}
 use Rattle.rowan_cursor.specs.Yields.{Rest}
+use Rattle.rowan_cursor.proofs.RowLemmas.{numbers-last, map-reverse}
 
 elements-at : (es : List Entry) (ns : List ℕ) → map (element_of es) ns ≡ map (element_at (root_of es)) (map (path_at es) ns)
 elements-at es [] = refl
@@ -36,11 +37,17 @@ pub nodes-left : (es : List Entry) (ns : List ℕ) (ps : List Path) (r : Rest Cu
 nodes-left es ns ps (Ok xs) e h = h ∙ nodes-at es ns ∙ ap (λ qs. map (cursor_at (root_of es)) (nodes_at (root_of es) qs)) e
 nodes-left es ns ps (Err f) e h = tt
 
-pub map-reverse : {A B : Type 0} (f : A → B) (xs : List A) → map f (reverse xs) ≡ reverse (map f xs)
-map-reverse f [] = refl
-map-reverse f (x ∷ xs) =
-    ap (λ ys. map f ys) (reverse-append (x ∷ []) xs) ∙ map-append f (reverse xs) (x ∷ [])
-    ∙ ap (λ ys. ys ++ f x ∷ []) (map-reverse f xs) ∙ sym (reverse-append (f x ∷ []) (map f xs))
+reverse-numbers : (a b : ℕ) → a < b → reverse (numbers a (b - a)) ≡ (b - 1) ∷ reverse (numbers a (b - 1 - a))
+reverse-numbers a b h =
+    let e : b - a ≡ suc (b - 1 - a) = omega arith in
+    let f : a + (b - 1 - a) ≡ b - 1 = omega arith in
+    ap (λ n. reverse (numbers a n)) e ∙ ap reverse (numbers-last a (b - 1 - a))
+    ∙ reverse-append (numbers a (b - 1 - a)) ((a + (b - 1 - a)) ∷ [])
+    ∙ ap (λ x. x ∷ reverse (numbers a (b - 1 - a))) f
+
+-- the next from the back, where no entry stands first
+pub row-from-back : (first left : Option ℕ) (direction : Direction) (a b : ℕ) → first ≡ None → left ≡ None → direction ≡ Prev → a < b → option_list first ++ in_order direction (numbers a (b - a)) ≡ (b - 1) ∷ (option_list left ++ in_order direction (numbers a (b - 1 - a)))
+row-from-back first left direction a b e f g h = rw (e, f, g) (reverse-numbers a b h)
 
 pub siblings-next : (es : List Entry) (n a b : ℕ) (d : Direction) → d ≡ Next → IsRow es a b (following (root_of es) (path_at es n)) → map (path_at es) (option_list (Some n) ++ in_order d (numbers a (b - a))) ≡ sibling_paths d (root_of es) (path_at es n)
 siblings-next es n a b d e row = rw e (ap (λ ps. path_at es n ∷ ps) row.row)

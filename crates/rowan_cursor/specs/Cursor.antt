@@ -1,5 +1,5 @@
 -- A cursor is a root and a path in it. What it answers follows from these two alone.
-use Rattle.std.specs.Prelude.{◌≡◌, ℕ, ◌+◌, List, [], ◌∷◌, Option, Some}
+use Rattle.std.specs.Prelude.{◌≡◌, ℕ, List, [], ◌∷◌, Option, Some}
 use Rattle.rowan_green.specs.declared.utility_types.NodeOrToken.TheVariants.{Node, Token}
 use Rattle.rowan_green.specs.Term.{NodeTerm, TokenTerm, Term}
 use Rattle.rowan_green.specs.Path.{Path, subterm, text_of}

@@ -9,8 +9,8 @@ use Rattle.rowan_green.specs.declared.utility_types.NodeOrToken.{NodeOrToken}
 use Rattle.rowan_green.specs.declared.utility_types.NodeOrToken.TheVariants.{Node, Token}
 use Rattle.rowan_green.specs.declared.utility_types.Direction.{Direction}
 use Rattle.rowan_green.specs.declared.utility_types.Direction.TheVariants.{Next, Prev}
-use Rattle.rowan_green.specs.Term.{TokenTerm, NodeTerm, Term}
-use Rattle.rowan_green.specs.Path.{Path, subterm, term_children, Leaf, leaves, stands_before, begins}
+use Rattle.rowan_green.specs.Term.{NodeTerm, Term}
+use Rattle.rowan_green.specs.Path.{Path, subterm, term_children, leaves, stands_before, begins}
 use Rattle.rowan_cursor.specs.Cursor.{Cursor, last_place}
 
 -- the path without its last place; the root's has none

@@ -3,6 +3,8 @@
 mod elements;
 mod fill;
 mod rows;
+#[cfg(test)]
+mod tests;
 
 ghost use Rattle.std.specs.Prelude.{◌≡◌, ◌<◌, IfOk, IfErr, IfSome, length, reverse};
 ghost use Rattle.std.specs.Option.{option_map};

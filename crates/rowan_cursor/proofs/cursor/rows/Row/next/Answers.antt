@@ -1,5 +1,5 @@
 use Rattle.std.proofs.Common.{sym, ◌∙◌, arith}
-use Rattle.rowan_cursor.proofs.RowLemmas.{row-from-back}
+use Rattle.rowan_cursor.proofs.RowViews.{row-from-back}
 use Rattle.rowan_cursor.proofs.cursor.rows.Row.next.Goals as goal
 
 pub returns-in-Prev-clause-some : goal.returns-in-Prev-clause-some
