@@ -1,3 +1,4 @@
 pub mod LeafLemmas
 pub mod PathLemmas
 pub mod TableLemmas
+pub mod TokenLemmas

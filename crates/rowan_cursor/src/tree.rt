@@ -2,6 +2,7 @@
 
 mod fill;
 mod rows;
+mod tokens;
 
 ghost use Rattle.std.specs.Prelude.{◌≡◌, ◌<◌, IfOk, IfErr, IfSome, length, reverse};
 ghost use Rattle.std.specs.Option.{option_map};
