@@ -1,4 +1,6 @@
+pub mod FillLemmas
 pub mod LeafLemmas
 pub mod PathLemmas
+pub mod RowLemmas
 pub mod TableLemmas
 pub mod TokenLemmas

@@ -1,5 +1,5 @@
 -- Laws of tables: what the local facts say of the paths that are read off by going up.
-use Rattle.std.proofs.Common.{◌≡◌, ℕ, zero, suc, ◌+◌, ◌-◌, ◌<◌, ◌≤◌, List, [], ◌∷◌, ◌++◌, map, reverse, length, take, Option, Some, None, refl, sym, ◌∙◌, ap, subst, arith, add-one}
+use Rattle.std.proofs.Common.{◌≡◌, true, ℕ, zero, suc, ◌+◌, ◌-◌, ◌<◌, ◌≤◌, List, [], ◌∷◌, ◌++◌, map, reverse, length, take, Option, Some, None, refl, sym, ◌∙◌, ap, arith}
 use Rattle.std.specs.Prelude.{slice_get}
 use Rattle.std.specs.Option.{option_map_or}
 use Rattle.std.proofs.lemmas.List.{take_all}
@@ -10,9 +10,10 @@ use Rattle.rowan_green.specs.Term.{Term}
 use Rattle.rowan_green.specs.Path.{Path, subterm, offset, term_children}
 use Rattle.rowan_green.proofs.Paths.{offset-empty}
 use Rattle.rowan_cursor.specs.Cursor.{last_place}
-use Rattle.rowan_cursor.specs.Moves.{numbers, below, child_count, children_of, child_paths, following, preceding}
-use Rattle.rowan_cursor.specs.Table.{root_of, counts, path_within, path_at, IsTop, IsChildOf, IsFilling, IsTable, IsRow, IsRowBack, IsBelow, IsEntry}
+use Rattle.rowan_cursor.specs.Moves.{numbers, below, child_count, children_of, is_node, child_paths, following, preceding}
+use Rattle.rowan_cursor.specs.Table.{root_of, counts, path_within, path_at, IsTop, IsChildOf, IsFilling, IsTable, IsRow, IsRowBack, IsEntry, IsNodeEntry}
 use Rattle.rowan_cursor.specs.declared.tree.Entry.{Entry}
+use Rattle.rowan_cursor.proofs.RowLemmas.{map-reverse}
 use Rattle.rowan_cursor.proofs.PathLemmas.{subterm-child, offset-child, last_place-child, following-child, preceding-child}
 
 -- ---- lists
@@ -121,6 +122,15 @@ pub record HasChild (es : List Entry) (n : ℕ) (e : Entry) (j : ℕ) : Type 0 w
 same_parent : (a b : ℕ) → (a < b → ⊥) → (b < a → ⊥) → a ≡ b
 same_parent a b h k = omega arith
 
+same_index : (m a b i j : ℕ) → m ≡ a + i → m ≡ b + j → a ≡ b → i ≡ j
+same_index m a b i j d e f = omega arith
+
+same_entry : (es : List Entry) (m n : ℕ) (d e : Entry) → slice_get es m ≡ Some d → slice_get es n ≡ Some e → m ≡ n → d ≡ e
+same_entry es m n d e p q h = same_Some d e (sym p ∙ ap (λ k. slice_get es k) h ∙ q)
+
+same_first : (d e : Entry) → d ≡ e → d.first_child ≡ e.first_child
+same_first d e h = ap (λ (x : Entry). x.first_child) h
+
 pub has_child : (es : List Entry) → IsTable es → (n : ℕ) (e : Entry) (j : ℕ) → slice_get es n ≡ Some e → j < e.child_count → HasChild es n e j
 has_child es t n e j at h =
     let f = t.filling in
@@ -137,12 +147,12 @@ has_child es t n e j at h =
     let place : m ≡ p.first_child + c.index = is.place in
     let same : c.parent ≡ n =
     same_parent c.parent n (λ before. omega (arith, rows_apart es f c.parent n p e above.1 at before)) (λ before. omega (arith, rows_apart es f n c.parent e p at above.1 before)) in
-    let entry : p ≡ e = same_Some p e (sym above.1 ∙ ap (λ k. slice_get es k) same ∙ at) in
+    let entry : p ≡ e = same_entry es c.parent n p e above.1 at same in
     record {
       child = c;
       at = found.1;
       parent = same;
-      index = omega (arith, ap (λ (x : Entry). x.first_child) entry);
+      index = same_index m p.first_child e.first_child c.index j place refl (same_first p e entry);
     }
 
 pub path_at-row : (es : List Entry) → IsTable es → (n : ℕ) (e : Entry) (j : ℕ) → slice_get es n ≡ Some e → j < e.child_count → path_at es (e.first_child + j) ≡ path_at es n ++ j ∷ []
@@ -199,3 +209,80 @@ is_entry es t n e at =
       };
       children = children_row es t n e at;
     }
+
+-- ---- siblings
+
+pub record HasAbove (es : List Entry) (n : ℕ) (e p : Entry) : Type 0 where
+  pub at : slice_get es n ≡ Some e
+  pub behind : 0 < n
+  pub above : slice_get es e.parent ≡ Some p
+
+place : (es : List Entry) (n : ℕ) (e p : Entry) → IsTable es → HasAbove es n e p → n ≡ p.first_child + e.index
+place es n e p t h = (t.filling.parents n e p h.at h.behind h.above).place
+
+index_below : (es : List Entry) (n : ℕ) (e p : Entry) → IsTable es → HasAbove es n e p → e.index < p.child_count
+index_below es n e p t h =
+    omega (arith, slice_get_within (term_children p.green) e.index e.green (t.filling.parents n e p h.at h.behind h.above).child, t.filling.counted e.parent p h.above)
+
+pub following_row : (es : List Entry) → IsTable es → (n : ℕ) (e p : Entry) → HasAbove es n e p → IsRow es (n + 1) (p.first_child + p.child_count) (following (root_of es) (path_at es n))
+following_row es t n e p h =
+    let root = root_of es in
+    let q = path_at es e.parent in
+    let at : n ≡ p.first_child + e.index = place es n e p t h in
+    let less : e.index < p.child_count = index_below es n e p t h in
+    let left : p.first_child + p.child_count - (n + 1) ≡ p.child_count - (e.index + 1) = omega arith in
+    let from : n + 1 ≡ p.first_child + (e.index + 1) = omega arith in
+    record {
+      order = omega arith;
+      within = row_within es t e.parent p h.above;
+      row = ap (λ c. map (path_at es) (numbers (n + 1) c)) left
+          ∙ part es t e.parent p h.above (n + 1) (e.index + 1) (p.child_count - (e.index + 1)) from (omega arith)
+          ∙ ap (λ c. below q (numbers (e.index + 1) (c - (e.index + 1)))) (sym (child_count-entry es t.filling e.parent p h.above))
+          ∙ sym (following-child root q e.index) ∙ ap (following root) (sym (path_at-child es t.filling n e h.at h.behind));
+    }
+
+pub preceding_row : (es : List Entry) → IsTable es → (n : ℕ) (e p : Entry) → HasAbove es n e p → IsRowBack es p.first_child n (preceding (root_of es) (path_at es n))
+preceding_row es t n e p h =
+    let root = root_of es in
+    let q = path_at es e.parent in
+    let at : n ≡ p.first_child + e.index = place es n e p t h in
+    let less : e.index < p.child_count = index_below es n e p t h in
+    let left : n - p.first_child ≡ e.index = omega arith in
+    record {
+      order = omega arith;
+      within = omega (arith, slice_get_within es n e h.at);
+      row = ap (λ c. reverse (map (path_at es) (numbers p.first_child c))) left
+          ∙ ap reverse (part es t e.parent p h.above p.first_child 0 e.index (omega arith) (omega arith))
+          ∙ sym (map-reverse (λ i. q ++ i ∷ []) (numbers 0 e.index))
+          ∙ sym (preceding-child root q e.index) ∙ ap (preceding root) (sym (path_at-child es t.filling n e h.at h.behind));
+    }
+
+-- the root has no siblings
+pub following_none : (es : List Entry) → IsTable es → IsRow es 0 0 (following (root_of es) [])
+following_none es t = record { order = omega arith; within = omega arith; row = refl }
+
+pub preceding_none : (es : List Entry) → IsTable es → IsRowBack es 0 0 (preceding (root_of es) [])
+preceding_none es t = record { order = omega arith; within = omega arith; row = refl }
+
+pub above_of : (es : List Entry) → IsTable es → (n : ℕ) (e : Entry) → slice_get es n ≡ Some e → 0 < n → (p : Entry) × HasAbove es n e p
+above_of es t n e at h =
+    let less : e.parent < n = t.filling.earlier n e at h in
+    let above = slice_get-some es e.parent (omega (arith, slice_get_within es n e at)) in (
+      above.0,
+      record {
+        at = at;
+        behind = h;
+        above = above.1;
+      },
+    )
+
+-- only a node has children
+node_with_child : (t c : Term) (i : ℕ) → slice_get (term_children t) i ≡ Some c → is_node (Some t) ≡ true
+node_with_child (Node n) c i e = refl
+node_with_child (Token t) c i e = absurd cc
+
+pub node_above : (es : List Entry) → IsTable es → (n : ℕ) (e : Entry) → slice_get es n ≡ Some e → 0 < n → IsNodeEntry es e.parent
+node_above es t n e at h =
+    let a = above_of es t n e at h in
+    let p = a.0 in
+    ap is_node (stands es t.filling e.parent p a.1.above).green ∙ node_with_child p.green e.green e.index (t.filling.parents n e p at h a.1.above).child

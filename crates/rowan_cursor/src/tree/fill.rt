@@ -1,5 +1,6 @@
 //! Filling a table: level by level, in one pass.
 ghost use Rattle.std.specs.Prelude.{◌≡◌, ◌+◌, ◌<◌, ◌≤◌, [], ◌∷◌, IfOk, IfErr, OnOk, Some, length, take, slice_get};
+ghost use Rattle.rowan_green.specs.Fits.{Fits};
 ghost use Rattle.rowan_green.specs.Path.{term_children};
 ghost use Rattle.rowan_green.specs.Term.{Term};
 ghost use Rattle.rowan_cursor.specs.Table.{IsFilling, GrowsBy, counts, root_of};
@@ -82,9 +83,10 @@ impl Draft {
         let NodeOrToken::Node(node) = &above.green else {
             unreachable!();
         };
-        let Some((start, child)) = node.child_ref(index as usize) else {
+        let Some(found) = node.child_ref(index as usize) else {
             unreachable!();
         };
+        let (start, child) = found;
         let green = child.to_owned()?;
         let offset = TextSize::from(u32::from(above.offset) + u32::from(start));
         let child_count = child_count(&green);
@@ -119,14 +121,13 @@ impl Draft {
 
 // How many children a node has; a token has none.
 fn child_count(green: &GreenElement) -> u32
-    ensures { result ≡ length (term_children green.now) }
+    ensures count { result ≡ length (term_children green.now) }
+    ensures fits { Fits green.now }
 {
+    // What has a length is within the limits.
+    let _len = green.text_len();
     match green {
-        NodeOrToken::Node(node) => {
-            // The length fits, and so does the number of children.
-            let _len = node.text_len();
-            node.children().len() as u32
-        }
+        NodeOrToken::Node(node) => node.children().len() as u32,
         NodeOrToken::Token(_) => 0,
     }
 }

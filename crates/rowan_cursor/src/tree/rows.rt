@@ -25,8 +25,8 @@ impl Tree {
         if number == 0 {
             return 0..0;
         }
-        let siblings = self.child_numbers(self.entry(number).parent);
-        number + 1..siblings.end
+        let parent = self.entry(self.entry(number).parent);
+        number + 1..parent.first_child + parent.child_count as usize
     }
 
     /// The numbers of the siblings before this one.
@@ -37,8 +37,8 @@ impl Tree {
         if number == 0 {
             return 0..0;
         }
-        let siblings = self.child_numbers(self.entry(number).parent);
-        siblings.start..number
+        let parent = self.entry(self.entry(number).parent);
+        parent.first_child..number
     }
 
     /// The first of a row.
