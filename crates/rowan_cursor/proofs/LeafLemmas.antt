@@ -6,7 +6,7 @@ use Rattle.std.proofs.lemmas.List.{append-nil, map-append, map-id, drop_all, tak
 use Rattle.std.proofs.lemmas.List.Elements.{filter-append}
 use Rattle.rowan_green.specs.declared.utility_types.NodeOrToken.TheVariants.{Node, Token}
 use Rattle.rowan_green.specs.Term.{NodeTerm, node, Forest, empty, node_then, token_then, Term, terms, node_children}
-use Rattle.rowan_green.specs.Path.{Path, term_children, subterm_of, subterm, Leaf, below_place, node_leaves, leaves_from, leaves, stands_before, begins}
+use Rattle.rowan_green.specs.Path.{Path, term_children, subterm_of, subterm, Leaf, below_place, node_leaves, leaves_from, stands_before, begins}
 use Rattle.rowan_cursor.specs.Moves.{children_of, leaf_paths, first_at, first_leaf_path, last_leaf_path, next_leaf_path, prev_leaf_path}
 use Rattle.rowan_cursor.specs.Pass.{Lists, row, of_some, after, before, entered, rest, reached, upto, leaf_list, elements_from, node_elements, element_list}
 use Rattle.rowan_cursor.proofs.PathLemmas.{before_at_less, before_at_same, before_at_greater, begins-same, eq_less, eq_not, subterm-child}

@@ -1,22 +1,20 @@
 -- From an element to the next one: what the answers of single moves mean for a pass over the elements.
-use Rattle.std.proofs.Common.{◌≡◌, ◌≢◌, ℕ, zero, suc, ◌+◌, ◌-◌, ◌<◌, ◌≤◌, Bool, true, false, cond, List, [], ◌∷◌, ◌++◌, map, length, filter, Option, Some, None, take, drop, reverse, ◌⊎◌, inl, inr, refl, sym, ◌∙◌, ap, subst, arith, add-one, length-append, append_assoc}
+use Rattle.std.proofs.Common.{◌≡◌, ◌≢◌, ℕ, zero, suc, ◌+◌, ◌-◌, ◌<◌, true, false, cond, List, [], ◌∷◌, ◌++◌, map, length, filter, Option, Some, None, take, drop, reverse, inl, inr, refl, sym, ◌∙◌, ap, arith, length-append, append_assoc}
 use Rattle.std.specs.Prelude.{slice_get}
-use Rattle.std.specs.List.{find}
-use Rattle.std.specs.Option.{option_map}
 use Rattle.std.proofs.lemmas.Bool.{cases_lt, true≢false}
-use Rattle.std.proofs.lemmas.List.{append-nil, length-map, length-take, map-append, reverse-append}
+use Rattle.std.proofs.lemmas.List.{append-nil, length-take, map-append, reverse-append}
 use Rattle.std.proofs.lemmas.List.Elements.{filter-append}
 use Rattle.std.proofs.lemmas.Option.{slice_get_past}
 use Rattle.rowan_green.specs.declared.utility_types.NodeOrToken.TheVariants.{Node, Token}
-use Rattle.rowan_green.specs.Term.{NodeTerm, Term, node_children}
-use Rattle.rowan_green.specs.Path.{Path, term_children, subterm_of, subterm, stands_before, begins}
+use Rattle.rowan_green.specs.Term.{NodeTerm, Term}
+use Rattle.rowan_green.specs.Path.{Path, term_children, subterm, begins}
 use Rattle.rowan_cursor.specs.Cursor.{last_place}
 use Rattle.rowan_cursor.specs.Moves.{parent_path, children_of, numbers, below, child_count, child_paths, following, preceding, is_node, is_node_at, first_at, first_leaf_path, last_leaf_path, next_leaf_path, prev_leaf_path}
 use Rattle.rowan_cursor.specs.Pass.{Lists, row, of_some, after, before, entered, rest, reached, upto, leaf_list, element_list, ComesBehind, ComesNext, ComesBefore, ComesBack, first_inside, last_inside}
 use Rattle.rowan_cursor.specs.Table.{IsFilling, IsTable, root_of, path_at}
 use Rattle.rowan_cursor.specs.declared.tree.Entry.{Entry}
 use Rattle.rowan_cursor.proofs.PathLemmas.{last-split, parent_path-child, last_place-child, following-child, preceding-child, begins-rest, begins-own, begins-same, subterm-child}
-use Rattle.rowan_cursor.proofs.LeafLemmas.{after-child, rest-child, rest-none, before-child, upto-child, upto-none, upto-all, leaf_list-node, element_list-term, filter_same, filter_row-const, filter-row, not-begins, filter_all, find-first, find-last, last_at, first_leaf-below, last_leaf-below, next_leaf-rest, prev_leaf-before}
+use Rattle.rowan_cursor.proofs.LeafLemmas.{after-child, rest-child, rest-none, before-child, upto-child, upto-none, upto-all, leaf_list-node, element_list-term, filter_same, filter_row-const, filter-row, not-begins, find-first, find-last, last_at, first_leaf-below, last_leaf-below, next_leaf-rest, prev_leaf-before}
 use Rattle.rowan_cursor.proofs.TableLemmas.{slice_get-some, path_at-child, is_entry}
 
 -- The first of a list of children, and the last.

@@ -1,6 +1,6 @@
-use Rattle.std.proofs.Common.{◌≡◌, ◌<◌, true, length, sym, ◌∙◌, ap, arith, Some}
+use Rattle.std.proofs.Common.{sym, ◌∙◌, ap, arith, Some}
 use Rattle.rowan_green.specs.declared.utility_types.NodeOrToken.TheVariants.{Node}
-use Rattle.rowan_cursor.specs.Pass.{leaf_list, before, ComesBefore, last_inside}
+use Rattle.rowan_cursor.specs.Pass.{leaf_list, before, last_inside}
 use Rattle.rowan_cursor.specs.Table.{root_of, path_at}
 use Rattle.rowan_cursor.proofs.TokenLemmas.{before-inside, parent-inside, next_before, climb_before, no_parent, last_inside-before, apart_paths, stands_at}
 use Rattle.rowan_cursor.proofs.tree.Tree.skip_back.Goals as goal

@@ -1,6 +1,6 @@
-use Rattle.std.proofs.Common.{◌≡◌, ◌<◌, true, length, sym, ◌∙◌, ap, arith, Some}
+use Rattle.std.proofs.Common.{sym, ◌∙◌, ap, arith, Some}
 use Rattle.rowan_green.specs.declared.utility_types.NodeOrToken.TheVariants.{Node}
-use Rattle.rowan_cursor.specs.Pass.{leaf_list, after, ComesBehind, first_inside}
+use Rattle.rowan_cursor.specs.Pass.{leaf_list, after, first_inside}
 use Rattle.rowan_cursor.specs.Table.{root_of, path_at}
 use Rattle.rowan_cursor.proofs.TokenLemmas.{behind-inside, parent-inside, next_behind, climb_behind, no_parent, first_inside-after, apart_paths}
 use Rattle.rowan_cursor.proofs.tree.Tree.skip_on.Goals as goal

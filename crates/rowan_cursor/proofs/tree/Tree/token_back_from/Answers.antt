@@ -1,7 +1,6 @@
-use Rattle.std.proofs.Common.{◌≡◌, ◌<◌, true, false, length, sym, ◌∙◌, ap, arith, Some}
-use Rattle.rowan_green.specs.declared.utility_types.NodeOrToken.TheVariants.{Node}
+use Rattle.std.proofs.Common.{◌≡◌, true, false, length, sym, ◌∙◌, ap, arith}
 use Rattle.rowan_cursor.specs.Moves.{is_node_at}
-use Rattle.rowan_cursor.specs.Pass.{leaf_list, element_list, reached, upto, last_inside}
+use Rattle.rowan_cursor.specs.Pass.{leaf_list, element_list, last_inside}
 use Rattle.rowan_cursor.specs.Table.{root_of, path_at}
 use Rattle.rowan_cursor.proofs.TokenLemmas.{reached-node, reached-fewer, token-last, stands_at}
 use Rattle.rowan_cursor.proofs.tree.Tree.token_back_from.Goals as goal

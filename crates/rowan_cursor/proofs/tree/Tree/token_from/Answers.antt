@@ -1,7 +1,6 @@
-use Rattle.std.proofs.Common.{◌≡◌, ◌<◌, true, false, length, sym, ◌∙◌, ap, arith, Some}
-use Rattle.rowan_green.specs.declared.utility_types.NodeOrToken.TheVariants.{Node}
+use Rattle.std.proofs.Common.{◌≡◌, true, false, length, sym, ◌∙◌, ap, arith}
 use Rattle.rowan_cursor.specs.Moves.{is_node_at}
-use Rattle.rowan_cursor.specs.Pass.{leaf_list, element_list, entered, rest, first_inside}
+use Rattle.rowan_cursor.specs.Pass.{leaf_list, element_list, first_inside}
 use Rattle.rowan_cursor.specs.Table.{root_of, path_at}
 use Rattle.rowan_cursor.proofs.TokenLemmas.{entered-node, entered-fewer, token-first, stands_at}
 use Rattle.rowan_cursor.proofs.tree.Tree.token_from.Goals as goal
