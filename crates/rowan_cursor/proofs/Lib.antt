@@ -5,3 +5,4 @@ pub mod PathLemmas
 pub mod RowLemmas
 pub mod RowViews
 pub mod TableLemmas
+pub mod TokenLemmas

@@ -4,6 +4,7 @@ pub mod CursorCode
 pub mod CursorView
 pub mod Equal
 pub mod Moves
+pub mod Pass
 pub mod Rows
 pub mod Table
 pub mod TableProp
