@@ -1,6 +1,4 @@
--- Laws of leaves: the lists of leaf paths below a path, behind it and before it, and how they go on from an element to the next.
---     A list of paths below each term, as that of its leaves or that of all its elements, is put together by `row` over the children.
---     What a walk has still before it, when it comes to an element, is what stands below it and then what stands behind it.
+-- Laws of passes over the elements of a tree: how what is left goes on from an element to the next, and what it has to do with the moves to tokens.
 use Rattle.std.proofs.Common.{◌≡◌, ℕ, zero, suc, ◌+◌, ◌<◌, ◌≤◌, Bool, true, false, cond, ◌&&◌, ◌⊎◌, inl, inr, List, [], ◌∷◌, ◌++◌, map, length, filter, Option, Some, None, take, drop, reverse, refl, sym, ◌∙◌, ap, arith, append_assoc}
 use Rattle.std.specs.Prelude.{slice_get}
 use Rattle.std.specs.List.{find}
@@ -8,48 +6,10 @@ use Rattle.std.proofs.lemmas.List.{append-nil, map-append, map-id, drop_all, tak
 use Rattle.std.proofs.lemmas.List.Elements.{filter-append}
 use Rattle.rowan_green.specs.declared.utility_types.NodeOrToken.TheVariants.{Node, Token}
 use Rattle.rowan_green.specs.Term.{NodeTerm, node, Forest, empty, node_then, token_then, Term, terms, node_children}
-use Rattle.rowan_green.specs.Path.{Path, term_children, subterm_of, subterm, Leaf, below_place, node_leaves, leaves_from, leaves, stands_before, begins}
+use Rattle.rowan_green.specs.Path.{Path, term_children, subterm_of, subterm, Leaf, below_place, node_leaves, leaves_from, stands_before, begins}
 use Rattle.rowan_cursor.specs.Moves.{children_of, leaf_paths, first_at, first_leaf_path, last_leaf_path, next_leaf_path, prev_leaf_path}
+use Rattle.rowan_cursor.specs.Pass.{Lists, row, of_some, after, before, entered, rest, reached, upto, leaf_list, elements_from, node_elements, element_list}
 use Rattle.rowan_cursor.proofs.PathLemmas.{before_at_less, before_at_same, before_at_greater, begins-same, eq_less, eq_not, subterm-child}
-
--- Lists of paths below a term, from lists below each of its children.
-abbrev pub Lists : Type 0
-Lists = Term → List Path
-
-abbrev pub row : Lists → ℕ → List Term → List Path
-row g i [] = []
-row g i (t ∷ ts) = map (λ q. i ∷ q) (g t) ++ row g (suc i) ts
-
-abbrev pub of_some : Lists → Option Term → List Path
-of_some g None = []
-of_some g (Some t) = g t
-
--- behind a path, and before it
-abbrev pub after : Lists → Option Term → Path → List Path
-after g None p = []
-after g (Some t) [] = []
-after g (Some t) (i ∷ p) =
-    map (λ q. i ∷ q) (after g (slice_get (term_children t) i) p) ++ row g (suc i) (drop (suc i) (term_children t))
-
-abbrev pub before : Lists → Option Term → Path → List Path
-before g None p = []
-before g (Some t) [] = []
-before g (Some t) (i ∷ p) =
-    row g 0 (take i (term_children t)) ++ map (λ q. i ∷ q) (before g (slice_get (term_children t) i) p)
-
--- what is left from an element on: of itself and behind it; and from the child at a place on
-abbrev pub entered : Lists → Option Term → Path → List Path
-entered g t p = map (λ q. p ++ q) (of_some g (subterm_of t p)) ++ after g t p
-
-abbrev pub rest : Lists → Option Term → Path → ℕ → List Path
-rest g t p i = map (λ q. p ++ q) (row g i (drop i (children_of (subterm_of t p)))) ++ after g t p
-
--- what lies up to an element, itself included, and up to the child at a place
-abbrev pub reached : Lists → Option Term → Path → List Path
-reached g t p = before g t p ++ map (λ q. p ++ q) (of_some g (subterm_of t p))
-
-abbrev pub upto : Lists → Option Term → Path → ℕ → List Path
-upto g t p i = before g t p ++ map (λ q. p ++ q) (row g 0 (take i (children_of (subterm_of t p))))
 
 -- Steps.
 map_below : (p : Path) (i : ℕ) (qs : List Path) → map (λ q. p ++ q) (map (λ q. i ∷ q) qs) ≡ map (λ q. (p ++ i ∷ []) ++ q) qs
@@ -140,23 +100,7 @@ upto-none g t p = append-nil (before g t p)
 pub upto-all : (g : Lists) (t : Option Term) (p : Path) (i : ℕ) → length (children_of (subterm_of t p)) ≤ i → upto g t p i ≡ before g t p ++ map (λ q. p ++ q) (row g 0 (children_of (subterm_of t p)))
 upto-all g t p i h = ap (λ us. before g t p ++ map (λ q. p ++ q) (row g 0 us)) (take_all i (children_of (subterm_of t p)) h)
 
--- The paths of the leaves of a term, and those of all its elements.
-abbrev pub leaf_list : Lists
-leaf_list t = map (λ l. l.0) (leaves t)
-
-abbrev mutual
-  node_elements : NodeTerm → List Path
-  node_elements (node k f) = [] ∷ elements_from 0 f
-
-  elements_from : ℕ → Forest → List Path
-  elements_from i empty = []
-  elements_from i (node_then n f) = map (λ q. i ∷ q) (node_elements n) ++ elements_from (suc i) f
-  elements_from i (token_then t f) = (i ∷ []) ∷ elements_from (suc i) f
-
-abbrev pub element_list : Lists
-element_list (Node n) = node_elements n
-element_list (Token t) = [] ∷ []
-
+-- The leaves of a node are those of its children, and so with its elements.
 leaves_from-row : (m : ℕ) (f : Forest) → map (λ l. l.0) (leaves_from m f) ≡ row leaf_list m (terms f)
 leaves_from-row m empty = refl
 leaves_from-row m (node_then n f) =
@@ -175,7 +119,6 @@ elements_from-row m empty = refl
 elements_from-row m (node_then n f) = ap (λ us. map (λ q. m ∷ q) (node_elements n) ++ us) (elements_from-row (suc m) f)
 elements_from-row m (token_then t f) = ap (λ us. (m ∷ []) ∷ us) (elements_from-row (suc m) f)
 
--- the leaves of a node are those of its children
 pub leaf_list-node : (n : NodeTerm) → leaf_list (Node n) ≡ row leaf_list 0 (node_children n)
 leaf_list-node (node k f) = leaves_from-row 0 f
 
@@ -185,7 +128,7 @@ element_list-term (Node (node k f)) = ap (λ us. [] ∷ us) (elements_from-row 0
 element_list-term (Token t) = refl
 
 -- What a test keeps of a row: it says one thing of each place before one place, another of each behind it.
-filter_same : (P Q : Path → Bool) (i : ℕ) (qs : List Path) → ((q : Path) → P (i ∷ q) ≡ Q q) → filter P (map (λ q. i ∷ q) qs) ≡ map (λ q. i ∷ q) (filter Q qs)
+pub filter_same : (P Q : Path → Bool) (i : ℕ) (qs : List Path) → ((q : Path) → P (i ∷ q) ≡ Q q) → filter P (map (λ q. i ∷ q) qs) ≡ map (λ q. i ∷ q) (filter Q qs)
 filter_same P Q i [] h = refl
 filter_same P Q i (q ∷ qs) h = ap (λ b. cond b ((i ∷ q) ∷ filter P (map (λ q. i ∷ q) qs)) (filter P (map (λ q. i ∷ q) qs))) (h q) ∙ by (Q q) (filter_same P Q i qs h)
   where
@@ -203,7 +146,7 @@ joined : (b : Bool) (xs ys : List Path) → cond b xs [] ++ cond b ys [] ≡ con
 joined true xs ys = refl
 joined false xs ys = refl
 
-filter_row-const : (g : Lists) (P : Path → Bool) (b : Bool) (m : ℕ) (ts : List Term) → ((j : ℕ) (q : Path) → m ≤ j → P (j ∷ q) ≡ b) → filter P (row g m ts) ≡ cond b (row g m ts) []
+pub filter_row-const : (g : Lists) (P : Path → Bool) (b : Bool) (m : ℕ) (ts : List Term) → ((j : ℕ) (q : Path) → m ≤ j → P (j ∷ q) ≡ b) → filter P (row g m ts) ≡ cond b (row g m ts) []
 filter_row-const g P true m [] h = refl
 filter_row-const g P false m [] h = refl
 filter_row-const g P b m (t ∷ ts) h =
@@ -214,7 +157,7 @@ none_of : (b : Bool) → ◌≡◌ {A = List Path} [] (cond b [] [])
 none_of true = refl
 none_of false = refl
 
-filter-row : (g : Lists) (P Q : Path → Bool) (b c : Bool) (m d i : ℕ) (ts : List Term) → i ≡ m + d → ((j : ℕ) (q : Path) → j < i → P (j ∷ q) ≡ b) → ((q : Path) → P (i ∷ q) ≡ Q q) → ((j : ℕ) (q : Path) → i < j → P (j ∷ q) ≡ c) → filter P (row g m ts) ≡ cond b (row g m (take d ts)) [] ++ (map (λ q. i ∷ q) (filter Q (of_some g (slice_get ts d))) ++ cond c (row g (suc i) (drop (suc d) ts)) [])
+pub filter-row : (g : Lists) (P Q : Path → Bool) (b c : Bool) (m d i : ℕ) (ts : List Term) → i ≡ m + d → ((j : ℕ) (q : Path) → j < i → P (j ∷ q) ≡ b) → ((q : Path) → P (i ∷ q) ≡ Q q) → ((j : ℕ) (q : Path) → i < j → P (j ∷ q) ≡ c) → filter P (row g m ts) ≡ cond b (row g m (take d ts)) [] ++ (map (λ q. i ∷ q) (filter Q (of_some g (slice_get ts d))) ++ cond c (row g (suc i) (drop (suc d) ts)) [])
 filter-row g P Q b c m zero i [] e less same more = none_of c ∙ ap (λ us. us ++ cond c [] []) (none_of b)
 filter-row g P Q b c m (suc d) i [] e less same more = none_of c ∙ ap (λ us. us ++ cond c [] []) (none_of b)
 filter-row g P Q b c m zero i (t ∷ ts) e less same more =
@@ -227,7 +170,7 @@ filter-row g P Q b c m (suc d) i (t ∷ ts) e less same more =
     filter-append P own (row g (suc m) ts) ∙ ap (λ vs. vs ++ filter P (row g (suc m) ts)) (filter_const P b m (g t) (λ q. less m q (omega arith))) ∙ ap (λ vs. cond b own [] ++ vs) (filter-row g P Q b c (suc m) d i ts (omega arith) less same more) ∙ sym (append_assoc (cond b own []) (cond b ls []) us) ∙ ap (λ vs. vs ++ us) (joined b own ls)
 
 -- The leaves that a path begins, those that it stands before, and those that stand before it.
-filter_all : (P : Path → Bool) (qs : List Path) → ((q : Path) → P q ≡ true) → filter P qs ≡ qs
+pub filter_all : (P : Path → Bool) (qs : List Path) → ((q : Path) → P q ≡ true) → filter P qs ≡ qs
 filter_all P [] h = refl
 filter_all P (q ∷ qs) h = ap (λ b. cond b (q ∷ filter P qs) (filter P qs)) (h q) ∙ ap (λ us. q ∷ us) (filter_all P qs h)
 
@@ -235,7 +178,7 @@ filter_none : (P : Path → Bool) (qs : List Path) → ((q : Path) → P q ≡ f
 filter_none P [] h = refl
 filter_none P (q ∷ qs) h = ap (λ b. cond b (q ∷ filter P qs) (filter P qs)) (h q) ∙ filter_none P qs h
 
-not-begins : (i j : ℕ) (p q : Path) → (i < j) ⊎ (j < i) → begins (i ∷ p) (j ∷ q) ≡ false
+pub not-begins : (i j : ℕ) (p q : Path) → (i < j) ⊎ (j < i) → begins (i ∷ p) (j ∷ q) ≡ false
 not-begins i j p q h = elim h [
   | inl l ↦ ap (λ b. b && begins p q) (eq_less i j l)
   | inr l ↦ ap (λ b. b && begins p q) (eq_not i j l)
@@ -276,7 +219,7 @@ leaves-before (Some (Node n)) (i ∷ p) c e =
     ap (filter (λ q. stands_before q (i ∷ p))) (leaf_list-node n) ∙ filter-row leaf_list (λ q. stands_before q (i ∷ p)) (λ q. stands_before q p) true false 0 i i (node_children n) (omega arith) (λ j q l. before_at_less j i q p l) (λ q. before_at_same i q p) (λ j q l. before_at_greater j i q p l) ∙ ap (λ us. ls ++ us) (append-nil (map (λ q. i ∷ q) (filter (λ q. stands_before q p) (of_some leaf_list u))) ∙ ap (map (λ q. i ∷ q)) (leaves-before u p c e))
 
 -- The first that passes is the first of those that pass, from either end.
-find-first : (P : Path → Bool) (qs : List Path) → find P qs ≡ first_at (filter P qs)
+pub find-first : (P : Path → Bool) (qs : List Path) → find P qs ≡ first_at (filter P qs)
 find-first P [] = refl
 find-first P (q ∷ qs) = by (P q) (find-first P qs)
   where
@@ -296,7 +239,7 @@ filter-reverse P (q ∷ qs) =
 abbrev pub last_at : List Path → Option Path
 last_at qs = first_at (reverse qs)
 
-find-last : (P : Path → Bool) (qs : List Path) → find P (reverse qs) ≡ last_at (filter P qs)
+pub find-last : (P : Path → Bool) (qs : List Path) → find P (reverse qs) ≡ last_at (filter P qs)
 find-last P qs = find-first P (reverse qs) ∙ ap first_at (filter-reverse P qs)
 
 pub first_leaf-below : (root : NodeTerm) (p : Path) → first_leaf_path root p ≡ first_at (map (λ q. p ++ q) (of_some leaf_list (subterm (Node root) p)))

@@ -3,3 +3,4 @@ pub mod LeafLemmas
 pub mod PathLemmas
 pub mod RowLemmas
 pub mod TableLemmas
+pub mod TokenLemmas

@@ -1,6 +1,7 @@
 pub mod Cursor
 pub mod CursorCode
 pub mod Moves
+pub mod Pass
 pub mod Table
 pub mod TableProp
 pub use Rattle.rowan_green.specs.Term

@@ -4,6 +4,7 @@ mod fill;
 mod rows;
 #[cfg(test)]
 mod tests;
+mod tokens;
 
 ghost use Rattle.std.specs.Prelude.{◌≡◌, ◌<◌, IfOk, IfErr, IfSome, length, reverse};
 ghost use Rattle.std.specs.Option.{option_map};
