@@ -2,6 +2,8 @@
 
 mod fill;
 mod rows;
+#[cfg(test)]
+mod tests;
 mod tokens;
 
 ghost use Rattle.std.specs.Prelude.{◌≡◌, ◌<◌, IfOk, IfErr, IfSome, length, reverse};
