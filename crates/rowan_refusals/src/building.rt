@@ -1,36 +1,10 @@
 //! Trees that are built by calls.
 
+use crate::calls::Call::{self, Finish, Mark, Start, StartAtMark, Token};
 use crate::shape::Shape;
 use crate::transcript::{Phase, Stop, Transcript};
 use rowan::builder::CacheHome;
-use rowan::{Checkpoint, Fault, GreenNode, GreenNodeBuilder, NodeCache, SyntaxKind};
-use std::fmt::{self, Display};
-
-/// A call of a builder.
-#[derive(Clone, Copy)]
-enum Call {
-    Token(u16, &'static str),
-    Start(u16),
-    Finish,
-    /// Takes a checkpoint.
-    Mark,
-    /// Opens a node at a checkpoint that was taken.
-    StartAtMark(usize, u16),
-}
-
-use Call::{Finish, Mark, Start, StartAtMark, Token};
-
-impl Display for Call {
-    fn fmt<W: fmt::Write>(&self, f: &mut fmt::Formatter<W>) -> fmt::Result {
-        match self {
-            Token(kind, text) => write!(f, "token {kind} {text:?}"),
-            Start(kind) => write!(f, "start_node {kind}"),
-            Finish => f.write_str("finish_node"),
-            Mark => f.write_str("checkpoint"),
-            StartAtMark(mark, kind) => write!(f, "start_node_at {mark} {kind}"),
-        }
-    }
-}
+use rowan::{Fault, GreenNode, GreenNodeBuilder, NodeCache};
 
 const WHITESPACE: u16 = 0;
 
@@ -72,25 +46,6 @@ const MATH: [Call; 23] = [
     Finish,
     Finish,
 ];
-
-impl Call {
-    fn make<H: CacheHome>(
-        self,
-        builder: &mut GreenNodeBuilder<'_, H>,
-        marks: &mut Vec<Checkpoint>,
-    ) -> Result<(), Fault> {
-        match self {
-            Token(kind, text) => builder.token(SyntaxKind(kind), text),
-            Start(kind) => builder.start_node(SyntaxKind(kind)),
-            Finish => builder.finish_node(),
-            Mark => Ok(marks.push(builder.checkpoint())?),
-            StartAtMark(mark, kind) => match marks.get(mark) {
-                Some(mark) => builder.start_node_at(*mark, SyntaxKind(kind)),
-                None => Err(Fault::UnknownMark),
-            },
-        }
-    }
-}
 
 /// Makes the calls, one after the other.
 fn make_all<H: CacheHome>(

@@ -6,6 +6,7 @@
 #![tactic(auto)]
 
 mod building;
+mod calls;
 mod edits;
 mod parsing;
 mod searches;

@@ -1,23 +1,19 @@
 //! Searches among the children of a green node.
 
+use crate::calls::Call::{self, Finish, Start, Token};
+use crate::calls::tree_of;
 use crate::transcript::{Phase, Stop, Transcript};
-use rowan::{Fault, GreenNode, GreenNodeBuilder, Steps, SyntaxKind, TextRange, TextSize};
-use std::alloc::Global;
+use rowan::{GreenNode, Steps, TextRange, TextSize};
 
 /// A node over `ab`, a node without children, and `cd`.
-fn around_empty(alloc: Global) -> Result<GreenNode, Fault> {
-    let mut builder = GreenNodeBuilder::new(alloc);
-    builder.start_node(SyntaxKind(7))?;
-    builder.token(SyntaxKind(2), "ab")?;
-    builder.start_node(SyntaxKind(5))?;
-    builder.finish_node()?;
-    builder.token(SyntaxKind(2), "cd")?;
-    builder.finish_node()?;
-    match builder.finish() {
-        Ok(tree) => Ok(tree),
-        Err(unfinished) => Err(unfinished.fault()),
-    }
-}
+const AROUND_EMPTY: [Call; 6] = [
+    Start(7),
+    Token(2, "ab"),
+    Start(5),
+    Finish,
+    Token(2, "cd"),
+    Finish,
+];
 
 /// The index of the child at a range.
 fn index_at(node: &GreenNode, range: TextRange) -> Option<usize> {
@@ -30,7 +26,7 @@ fn index_at(node: &GreenNode, range: TextRange) -> Option<usize> {
 
 pub fn searches_at_empty_ranges(log: &Transcript<'_>) -> Result<(), Stop> {
     let alloc = log.alloc();
-    let node = log.ask("a tree", || around_empty(alloc))?;
+    let node = log.ask("a tree", || tree_of(alloc, AROUND_EMPTY.as_slice()))?;
     log.phase(Phase::Moving)?;
     for child in node.children() {
         let child = child.map_err(Stop::Refused)?;
