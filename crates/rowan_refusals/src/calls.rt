@@ -1,0 +1,68 @@
+//! Calls of a builder, as values.
+
+use rowan::builder::CacheHome;
+use rowan::{Checkpoint, Fault, GreenNode, GreenNodeBuilder, SyntaxKind};
+use std::alloc::Global;
+use std::fmt::{self, Display};
+
+/// A call of a builder.
+#[derive(Clone, Copy)]
+pub enum Call {
+    /// Adds a token of a kind and a text.
+    Token(u16, &'static str),
+    /// Opens a node of a kind.
+    Start(u16),
+    /// Closes the innermost open node.
+    Finish,
+    /// Takes a checkpoint.
+    Mark,
+    /// Opens a node at a checkpoint that was taken.
+    StartAtMark(usize, u16),
+}
+
+use Call::{Finish, Mark, Start, StartAtMark, Token};
+
+impl Display for Call {
+    fn fmt<W: fmt::Write>(&self, f: &mut fmt::Formatter<W>) -> fmt::Result {
+        match self {
+            Token(kind, text) => write!(f, "token {kind} {text:?}"),
+            Start(kind) => write!(f, "start_node {kind}"),
+            Finish => f.write_str("finish_node"),
+            Mark => f.write_str("checkpoint"),
+            StartAtMark(mark, kind) => write!(f, "start_node_at {mark} {kind}"),
+        }
+    }
+}
+
+impl Call {
+    /// Makes the call.
+    pub fn make<H: CacheHome>(
+        self,
+        builder: &mut GreenNodeBuilder<'_, H>,
+        marks: &mut Vec<Checkpoint>,
+    ) -> Result<(), Fault> {
+        match self {
+            Token(kind, text) => builder.token(SyntaxKind(kind), text),
+            Start(kind) => builder.start_node(SyntaxKind(kind)),
+            Finish => builder.finish_node(),
+            Mark => Ok(marks.push(builder.checkpoint())?),
+            StartAtMark(mark, kind) => match marks.get(mark) {
+                Some(mark) => builder.start_node_at(*mark, SyntaxKind(kind)),
+                None => Err(Fault::UnknownMark),
+            },
+        }
+    }
+}
+
+/// The tree that the calls build.
+pub fn tree_of(alloc: Global, calls: &[Call]) -> Result<GreenNode, Fault> {
+    let mut builder = GreenNodeBuilder::new(alloc);
+    let mut marks = Vec::new(alloc);
+    for call in calls {
+        call.make(&mut builder, &mut marks)?;
+    }
+    match builder.finish() {
+        Ok(tree) => Ok(tree),
+        Err(unfinished) => Err(unfinished.fault()),
+    }
+}
