@@ -1,6 +1,7 @@
 //! Measures what the library does with large trees. Without arguments it prints how it is called.
 #![tactic(auto)]
 
+mod cursors;
 mod depth;
 mod timed;
 
@@ -17,6 +18,7 @@ usage: rowan_bench depth parse|compare|show LEVELS
        rowan_bench build TOKENS
        rowan_bench parse
        rowan_bench intern tokens|nodes COUNT
+       rowan_bench cursors fill|whole|walk|move TURNS
 
 depth   parses that many lists, one in the other, and then
           parse    drops the tree
@@ -25,7 +27,12 @@ depth   parses that many lists, one in the other, and then
         The status is 0 if it ends; a stack that is too small ends the process by a signal.
 build   builds a tree of that many tokens, with a new cache and once more with the same cache
 parse   parses the s-expressions of standard input, with a new cache and once more with the same cache
-intern  makes that many tokens, or nodes of two tokens, no two equal, and keeps them in a cache";
+intern  makes that many tokens, or nodes of two tokens, no two equal, and keeps them in a cache
+cursors parses the s-expressions of standard input, and then in each turn
+          fill     makes a cursor at the root
+          whole    makes one, walks through the tree, and drops it
+          walk     walks through the tree from a cursor that is there
+          move     makes 1,000,000 moves from it, drawn from five";
 
 fn main(rt: HostRuntime) -> ExitCode {
     match run(&rt) {
@@ -49,6 +56,7 @@ fn run(rt: &HostRuntime) -> Result<()> {
         "build" => build(rt, number_at(words, 1)?),
         "parse" => parse(rt),
         "intern" => intern(rt, words),
+        "cursors" => move_cursors(rt, words),
         _ => bail!("there is no such command"),
     }
 }
@@ -104,6 +112,26 @@ fn intern(rt: &HostRuntime, words: &[String]) -> Result<()> {
         _ => bail!("tokens or nodes is missing"),
     }
     tell(rt, "new", start, &cache, TextSize::from(0))
+}
+
+fn move_cursors(rt: &HostRuntime, words: &[String]) -> Result<()> {
+    let word = words.get(1).map(|word| word.as_str());
+    let operation = word
+        .and_then(cursors::Operation::from_word)
+        .context("fill, whole, walk or move is missing")?;
+    let turns = number_at(words, 2)?;
+    let text = io::read_to_string(rt.alloc(), rt.reader())?;
+    let parsed = sexp::parse(rt.alloc(), text.as_str())?;
+    let (total, visited) = cursors::time(rt, parsed.green(), operation, turns)?;
+    let nanos = total.as_nanos();
+    match visited {
+        Some(visited) => println!(rt;
+            "{nanos} ns, {} places, {} starts",
+            visited.places, visited.starts
+        )?,
+        None => println!(rt; "{nanos} ns")?,
+    }
+    Ok(())
 }
 
 /// Prints what was done, and since when.
