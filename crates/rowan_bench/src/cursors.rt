@@ -1,5 +1,6 @@
 //! Trees as tables: filling one, a walk through all of it, and random moves.
 
+use crate::draws::Draws;
 use anyhow::Result;
 use rowan::cursor::{ElementCalls, SyntaxElement, SyntaxNode};
 use rowan::{Fault, GreenNode, NodeOrToken};
@@ -69,7 +70,7 @@ enum Move {
 
 impl Move {
     /// The move of a draw below 5.
-    fn from_draw(draw: u32) -> Move {
+    fn from_draw(draw: usize) -> Move {
         match draw {
             0 => Move::Parent,
             1 => Move::FirstChild,
@@ -92,13 +93,12 @@ impl Move {
     }
 }
 
-/// The moves of a turn, each drawn from the number before: the generator of the C standard's example.
+/// The moves of a turn.
 fn drawn_moves(alloc: Global) -> Result<Vec<Move>, AllocError> {
+    let mut draws = Draws::new();
     let mut moves = Vec::with_capacity(alloc, MOVES)?;
-    let mut last = 1;
     for _ in 0..MOVES {
-        last = (last * 1_103_515_245 + 12_345) % 2_147_483_648u64;
-        moves.push(Move::from_draw((last / 65_536 % 5) as u32))?;
+        moves.push(Move::from_draw(draws.below(5)))?;
     }
     Ok(moves)
 }
