@@ -2,6 +2,7 @@
 #![tactic(auto)]
 
 mod children;
+mod cursors;
 mod depth;
 mod draws;
 mod timed;
@@ -22,6 +23,7 @@ usage: rowan_bench depth parse|compare|show LEVELS
        rowan_bench intern tokens|nodes COUNT
        rowan_bench search shared|own CHILDREN TIMES
        rowan_bench edit shared|own CHILDREN TIMES
+       rowan_bench cursors fill|whole|walk|move TURNS
 
 depth   parses that many lists, one in the other, and then
           parse    drops the tree
@@ -35,7 +37,12 @@ search  searches the child at so many ranges in a node over that many tokens, wh
           shared   equal tokens are one, as a cache makes them
           own      each token has memory of its own
 edit    makes each edit of such a node so often, and copies its list of children as often;
-        what was made is dropped within the time";
+        what was made is dropped within the time
+cursors parses the s-expressions of standard input, and then in each turn
+          fill     makes a cursor at the root
+          whole    makes one, walks through the tree, and drops it
+          walk     walks through the tree from a cursor that is there
+          move     makes 1,000,000 moves from it, drawn from five";
 
 fn main(rt: HostRuntime) -> ExitCode {
     match run(&rt) {
@@ -61,6 +68,7 @@ fn run(rt: &HostRuntime) -> Result<()> {
         "intern" => intern(rt, words),
         "search" => search(rt, words),
         "edit" => edit(rt, words),
+        "cursors" => move_cursors(rt, words),
         _ => bail!("there is no such command"),
     }
 }
@@ -152,6 +160,23 @@ fn edit(rt: &HostRuntime, words: &[String]) -> Result<()> {
     let start = Instant::now(rt)?;
     children::copy_often(&tokens, times)?;
     println!(rt; "copy {} ns", start.elapsed(rt)?.as_nanos())?;
+    Ok(())
+}
+
+fn move_cursors(rt: &HostRuntime, words: &[String]) -> Result<()> {
+    let word = words.get(1).map(|word| word.as_str());
+    let operation = word
+        .and_then(cursors::Operation::from_word)
+        .context("fill, whole, walk or move is missing")?;
+    let turns = number_at(words, 2)?;
+    let text = io::read_to_string(rt.alloc(), rt.reader())?;
+    let parsed = sexp::parse(rt.alloc(), text.as_str())?;
+    let (total, visited) = cursors::time(rt, parsed.green(), operation, turns)?;
+    let nanos = total.as_nanos();
+    match visited {
+        Some(it) => println!(rt; "{nanos} ns, {} places, {} starts", it.places, it.starts)?,
+        None => println!(rt; "{nanos} ns")?,
+    }
     Ok(())
 }
 

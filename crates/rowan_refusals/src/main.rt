@@ -8,6 +8,7 @@
 mod building;
 mod calls;
 mod edits;
+mod moves;
 mod parsing;
 mod searches;
 mod shape;
@@ -42,6 +43,13 @@ fn run_cases(log: &Transcript<'_>) -> Result<(), Stop> {
         "searches_at_empty_ranges",
         searches::searches_at_empty_ranges,
     )?;
+    log.case(
+        "tokens_beside_empty_nodes",
+        moves::tokens_beside_empty_nodes,
+    )?;
+    log.case("siblings_among_tokens", moves::siblings_among_tokens)?;
+    log.case("equal_empty_twins", moves::equal_empty_twins)?;
+    log.case("cloned_subtree", moves::cloned_subtree)?;
     log.case("sum_of_product", parsing::sum_of_product)?;
     log.case(
         "stray_and_missing_parens",

@@ -1,0 +1,155 @@
+//! Moves of cursors, and their iterators.
+
+use crate::calls::Call::{self, Finish, Start, Token};
+use crate::calls::tree_of;
+use crate::transcript::{Phase, Stop, Transcript};
+use rowan::cursor::SyntaxNode;
+use rowan::{Direction, Fault};
+use rowan_tool::sexp::parse;
+use std::hash::{DefaultHasher, Hash, Hasher};
+
+const WORD: u16 = 2;
+
+const WHITESPACE: u16 = 3;
+
+const LIST: u16 = 5;
+
+const ATOM: u16 = 6;
+
+const ROOT: u16 = 7;
+
+/// A cursor at the root of the tree that the calls build.
+fn root_of(log: &Transcript<'_>, calls: &[Call]) -> Result<SyntaxNode, Stop> {
+    let alloc = log.alloc();
+    let tree = log.ask("a tree", || tree_of(alloc, calls))?;
+    log.ask("new_root", || SyntaxNode::new_root(alloc, tree.clone()?))
+}
+
+/// What a move has to find.
+fn found<T>(answer: Result<Option<T>, Fault>) -> Result<T, Stop> {
+    match answer {
+        Ok(Some(place)) => Ok(place),
+        Ok(None) => Err(Stop::Refused(Fault::NotFound)),
+        Err(fault) => Err(Stop::Refused(fault)),
+    }
+}
+
+/// A list without children before a token.
+const LIST_FIRST: [Call; 5] = [Start(ROOT), Start(LIST), Finish, Token(WORD, "a"), Finish];
+
+/// A list without children between two tokens.
+const LIST_BETWEEN: [Call; 6] = [
+    Start(ROOT),
+    Token(WORD, "a"),
+    Start(LIST),
+    Finish,
+    Token(WORD, "b"),
+    Finish,
+];
+
+pub fn tokens_beside_empty_nodes(log: &Transcript<'_>) -> Result<(), Stop> {
+    let first = root_of(log, LIST_FIRST.as_slice())?;
+    let between = root_of(log, LIST_BETWEEN.as_slice())?;
+    log.phase(Phase::Moving)?;
+    log.tell("first_token", &first.first_token())?;
+    log.tell("last_token", &first.last_token())?;
+    let a = found(between.first_token())?;
+    log.tell("next_token", &a.next_token())?;
+    log.tell("prev_token", &a.prev_token())?;
+    let b = found(between.last_token())?;
+    log.tell("next_token", &b.next_token())?;
+    log.tell("prev_token", &b.prev_token())?;
+    log.phase(Phase::Dropping)
+}
+
+/// A token, a list, a blank and an atom.
+const AMONG_TOKENS: [Call; 10] = [
+    Start(ROOT),
+    Token(WORD, "a"),
+    Start(LIST),
+    Token(WORD, "b"),
+    Finish,
+    Token(WHITESPACE, " "),
+    Start(ATOM),
+    Token(WORD, "c"),
+    Finish,
+    Finish,
+];
+
+pub fn siblings_among_tokens(log: &Transcript<'_>) -> Result<(), Stop> {
+    let root = root_of(log, AMONG_TOKENS.as_slice())?;
+    log.phase(Phase::Moving)?;
+    for child in root.children_with_tokens() {
+        log.tell("child", &child)?;
+    }
+    let list = found(root.first_child())?;
+    let atom = found(list.next_sibling())?;
+    log.tell("next_sibling", &atom)?;
+    log.tell("index", &atom.index())?;
+    log.tell("prev_sibling_or_token", &atom.prev_sibling_or_token())?;
+    for sibling in atom.siblings(Direction::Prev) {
+        log.tell("sibling", &sibling)?;
+    }
+    let a = found(root.first_token())?;
+    for sibling in a.siblings_with_tokens(Direction::Next) {
+        log.tell("sibling_with_tokens", &sibling)?;
+    }
+    for ancestor in found(list.first_token())?.ancestors() {
+        log.tell("ancestor", &ancestor)?;
+    }
+    log.phase(Phase::Dropping)
+}
+
+/// A token and two lists without children.
+const TWINS: [Call; 7] = [
+    Start(ROOT),
+    Token(WORD, "a"),
+    Start(LIST),
+    Finish,
+    Start(LIST),
+    Finish,
+    Finish,
+];
+
+fn hash_of(node: &SyntaxNode) -> u64 {
+    let mut hasher = DefaultHasher::new();
+    node.hash(&mut hasher);
+    hasher.finish()
+}
+
+pub fn equal_empty_twins(log: &Transcript<'_>) -> Result<(), Stop> {
+    let root = root_of(log, TWINS.as_slice())?;
+    log.phase(Phase::Moving)?;
+    let first = found(root.first_child())?;
+    let second = found(root.last_child())?;
+    log.tell("indexes", &(first.index(), second.index()))?;
+    log.tell("equal", &(first == second))?;
+    log.tell("hashed equally", &(hash_of(&first) == hash_of(&second)))?;
+    for child in root.children() {
+        log.tell("child", &child)?;
+    }
+    log.phase(Phase::Dropping)
+}
+
+pub fn cloned_subtree(log: &Transcript<'_>) -> Result<(), Stop> {
+    let alloc = log.alloc();
+    let parsed = log.ask("parse", || parse(alloc, "(+ (* 15 2) 62)"))?;
+    let green = parsed.green();
+    let root = log.ask("new_root", || SyntaxNode::new_root(alloc, green.clone()?))?;
+    log.phase(Phase::Moving)?;
+    let outer = found(root.first_child())?;
+    let inner = found(found(outer.first_child())?.next_sibling())?;
+    log.tell("inner list", &inner)?;
+    log.phase(Phase::Making)?;
+    let first = log.ask("clone_subtree", || inner.clone_subtree(alloc))?;
+    let second = log.ask("clone_subtree", || inner.clone_subtree(alloc))?;
+    log.phase(Phase::Moving)?;
+    log.tell("clone", &first)?;
+    log.tell("index", &first.index())?;
+    log.tell("parent", &first.parent())?;
+    log.tell("equal to the list", &(first == inner))?;
+    log.tell("equal to the other clone", &(first == second))?;
+    log.tell("first_child", &first.first_child())?;
+    log.tell("as before", &inner)?;
+    log.phase(Phase::Dropping)
+}
