@@ -1,17 +1,14 @@
 -- A search by halves among the children of a node: what it has narrowed the range's child to, and how many steps are left.
-use Rattle.std.proofs.Common.{◌≡◌, ℕ, zero, suc, ◌+◌, ◌-◌, ◌/◌, ◌^◌, ◌<◌, ◌≤◌, List, [], ◌∷◌, map, length, get_or, Some, refl, sym, ap, subst, arith, add-one, inl, inr}
+use Rattle.std.proofs.Common.{◌≡◌, ℕ, zero, suc, ◌+◌, ◌-◌, ◌/◌, ◌^◌, ◌<◌, ◌≤◌, List, [], ◌∷◌, map, length, get_or, refl, sym, subst, arith, add-one, inl, inr}
 use Rattle.std.proofs.lemmas.Bool.{cases_lt, cases_order}
 use Rattle.std.proofs.Math.Nat.{lt_of_not-le}
-use Rattle.std.proofs.lemmas.List.{length-map}
 use Rattle.std.proofs.lemmas.Int.Digits.{length-digits_of-le, length-digits_of_step, number_lt, number_digits_of, all_below_base_digits_of}
 use Rattle.std.proofs.Math.Pow.{pow_mono}
 use Rattle.std.specs.Int.Digits.{digits_of}
-use Rattle.std.specs.Prelude.{slice_get}
 use Rattle.rowan_green.specs.declared.green.node.GreenChild.{GreenChild}
-use Rattle.rowan_green.specs.Fits.{byte_limit, AreWithin}
 use Rattle.rowan_green.specs.View.{child_term, HasOffsetsFrom}
 use Rattle.rowan_green.proofs.ChildList.{child-at}
-use Rattle.rowan_green.specs.Term.{Term, sum_of_lens, term_len}
+use Rattle.rowan_green.specs.Term.{Term, sum_of_lens}
 use Rattle.rowan_green.specs.Steps.{count_limit, one_more}
 use Rattle.rowan_green.specs.Search.{child_start, child_end, HasRange, IsChildAt, has_bytes, has_place, ends_there, begins_there, IsOnlyChoice, digits}
 
@@ -25,14 +22,6 @@ pub child_start-le_all : (ts : List Term) (i : ℕ) → child_start ts i ≤ sum
 child_start-le_all ts zero = omega arith
 child_start-le_all [] (suc i) = omega arith
 child_start-le_all (t ∷ ts) (suc i) = omega (arith, child_start-le_all ts i)
-
-after-child : (ts : List Term) (k : ℕ) (t : Term) → slice_get ts k ≡ Some t → child_start ts (suc k) ≡ child_start ts k + term_len t
-after-child [] k t e = absurd cc
-after-child (u ∷ ts) zero t e = let same : u ≡ t = cc in omega (arith, ap term_len same)
-after-child (u ∷ ts) (suc k) t e = omega (arith, after-child ts k t e)
-
-pub child_end-is : (ts : List Term) (k : ℕ) (t : Term) → slice_get ts k ≡ Some t → child_end ts k ≡ child_start ts k + term_len t
-child_end-is ts k t e = rw add-one (after-child ts k t e)
 
 -- what is true of the child at a range, whichever it is
 pub record Bounds (ts : List Term) (a b k : ℕ) : Type 0 where
@@ -245,26 +234,13 @@ child-at-place ts x some h =
           )
     ]
 
--- a child in memory, at its place
-pub record IsPlaced (ts : List Term) (k : ℕ) (c : GreenChild) : Type 0 where
-  pub start : c.rel_offset ≡ child_start ts k
-  pub end : c.rel_offset + term_len (child_term c) ≡ child_end ts k
-  pub limit : child_end ts k ≤ byte_limit
-  pub term : slice_get ts k ≡ Some (child_term c)
+-- the last child ends where the text of all ends
+pub child_end-last : (ts : List Term) (k : ℕ) → k + 1 ≡ length ts → child_end ts k ≡ sum_of_lens ts
+child_end-last ts k e = omega (arith, child_start-whole ts, child_start-le ts (length ts) (k + 1) (omega arith), child_start-le_all ts (k + 1))
 
-pub placed : (cs : List GreenChild) (k : ℕ) (c : GreenChild) → HasOffsetsFrom 0 cs → AreWithin (map child_term cs) → c ≡ get_or cs k c → k < length cs → IsPlaced (map child_term cs) k c
-placed cs k c h w e l =
-    let at = child-at 0 cs k c h l e in
-    record {
-      start = omega (arith, at.offset);
-      end = omega (arith, at.offset, child_end-is (map child_term cs) k (child_term c) at.term);
-      limit = omega (arith, w.text, child_start-le_all (map child_term cs) (k + 1));
-      term = at.term;
-    }
-
--- a child that is left to be looked at, at its place
-pub left-placed : (cs : List GreenChild) (a b low high k : ℕ) (c : GreenChild) → HasOffsetsFrom 0 cs → AreWithin (map child_term cs) → IsNarrowed (map child_term cs) a b low high → c ≡ get_or cs k c → k < high → IsPlaced (map child_term cs) k c
-left-placed cs a b low high k c h w s e l = placed cs k c h w e (omega (arith, s.place, length-map cs child_term))
+-- a child in memory begins at its place
+pub offset-is : (cs : List GreenChild) (k : ℕ) (c : GreenChild) → HasOffsetsFrom 0 cs → c ≡ get_or cs k c → k < length cs → c.rel_offset ≡ child_start (map child_term cs) k
+offset-is cs k c h e l = omega (arith, (child-at 0 cs k c h l e).offset)
 
 -- binary digits
 pub digits-le : (n d : ℕ) → n < 2 ^ d → digits n ≤ d

@@ -235,10 +235,11 @@ impl GreenNode {
         ensures grows { steps.old.comparisons ≤ steps.new.comparisons }
         ensures visits { steps.new.visits ≡ steps.old.visits }
     {
+        let text_len = self.data.text_len;
         let children = self.data.children.as_slice();
-        let index = GreenChild::search(children, range, steps);
+        let index = GreenChild::search(children, text_len, range, steps);
         let child = children.get(index)?;
-        if !child.rel_range().contains_range(range) {
+        if !GreenChild::rel_range(children, text_len, index).contains_range(range) {
             return None;
         }
         Some((index, child.rel_offset, child.element.as_ref()))

@@ -1,17 +1,16 @@
 use Rattle.std.proofs.Common.{◌≤◌, map, length, Some, sym, ap, ◌∙◌, subst, arith}
 use Rattle.std.proofs.lemmas.List.{length-map}
 use Rattle.std.specs.Prelude.{slice_get}
-use Rattle.rowan_green.specs.Fits.{AreWithin}
 use Rattle.rowan_green.specs.Search.{HasRange, IsOnlyChoice, IsChildAt, child_start, digits}
 use Rattle.rowan_green.specs.View.{child_term, HasOffsetsFrom}
-use Rattle.rowan_green.proofs.ChildList.{children-view}
-use Rattle.rowan_green.proofs.SearchLemmas.{placed, bounds}
+use Rattle.rowan_green.proofs.ChildList.{children-view, child-at}
+use Rattle.rowan_green.proofs.SearchLemmas.{bounds}
 use Rattle.rowan_green.proofs.green.node.GreenNode.child_at_range.Goals as goal
 
 pub returns-in_err-child-clause-none : goal.returns-in_err-child-clause-none
 returns-in_err-child-clause-none c =
     let cs = c.as_slice-children.result.now in
-    let items = c.as_slice-children.ensures.value ∙ ap (λ d. d.children.items) c.deref.ensures in
+    let items = c.as_slice-children.ensures.value ∙ ap (λ d. d.children.items) c.deref-2.ensures in
     let terms = ap (map child_term) items ∙ children-view c.self.inside.data.value c.args.self.now c.self.view_is in
     let choice = subst (λ ts. c.args.range.start ≤ c.args.range.end → IsOnlyChoice ts c.args.range.start c.args.range.end c.search-index.result) terms c.search-index.ensures.choice in
     λ none k p.
@@ -21,40 +20,26 @@ returns-in_err-child-clause-none c =
 pub returns-in_err-child-clause-most : goal.returns-in_err-child-clause-most
 returns-in_err-child-clause-most c =
     let cs = c.as_slice-children.result.now in
-    let items = c.as_slice-children.ensures.value ∙ ap (λ d. d.children.items) c.deref.ensures in
+    let items = c.as_slice-children.ensures.value ∙ ap (λ d. d.children.items) c.deref-2.ensures in
     let terms = ap (map child_term) items ∙ children-view c.self.inside.data.value c.args.self.now c.self.view_is in
     let count = sym (length-map cs child_term) ∙ ap length terms in
     omega (arith, c.search-index.ensures.most, ap digits count)
 
-pub rel_range-requires : goal.rel_range-requires
-rel_range-requires c =
-    let cs = c.as_slice-children.result.now in
-    let items = c.as_slice-children.ensures.value ∙ ap (λ d. d.children.items) c.deref.ensures in
-    let look = c.in_ok-child.ensures.lookup in
-    let offsets : HasOffsetsFrom 0 cs = subst (λ xs. HasOffsetsFrom 0 xs) (sym items) c.self.invariant.offsets in
-    let within : AreWithin (map child_term cs) = subst (λ xs. AreWithin (map child_term xs)) (sym items) c.self.invariant.within in
-    let p = placed cs c.search-index.result c.in_ok-child.child.now offsets within look.1 look.3.0 in
-    omega (arith, p.end, p.limit)
-
 pub returns-then-not-contains_range-clause-none : goal.returns-then-not-contains_range-clause-none
 returns-then-not-contains_range-clause-none c =
     let cs = c.as_slice-children.result.now in
-    let items = c.as_slice-children.ensures.value ∙ ap (λ d. d.children.items) c.deref.ensures in
-    let look = c.in_ok-child.ensures.lookup in
-    let offsets : HasOffsetsFrom 0 cs = subst (λ xs. HasOffsetsFrom 0 xs) (sym items) c.self.invariant.offsets in
-    let within : AreWithin (map child_term cs) = subst (λ xs. AreWithin (map child_term xs)) (sym items) c.self.invariant.within in
-    let p = placed cs c.search-index.result c.in_ok-child.child.now offsets within look.1 look.3.0 in
+    let items = c.as_slice-children.ensures.value ∙ ap (λ d. d.children.items) c.deref-2.ensures in
     let terms = ap (map child_term) items ∙ children-view c.self.inside.data.value c.args.self.now c.self.view_is in
     λ none k q.
     let r : IsChildAt (map child_term cs) c.args.range.start c.args.range.end k = subst (λ ts. IsChildAt ts c.args.range.start c.args.range.end k) (sym terms) q in
     let at = ((c.search-index.ensures.choice c.contains_range.ensures.order).only k r).1 in
-    let yes = c.contains_range.ensures.contains.1 (omega (arith, at.from, p.start, c.rel_range.ensures.start), omega (arith, at.to, p.end, c.rel_range.ensures.end)) in
+    let yes = c.contains_range.ensures.contains.1 (omega (arith, at.from, c.rel_range.ensures.start), omega (arith, at.to, c.rel_range.ensures.end)) in
     absurd (cc (yes, c.if-not-contains_range.true))
 
 pub returns-then-not-contains_range-clause-most : goal.returns-then-not-contains_range-clause-most
 returns-then-not-contains_range-clause-most c =
     let cs = c.as_slice-children.result.now in
-    let items = c.as_slice-children.ensures.value ∙ ap (λ d. d.children.items) c.deref.ensures in
+    let items = c.as_slice-children.ensures.value ∙ ap (λ d. d.children.items) c.deref-2.ensures in
     let terms = ap (map child_term) items ∙ children-view c.self.inside.data.value c.args.self.now c.self.view_is in
     let count = sym (length-map cs child_term) ∙ ap length terms in
     omega (arith, c.search-index.ensures.most, ap digits count)
@@ -62,28 +47,27 @@ returns-then-not-contains_range-clause-most c =
 pub returns-clause-some : goal.returns-clause-some
 returns-clause-some c =
     let cs = c.as_slice-children.result.now in
-    let items = c.as_slice-children.ensures.value ∙ ap (λ d. d.children.items) c.deref.ensures in
+    let items = c.as_slice-children.ensures.value ∙ ap (λ d. d.children.items) c.deref-2.ensures in
     let look = c.in_ok-child.ensures.lookup in
     let offsets : HasOffsetsFrom 0 cs = subst (λ xs. HasOffsetsFrom 0 xs) (sym items) c.self.invariant.offsets in
-    let within : AreWithin (map child_term cs) = subst (λ xs. AreWithin (map child_term xs)) (sym items) c.self.invariant.within in
-    let p = placed cs c.search-index.result c.in_ok-child.child.now offsets within look.1 look.3.0 in
+    let at = child-at 0 cs c.search-index.result c.in_ok-child.child.now offsets look.3.0 look.1 in
     let terms = ap (map child_term) items ∙ children-view c.self.inside.data.value c.args.self.now c.self.view_is in
     let has = c.contains_range.ensures.contains.0 c.if-not-contains_range.false in
     let in_range : HasRange (map child_term cs) c.args.range.start c.args.range.end c.search-index.result = record {
       place = omega (arith, look.3.0, length-map cs child_term);
-      from = omega (arith, has.0, p.start, c.rel_range.ensures.start);
-      to = omega (arith, has.1, p.end, c.rel_range.ensures.end);
+      from = omega (arith, has.0, c.rel_range.ensures.start);
+      to = omega (arith, has.1, c.rel_range.ensures.end);
     } in
-    let at = (c.search-index.ensures.choice c.contains_range.ensures.order).is in_range in (
-      subst (λ ts. IsChildAt ts c.args.range.start c.args.range.end c.search-index.result) terms at,
-      p.start ∙ ap (λ ts. child_start ts c.search-index.result) terms,
-      sym (ap (λ ts. slice_get ts c.search-index.result) terms) ∙ p.term ∙ ap (λ t. Some t) (sym c.as_ref.ensures),
+    let is = (c.search-index.ensures.choice c.contains_range.ensures.order).is in_range in (
+      subst (λ ts. IsChildAt ts c.args.range.start c.args.range.end c.search-index.result) terms is,
+      omega (arith, at.offset) ∙ ap (λ ts. child_start ts c.search-index.result) terms,
+      sym (ap (λ ts. slice_get ts c.search-index.result) terms) ∙ at.term ∙ ap (λ t. Some t) (sym c.as_ref.ensures),
     )
 
 pub returns-clause-most : goal.returns-clause-most
 returns-clause-most c =
     let cs = c.as_slice-children.result.now in
-    let items = c.as_slice-children.ensures.value ∙ ap (λ d. d.children.items) c.deref.ensures in
+    let items = c.as_slice-children.ensures.value ∙ ap (λ d. d.children.items) c.deref-2.ensures in
     let terms = ap (map child_term) items ∙ children-view c.self.inside.data.value c.args.self.now c.self.view_is in
     let count = sym (length-map cs child_term) ∙ ap length terms in
     omega (arith, c.search-index.ensures.most, ap digits count)
