@@ -4,6 +4,7 @@ use crate::calls::Call::{self, Finish, Start, Token};
 use crate::calls::tree_of;
 use crate::transcript::{Phase, Stop, Transcript};
 use rowan::cursor::SyntaxNode;
+use rowan::script::element_at;
 use rowan::{Direction, Fault};
 use rowan_tool::sexp::parse;
 use std::hash::{DefaultHasher, Hash, Hasher};
@@ -76,6 +77,9 @@ const AMONG_TOKENS: [Call; 10] = [
     Finish,
 ];
 
+/// Places of the atom's token, of the root, and of nothing.
+const PLACES: [&[usize]; 4] = [&[3, 0], &[], &[4], &[0, 0]];
+
 pub fn siblings_among_tokens(log: &Transcript<'_>) -> Result<(), Stop> {
     let root = root_of(log, AMONG_TOKENS.as_slice())?;
     log.phase(Phase::Moving)?;
@@ -96,6 +100,9 @@ pub fn siblings_among_tokens(log: &Transcript<'_>) -> Result<(), Stop> {
     }
     for ancestor in found(list.first_token())?.ancestors() {
         log.tell("ancestor", &ancestor)?;
+    }
+    for places in PLACES {
+        log.tell("element_at", &element_at(&root, places))?;
     }
     log.phase(Phase::Dropping)
 }
@@ -141,8 +148,8 @@ pub fn cloned_subtree(log: &Transcript<'_>) -> Result<(), Stop> {
     let inner = found(found(outer.first_child())?.next_sibling())?;
     log.tell("inner list", &inner)?;
     log.phase(Phase::Making)?;
-    let first = log.ask("clone_subtree", || inner.clone_subtree(alloc))?;
-    let second = log.ask("clone_subtree", || inner.clone_subtree(alloc))?;
+    let first = log.ask("clone_subtree", || inner.clone_subtree())?;
+    let second = log.ask("clone_subtree", || inner.clone_subtree())?;
     log.phase(Phase::Moving)?;
     log.tell("clone", &first)?;
     log.tell("index", &first.index())?;

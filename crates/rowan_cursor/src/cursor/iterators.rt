@@ -10,7 +10,6 @@ use crate::cursor::{SyntaxElement, SyntaxNode};
 use rowan_green::fault::Fault;
 use std::alloc::AllocError;
 use std::fmt;
-use std::iter::FusedIterator;
 use std::marker::Model;
 
 /// The children of a node that are nodes, from the first on.
@@ -55,8 +54,6 @@ impl Iterator for SyntaxNodeChildren {
         rows::next_node(&mut self.row)
     }
 }
-
-impl FusedIterator for SyntaxNodeChildren {}
 
 impl Clone for SyntaxNodeChildren {
     ghost is_clone = { λ left copy. copy ≡ left };
@@ -116,8 +113,6 @@ impl Iterator for SyntaxElementChildren {
     }
 }
 
-impl FusedIterator for SyntaxElementChildren {}
-
 impl Clone for SyntaxElementChildren {
     ghost is_clone = { λ left copy. copy ≡ left };
 
@@ -175,8 +170,6 @@ impl Iterator for Siblings {
         rows::next_node(&mut self.row)
     }
 }
-
-impl FusedIterator for Siblings {}
 
 impl Clone for Siblings {
     ghost is_clone = { λ left copy. copy ≡ left };
@@ -236,8 +229,6 @@ impl Iterator for SiblingsWithTokens {
     }
 }
 
-impl FusedIterator for SiblingsWithTokens {}
-
 impl Clone for SiblingsWithTokens {
     ghost is_clone = { λ left copy. copy ≡ left };
 
@@ -296,8 +287,6 @@ impl Iterator for Ancestors {
         ancestors::next_ancestor(&mut self.climb)
     }
 }
-
-impl FusedIterator for Ancestors {}
 
 impl Clone for Ancestors {
     ghost is_clone = { λ left copy. copy ≡ left };
