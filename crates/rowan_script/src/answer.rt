@@ -2,8 +2,8 @@
 ghost use Rattle.std.specs.Prelude.{◌≢◌, ◌↔◌, IsTrue};
 ghost use Rattle.rowan_script.specs.declared.answer.Answer.TheVariants.{Unsupported};
 
-use crate::{operand, tree};
-use rowan::{Fault, GreenNode, NodeCache};
+use crate::tree;
+use rowan::{Fault, GreenElement, GreenNode, NodeCache, TextSize};
 use std::alloc::{AllocError, Global};
 
 /// The answer to one line.
@@ -18,6 +18,12 @@ pub enum Answer<'a> {
     Finished(GreenNode),
     /// How many tokens and how many nodes a cache keeps.
     Counts(usize, usize),
+    /// A child of a green node: its index, its offset from the node's start, and itself.
+    Child(usize, TextSize, GreenElement),
+    /// The green node that an edit made.
+    Green(GreenNode),
+    /// A step found nothing, or names what is not there.
+    Nowhere,
     /// A step before a tree is finished.
     NoTree,
     /// A building instruction after a tree is finished.
@@ -67,6 +73,17 @@ impl<'a> Answer<'a> {
                 Ok(text)
             }
             Answer::Counts(tokens, nodes) => format!(in alloc; "Counts {tokens} {nodes}"),
+            Answer::Child(index, offset, child) => {
+                let mut text = format!(in alloc; "Child {index} {offset:?} ")?;
+                tree::push_element(alloc, &mut text, child)?;
+                Ok(text)
+            }
+            Answer::Green(node) => {
+                let mut text = String::from_str(alloc, "Green ")?;
+                tree::push_node(alloc, &mut text, node)?;
+                Ok(text)
+            }
+            Answer::Nowhere => String::from_str(alloc, "Nowhere"),
             Answer::NoTree => String::from_str(alloc, "NoTree"),
             Answer::NoBuilder => String::from_str(alloc, "NoBuilder"),
             Answer::Unsupported => String::from_str(alloc, "Unsupported"),

@@ -3,6 +3,7 @@
 use crate::answer::{Answer, Answered};
 use crate::building::{Built, build};
 use crate::instruction::Instruction;
+use crate::place::Place;
 use crate::script::{CacheLine, Line, Script};
 use rowan::{Fault, GreenNode, GreenNodeBuilder, NodeCache};
 use rowan_tool::sexp;
@@ -78,8 +79,10 @@ fn answer_lines<'s>(
         Built::Parse(line, text, rest) => (parse(alloc, cache, line, text, answers)?, rest),
         Built::Open => return Ok(()),
     };
+    let mut place = tree.map(Place::Root);
     for line in rest {
-        answers.push(line.answered(step(tree.as_ref(), cache, &line.instruction)))?;
+        let answer = step(&mut place, cache, &line.instruction)?;
+        answers.push(line.answered(answer))?;
     }
     Ok(())
 }
@@ -103,14 +106,20 @@ fn parse<'s>(
     Ok(tree)
 }
 
-/// Answers an instruction behind the building part. There is no tree where a text was refused.
-fn step<'s>(tree: Option<&GreenNode>, cache: &NodeCache, instruction: &Instruction) -> Answer<'s> {
+/// Answers an instruction behind the building part. There is no place where a text was refused, and so no tree.
+fn step<'s>(
+    place: &mut Option<Place>,
+    cache: &NodeCache,
+    instruction: &Instruction,
+) -> Result<Answer<'s>, Fault> {
     match instruction {
-        Instruction::Counts => Answer::counts(cache),
-        Instruction::Call(_) | Instruction::Finish | Instruction::Parse(_) => Answer::NoBuilder,
-        Instruction::Step(_) => match tree {
-            Some(_) => Answer::Unsupported,
-            None => Answer::NoTree,
+        Instruction::Counts => Ok(Answer::counts(cache)),
+        Instruction::Call(_) | Instruction::Finish | Instruction::Parse(_) => {
+            Ok(Answer::NoBuilder)
+        }
+        Instruction::Step(step) => match place {
+            Some(place) => place.answer(step),
+            None => Ok(Answer::NoTree),
         },
     }
 }

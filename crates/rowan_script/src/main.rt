@@ -12,6 +12,7 @@ mod checkpoint;
 mod compare;
 mod instruction;
 mod operand;
+mod place;
 mod script;
 mod tree;
 

@@ -1,7 +1,7 @@
 //! The operands of instructions: words, numbers, kinds and texts.
 
 use anyhow::{Context, Result, bail, ensure};
-use rowan::SyntaxKind;
+use rowan::{SyntaxKind, TextRange, TextSize};
 use serde_json::Value;
 use std::alloc::{AllocError, Global};
 
@@ -14,6 +14,21 @@ pub fn pair(operands: &str) -> Result<(&str, &str)> {
 pub fn number(word: &str) -> Result<u32> {
     word.parse::<u32>()
         .context(format_args!("`{word}` is no number up to {}", u32::MAX))
+}
+
+/// Two numbers with two points between, in any order.
+pub fn bounds(word: &str) -> Result<(u32, u32)> {
+    let (start, end) = word
+        .split_once("..")
+        .context(format_args!("`{word}` is no range"))?;
+    Ok((number(start)?, number(end)?))
+}
+
+/// A range of text.
+pub fn range(word: &str) -> Result<TextRange> {
+    let (start, end) = bounds(word)?;
+    ensure!(start <= end, "`{word}` ends before it starts");
+    Ok(TextRange::new(TextSize::from(start), TextSize::from(end)))
 }
 
 /// A raw kind, a number up to 65535.

@@ -3,5 +3,5 @@
 mod parse;
 mod print;
 
-pub use parse::{node, token};
-pub use print::push_node;
+pub use parse::{element, list, node, token};
+pub use print::{push_element, push_node};

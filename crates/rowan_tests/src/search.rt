@@ -1,5 +1,5 @@
 //! The child at a range, and the steps of the search for it.
-use crate::fixture::{leaf, node};
+use crate::fixture::{leaf, node, word};
 use rowan::{Fault, GreenElement, GreenNode, Steps, TextRange, TextSize};
 use std::alloc::Global;
 use std::test::Fail;
@@ -38,7 +38,7 @@ const PLACES: [(u32, u32, Option<(usize, u32)>); 10] = [
 ];
 
 #[test]
-fn child_at_a_range_has_all_of_it(rt: HostRuntime) -> Result<(), Fail> {
+fn searches_at_empty_ranges(rt: HostRuntime) -> Result<(), Fail> {
     let alloc = rt.alloc();
     let mut children = Vec::new(alloc);
     children.push(leaf(alloc, 1, "ab")?)?;
@@ -79,11 +79,39 @@ fn nothing_is_compared_without_children(rt: HostRuntime) -> Result<(), Fail> {
     Ok(())
 }
 
+/// Nodes and tokens without bytes on both sides of a token `a`.
+fn around_a(alloc: Global) -> Result<GreenNode, Fault> {
+    let empty = || node(alloc, 5, Vec::new(alloc));
+    let mut inner = Vec::new(alloc);
+    inner.push(GreenElement::from(empty()?))?;
+    inner.push(leaf(alloc, 2, "")?)?;
+    let mut children = Vec::new(alloc);
+    children.push(GreenElement::from(empty()?))?;
+    children.push(GreenElement::from(node(alloc, 6, inner)?))?;
+    children.push(leaf(alloc, 2, "a")?)?;
+    children.push(GreenElement::from(word(alloc, 5, "")?))?;
+    children.push(leaf(alloc, 2, "")?)?;
+    children.push(GreenElement::from(node(alloc, 6, Vec::new(alloc))?))?;
+    node(alloc, 7, children)
+}
+
+#[test]
+fn many_empty_elements(rt: HostRuntime) -> Result<(), Fail> {
+    let root = around_a(rt.alloc())?;
+    let cases = [(0, 0, 1, 0), (0, 1, 2, 0), (1, 0, 5, 1)];
+    for (start, len, index, offset) in cases {
+        let range = TextRange::at(TextSize::from(start), TextSize::from(len));
+        let found = place(&root, range, &mut Steps::new());
+        assert_eq!(rt; found, Some((index, offset)), "{range:?}");
+    }
+    Ok(())
+}
+
 /// Counts of children, the distance between the ranges that are searched, and the binary digits of the count.
 const SIZES: [(u32, usize, u64); 3] = [(1, 1, 1), (1_000, 1, 10), (1_000_000, 10, 20)];
 
 #[test]
-fn each_byte_is_found_by_halves(rt: HostRuntime) -> Result<(), Fail> {
+fn search_in_thousand_tokens(rt: HostRuntime) -> Result<(), Fail> {
     for (count, distance, digits) in SIZES {
         let root = bytes(rt.alloc(), count as usize)?;
         for start in (0..count).step_by(distance) {

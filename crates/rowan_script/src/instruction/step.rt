@@ -1,21 +1,27 @@
 //! The steps from a tree.
+mod edit;
 
-use crate::tree;
+use crate::{operand, tree};
 use anyhow::Result;
-use rowan::{GreenNode, GreenToken};
+pub use edit::Edit;
+use rowan::{GreenNode, GreenToken, TextRange};
 use std::alloc::Global;
 
 /// A step from the tree of a case.
 #[derive(Drop)]
 pub enum Step {
+    GreenChildAt(TextRange),
+    GreenEdit(Edit),
     ReplaceNode(GreenNode),
     ReplaceToken(GreenToken),
-    /// A step of which only the name is read.
+    /// A step of which only the name is read, and which may move the cursor.
+    UnreadMove,
+    /// A step of which only the name is read, and which leaves the cursor.
     Unread,
 }
 
-/// The names of the steps whose operands are not read.
-const UNREAD: [&str; 67] = [
+/// The names of the steps that may move the cursor and whose operands are not read.
+const UNREAD_MOVES: [&str; 23] = [
     "Parent",
     "TreeTop",
     "FirstChild",
@@ -36,8 +42,14 @@ const UNREAD: [&str; 67] = [
     "RightTokenAt",
     "ElementAt",
     "CloneSubtree",
-    "Save",
     "Load",
+    "ReparseList",
+    "EditList",
+];
+
+/// The names of the other steps whose operands are not read.
+const UNREAD: [&str; 39] = [
+    "Save",
     "Same",
     "TokenAt",
     "Children",
@@ -49,11 +61,6 @@ const UNREAD: [&str; 67] = [
     "SiblingsWithTokens",
     "Walk",
     "WalkWithTokens",
-    "GreenChildAt",
-    "GreenReplaceChild",
-    "GreenInsertChild",
-    "GreenRemoveChild",
-    "GreenSplice",
     "Text",
     "Slice",
     "SliceRange",
@@ -81,16 +88,19 @@ const UNREAD: [&str; 67] = [
     "DebugLine",
     "DebugTree",
     "Json",
-    "ReparseList",
-    "EditList",
 ];
 
 impl Step {
     /// Reads a step. Nothing where the name is that of none.
     pub fn parse(alloc: Global, name: &str, operands: &str) -> Result<Option<Step>> {
+        if let Some(edit) = Edit::parse(alloc, name, operands)? {
+            return Ok(Some(Step::GreenEdit(edit)));
+        }
         Ok(Some(match name {
+            "GreenChildAt" => Step::GreenChildAt(operand::range(operands)?),
             "ReplaceNode" => Step::ReplaceNode(tree::node(alloc, operands)?),
             "ReplaceToken" => Step::ReplaceToken(tree::token(alloc, operands)?),
+            _ if UNREAD_MOVES.iter().any(|unread| *unread == name) => Step::UnreadMove,
             _ if UNREAD.iter().any(|unread| *unread == name) => Step::Unread,
             _ => return Ok(None),
         }))

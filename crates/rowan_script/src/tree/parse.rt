@@ -11,7 +11,7 @@ const HOLDER: SyntaxKind = SyntaxKind(0);
 
 /// Reads a node.
 pub fn node(alloc: Global, text: &str) -> Result<GreenNode> {
-    match only_element(alloc, text)? {
+    match element(alloc, text)? {
         NodeOrToken::Node(node) => Ok(node),
         NodeOrToken::Token(_) => bail!("{text} is a token"),
     }
@@ -19,18 +19,32 @@ pub fn node(alloc: Global, text: &str) -> Result<GreenNode> {
 
 /// Reads a token.
 pub fn token(alloc: Global, text: &str) -> Result<GreenToken> {
-    match only_element(alloc, text)? {
+    match element(alloc, text)? {
         NodeOrToken::Node(_) => bail!("{text} is a node"),
         NodeOrToken::Token(token) => Ok(token),
     }
 }
 
-fn only_element(alloc: Global, text: &str) -> Result<GreenElement> {
+/// Reads a node or a token.
+pub fn element(alloc: Global, text: &str) -> Result<GreenElement> {
     let holder = holder_of(alloc, text)?;
     let mut elements = holder.children();
     ensure!(elements.len() == 1, "{text} is not one tree");
     let element = elements.next().context("no tree")??;
     Ok(element)
+}
+
+/// Reads trees in brackets.
+pub fn list(alloc: Global, text: &str) -> Result<Vec<GreenElement>> {
+    let inside = text
+        .strip_prefix('[')
+        .and_then(|rest| rest.strip_suffix(']'))
+        .context("trees in brackets are missing")?;
+    let mut elements = Vec::new(alloc);
+    for element in holder_of(alloc, inside)?.children() {
+        elements.push(element?)?;
+    }
+    Ok(elements)
 }
 
 /// A node that holds all trees of a text, which stand with a space between.

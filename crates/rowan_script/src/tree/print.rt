@@ -8,7 +8,7 @@ ghost use Rattle.rowan_api.specs.Printed.{size_left};
 
 use crate::operand;
 use itoa::Buffer;
-use rowan::{GreenElementRef, GreenNode, GreenToken, NodeOrToken, SyntaxKind};
+use rowan::{GreenElement, GreenElementRef, GreenNode, GreenToken, NodeOrToken, SyntaxKind};
 use std::alloc::{AllocError, Global};
 
 // A node whose opening is written, and the next of its children.
@@ -41,6 +41,18 @@ impl<'a> OpenNode<'a> {
             }
             None => None,
         }
+    }
+}
+
+/// Writes a node or a token.
+pub fn push_element(
+    alloc: Global,
+    text: &mut String,
+    element: &GreenElement,
+) -> Result<(), AllocError> {
+    match element {
+        NodeOrToken::Node(node) => push_node(alloc, text, node),
+        NodeOrToken::Token(token) => push_token(alloc, text, token),
     }
 }
 
