@@ -1,5 +1,15 @@
+pub mod Climb
 pub mod Cursor
 pub mod CursorCode
+pub mod CursorView
+pub mod Equal
+pub mod Moves
+pub mod Pass
+pub mod Rows
+pub mod Table
+pub mod TableProp
+pub mod Yields
+pub mod YieldsCode
 pub use Rattle.rowan_green.specs.Term
 pub use Rattle.rowan_green.specs.Fits
 pub use Rattle.rowan_green.specs.Path

@@ -52,6 +52,12 @@ stands_before q [] = false
 stands_before [] (i ∷ p) = true
 stands_before (j ∷ q) (i ∷ p) = nat_lt j i || (nat_eq j i && stands_before q p)
 
+-- whether p is a beginning of q, as each path is of itself
+abbrev pub begins : Path → Path → Bool
+begins [] q = true
+begins (i ∷ p) [] = false
+begins (i ∷ p) (j ∷ q) = nat_eq i j && begins p q
+
 -- the number of bytes before the subterm at a path
 abbrev pub offset : Term → Path → ℕ
 offset t p = sum_by (λ l. token_len l.1) (filter (λ l. stands_before l.0 p) (leaves t))

@@ -1,8 +1,8 @@
-ghost use Rattle.std.specs.Prelude.{◌≡◌, [], IfOk, IfErr};
+ghost use Rattle.std.specs.Prelude.{◌≡◌, [], IfOk, IfErr, Some};
 ghost use Rattle.rowan_green.specs.declared.utility_types.NodeOrToken.TheVariants.{Node};
-ghost use Rattle.rowan_green.specs.Term.{NodeTerm, node_kind};
+ghost use Rattle.rowan_green.specs.Term.{Term, term_kind};
 ghost use Rattle.rowan_green.specs.Path.{range};
-ghost use Rattle.rowan_cursor.specs.Cursor.{StandsAt};
+ghost use Rattle.rowan_cursor.specs.Cursor.{term_at};
 
 use crate::api::language::Language;
 use crate::api::printed;
@@ -48,7 +48,7 @@ impl<L: Language> SyntaxNode<L> {
 
     /// The kind of the node.
     pub fn kind(&self) -> L::Kind
-        ensures { (n : NodeTerm) → StandsAt self.now n → result ≡ L.meaning (node_kind n) }
+        ensures { (t : Term) → term_at self.now ≡ Some t → result ≡ L.meaning (term_kind t) }
     {
         L::kind_from_raw(self.raw.kind())
     }

@@ -1,0 +1,255 @@
+-- Laws of passes over the elements of a tree: how what is left goes on from an element to the next, and what it has to do with the moves to tokens.
+use Rattle.std.proofs.Common.{◌≡◌, ℕ, zero, suc, ◌+◌, ◌<◌, ◌≤◌, Bool, true, false, cond, ◌&&◌, ◌⊎◌, inl, inr, List, [], ◌∷◌, ◌++◌, map, length, filter, Option, Some, None, take, drop, reverse, refl, sym, ◌∙◌, ap, arith, append_assoc}
+use Rattle.std.specs.Prelude.{slice_get}
+use Rattle.std.specs.List.{find}
+use Rattle.std.proofs.lemmas.List.{append-nil, map-append, map-id, drop_all, take_all, reverse-append}
+use Rattle.std.proofs.lemmas.List.Elements.{filter-append}
+use Rattle.rowan_green.specs.declared.utility_types.NodeOrToken.TheVariants.{Node, Token}
+use Rattle.rowan_green.specs.Term.{NodeTerm, node, Forest, empty, node_then, token_then, Term, terms, node_children}
+use Rattle.rowan_green.specs.Path.{Path, term_children, subterm_of, subterm, Leaf, below_place, node_leaves, leaves_from, stands_before, begins}
+use Rattle.rowan_cursor.specs.Moves.{children_of, leaf_paths, first_at, first_leaf_path, last_leaf_path, next_leaf_path, prev_leaf_path}
+use Rattle.rowan_cursor.specs.Pass.{Lists, row, of_some, after, before, entered, rest, reached, upto, leaf_list, elements_from, node_elements, element_list}
+use Rattle.rowan_cursor.proofs.PathLemmas.{before_at_less, before_at_same, before_at_greater, begins-same, eq_less, eq_not, subterm-child}
+
+-- Steps.
+map_below : (p : Path) (i : ℕ) (qs : List Path) → map (λ q. p ++ q) (map (λ q. i ∷ q) qs) ≡ map (λ q. (p ++ i ∷ []) ++ q) qs
+map_below p i [] = refl
+map_below p i (q ∷ qs) = ap (λ u. u ∷ map (λ q. p ++ q) (map (λ q. i ∷ q) qs)) (sym (append_assoc p (i ∷ []) q)) ∙ ap (λ us. ((p ++ i ∷ []) ++ q) ∷ us) (map_below p i qs)
+
+map_longer : (j : ℕ) (p : Path) (qs : List Path) → map (λ q. j ∷ q) (map (λ q. p ++ q) qs) ≡ map (λ q. (j ∷ p) ++ q) qs
+map_longer j p [] = refl
+map_longer j p (q ∷ qs) = ap (λ us. (j ∷ (p ++ q)) ∷ us) (map_longer j p qs)
+
+drop-at : {X : Type 0} (xs : List X) (i : ℕ) (x : X) → slice_get xs i ≡ Some x → drop i xs ≡ x ∷ drop (suc i) xs
+drop-at [] i x e = absurd cc
+drop-at (y ∷ ys) zero x e = let same : y ≡ x = cc in ap (λ z. z ∷ ys) same
+drop-at (y ∷ ys) (suc i) x e = drop-at ys i x e
+
+after-here : (g : Lists) (t : Option Term) → after g t [] ≡ []
+after-here g None = refl
+after-here g (Some t) = refl
+
+-- behind a child stand the later children, and then what stands behind its node
+pub after-child : (g : Lists) (t : Option Term) (p : Path) (i : ℕ) → after g t (p ++ i ∷ []) ≡ rest g t p (suc i)
+after-child g None [] i = refl
+after-child g None (j ∷ p) i = refl
+after-child g (Some t) [] i =
+    let ls = row g (suc i) (drop (suc i) (term_children t)) in
+    ap (λ us. map (λ q. i ∷ q) us ++ ls) (after-here g (slice_get (term_children t) i)) ∙ sym (append-nil (map (λ q. q) ls) ∙ map-id ls)
+after-child g (Some t) (j ∷ p) i =
+    let u = slice_get (term_children t) j in
+    let own = row g (suc i) (drop (suc i) (children_of (subterm_of u p))) in
+    let ls = row g (suc j) (drop (suc j) (term_children t)) in
+    ap (λ us. map (λ q. j ∷ q) us ++ ls) (after-child g u p i) ∙ ap (λ us. us ++ ls) (map-append (λ q. j ∷ q) (map (λ q. p ++ q) own) (after g u p) ∙ ap (λ us. us ++ map (λ q. j ∷ q) (after g u p)) (map_longer j p own)) ∙ append_assoc (map (λ q. (j ∷ p) ++ q) own) (map (λ q. j ∷ q) (after g u p)) ls
+
+-- from the child at a place on is from that child on
+pub rest-child : (g : Lists) (t : Option Term) (p : Path) (i : ℕ) (c : Term) → slice_get (children_of (subterm_of t p)) i ≡ Some c → rest g t p i ≡ entered g t (p ++ i ∷ [])
+rest-child g t p i c e =
+    let ts = children_of (subterm_of t p) in
+    let own = map (λ q. i ∷ q) (g c) in
+    let ls = row g (suc i) (drop (suc i) ts) in
+    let there : subterm_of t (p ++ i ∷ []) ≡ Some c = subterm-child t p i ∙ e in
+    ap (λ us. map (λ q. p ++ q) (row g i us) ++ after g t p) (drop-at ts i c e) ∙ ap (λ us. us ++ after g t p) (map-append (λ q. p ++ q) own ls) ∙ append_assoc (map (λ q. p ++ q) own) (map (λ q. p ++ q) ls) (after g t p) ∙ ap (λ us. map (λ q. p ++ q) own ++ us) (sym (after-child g t p i)) ∙ ap (λ us. us ++ after g t (p ++ i ∷ [])) (map_below p i (g c)) ∙ ap (λ u. map (λ q. (p ++ i ∷ []) ++ q) (of_some g u) ++ after g t (p ++ i ∷ [])) (sym there)
+
+-- where no child is at the place or later, only what stands behind the node is left
+pub rest-none : (g : Lists) (t : Option Term) (p : Path) (i : ℕ) → length (children_of (subterm_of t p)) ≤ i → rest g t p i ≡ after g t p
+rest-none g t p i h = ap (λ us. map (λ q. p ++ q) (row g i us) ++ after g t p) (drop_all i (children_of (subterm_of t p)) h)
+
+before-here : (g : Lists) (t : Option Term) → before g t [] ≡ []
+before-here g None = refl
+before-here g (Some t) = refl
+
+-- before a child stand what stands before its node, and then the earlier children
+pub before-child : (g : Lists) (t : Option Term) (p : Path) (i : ℕ) → before g t (p ++ i ∷ []) ≡ upto g t p i
+before-child g None [] zero = refl
+before-child g None [] (suc i) = refl
+before-child g None (j ∷ p) zero = refl
+before-child g None (j ∷ p) (suc i) = refl
+before-child g (Some t) [] i =
+    let ls = row g 0 (take i (term_children t)) in
+    ap (λ us. ls ++ map (λ q. i ∷ q) us) (before-here g (slice_get (term_children t) i)) ∙ append-nil ls ∙ sym (map-id ls)
+before-child g (Some t) (j ∷ p) i =
+    let u = slice_get (term_children t) j in
+    let own = row g 0 (take i (children_of (subterm_of u p))) in
+    let ls = row g 0 (take j (term_children t)) in
+    ap (λ us. ls ++ map (λ q. j ∷ q) us) (before-child g u p i) ∙ ap (λ us. ls ++ us) (map-append (λ q. j ∷ q) (before g u p) (map (λ q. p ++ q) own) ∙ ap (λ us. map (λ q. j ∷ q) (before g u p) ++ us) (map_longer j p own)) ∙ sym (append_assoc ls (map (λ q. j ∷ q) (before g u p)) (map (λ q. (j ∷ p) ++ q) own))
+
+row-take : (g : Lists) (m i : ℕ) (ts : List Term) (c : Term) → slice_get ts i ≡ Some c → row g m (take (suc i) ts) ≡ row g m (take i ts) ++ map (λ q. (m + i) ∷ q) (g c)
+row-take g m i [] c e = absurd cc
+row-take g m zero (t ∷ ts) c e =
+    let same : t ≡ c = cc in
+    let place : m ≡ m + 0 = omega arith in
+    append-nil (map (λ q. m ∷ q) (g t)) ∙ ap (λ u. map (λ q. m ∷ q) (g u)) same ∙ ap (λ k. map (λ q. k ∷ q) (g c)) place
+row-take g m (suc i) (t ∷ ts) c e =
+    let place : suc m + i ≡ m + suc i = omega arith in
+    ap (λ us. map (λ q. m ∷ q) (g t) ++ us) (row-take g (suc m) i ts c e ∙ ap (λ k. row g (suc m) (take i ts) ++ map (λ q. k ∷ q) (g c)) place) ∙ sym (append_assoc (map (λ q. m ∷ q) (g t)) (row g (suc m) (take i ts)) (map (λ q. (m + suc i) ∷ q) (g c)))
+
+-- up to behind the child at a place is up to that child, itself included
+pub upto-child : (g : Lists) (t : Option Term) (p : Path) (i : ℕ) (c : Term) → slice_get (children_of (subterm_of t p)) i ≡ Some c → upto g t p (suc i) ≡ reached g t (p ++ i ∷ [])
+upto-child g t p i c e =
+    let ts = children_of (subterm_of t p) in
+    let ls = row g 0 (take i ts) in
+    let place : 0 + i ≡ i = omega arith in
+    let there : subterm_of t (p ++ i ∷ []) ≡ Some c = subterm-child t p i ∙ e in
+    ap (λ us. before g t p ++ map (λ q. p ++ q) us) (row-take g 0 i ts c e ∙ ap (λ k. ls ++ map (λ q. k ∷ q) (g c)) place) ∙ ap (λ us. before g t p ++ us) (map-append (λ q. p ++ q) ls (map (λ q. i ∷ q) (g c)) ∙ ap (λ us. map (λ q. p ++ q) ls ++ us) (map_below p i (g c))) ∙ sym (append_assoc (before g t p) (map (λ q. p ++ q) ls) (map (λ q. (p ++ i ∷ []) ++ q) (g c))) ∙ ap (λ us. us ++ map (λ q. (p ++ i ∷ []) ++ q) (g c)) (sym (before-child g t p i)) ∙ ap (λ u. before g t (p ++ i ∷ []) ++ map (λ q. (p ++ i ∷ []) ++ q) (of_some g u)) (sym there)
+
+pub upto-none : (g : Lists) (t : Option Term) (p : Path) → upto g t p 0 ≡ before g t p
+upto-none g t p = append-nil (before g t p)
+
+-- up to behind the last child is up to the node's end
+pub upto-all : (g : Lists) (t : Option Term) (p : Path) (i : ℕ) → length (children_of (subterm_of t p)) ≤ i → upto g t p i ≡ before g t p ++ map (λ q. p ++ q) (row g 0 (children_of (subterm_of t p)))
+upto-all g t p i h = ap (λ us. before g t p ++ map (λ q. p ++ q) (row g 0 us)) (take_all i (children_of (subterm_of t p)) h)
+
+-- The leaves of a node are those of its children, and so with its elements.
+leaves_from-row : (m : ℕ) (f : Forest) → map (λ l. l.0) (leaves_from m f) ≡ row leaf_list m (terms f)
+leaves_from-row m empty = refl
+leaves_from-row m (node_then n f) =
+    let place : m + 1 ≡ suc m = omega arith in
+    map-append (λ l. l.0) (map (below_place m) (node_leaves n)) (leaves_from (m + 1) f) ∙ ap (λ us. us ++ map (λ l. l.0) (leaves_from (m + 1) f)) (places (node_leaves n)) ∙ ap (λ us. map (λ q. m ∷ q) (leaf_list (Node n)) ++ us) (ap (λ k. map (λ l. l.0) (leaves_from k f)) place ∙ leaves_from-row (suc m) f)
+  where
+    places : (ls : List Leaf) → map (λ l. l.0) (map (below_place m) ls) ≡ map (λ q. m ∷ q) (map (λ l. l.0) ls)
+    places [] = refl
+    places (l ∷ ls) = ap (λ us. (m ∷ l.0) ∷ us) (places ls)
+leaves_from-row m (token_then t f) =
+    let place : m + 1 ≡ suc m = omega arith in
+    ap (λ us. (m ∷ []) ∷ us) (ap (λ k. map (λ l. l.0) (leaves_from k f)) place ∙ leaves_from-row (suc m) f)
+
+elements_from-row : (m : ℕ) (f : Forest) → elements_from m f ≡ row element_list m (terms f)
+elements_from-row m empty = refl
+elements_from-row m (node_then n f) = ap (λ us. map (λ q. m ∷ q) (node_elements n) ++ us) (elements_from-row (suc m) f)
+elements_from-row m (token_then t f) = ap (λ us. (m ∷ []) ∷ us) (elements_from-row (suc m) f)
+
+pub leaf_list-node : (n : NodeTerm) → leaf_list (Node n) ≡ row leaf_list 0 (node_children n)
+leaf_list-node (node k f) = leaves_from-row 0 f
+
+-- the elements of a term are itself and those of its children
+pub element_list-term : (t : Term) → element_list t ≡ [] ∷ row element_list 0 (term_children t)
+element_list-term (Node (node k f)) = ap (λ us. [] ∷ us) (elements_from-row 0 f)
+element_list-term (Token t) = refl
+
+-- What a test keeps of a row: it says one thing of each place before one place, another of each behind it.
+pub filter_same : (P Q : Path → Bool) (i : ℕ) (qs : List Path) → ((q : Path) → P (i ∷ q) ≡ Q q) → filter P (map (λ q. i ∷ q) qs) ≡ map (λ q. i ∷ q) (filter Q qs)
+filter_same P Q i [] h = refl
+filter_same P Q i (q ∷ qs) h = ap (λ b. cond b ((i ∷ q) ∷ filter P (map (λ q. i ∷ q) qs)) (filter P (map (λ q. i ∷ q) qs))) (h q) ∙ by (Q q) (filter_same P Q i qs h)
+  where
+    by : (b : Bool) → filter P (map (λ q. i ∷ q) qs) ≡ map (λ q. i ∷ q) (filter Q qs) → cond b ((i ∷ q) ∷ filter P (map (λ q. i ∷ q) qs)) (filter P (map (λ q. i ∷ q) qs)) ≡ map (λ q. i ∷ q) (cond b (q ∷ filter Q qs) (filter Q qs))
+    by true e = ap (λ us. (i ∷ q) ∷ us) e
+    by false e = e
+
+filter_const : (P : Path → Bool) (b : Bool) (i : ℕ) (qs : List Path) → ((q : Path) → P (i ∷ q) ≡ b) → filter P (map (λ q. i ∷ q) qs) ≡ cond b (map (λ q. i ∷ q) qs) []
+filter_const P true i [] h = refl
+filter_const P false i [] h = refl
+filter_const P true i (q ∷ qs) h = ap (λ b. cond b ((i ∷ q) ∷ filter P (map (λ q. i ∷ q) qs)) (filter P (map (λ q. i ∷ q) qs))) (h q) ∙ ap (λ us. (i ∷ q) ∷ us) (filter_const P true i qs h)
+filter_const P false i (q ∷ qs) h = ap (λ b. cond b ((i ∷ q) ∷ filter P (map (λ q. i ∷ q) qs)) (filter P (map (λ q. i ∷ q) qs))) (h q) ∙ filter_const P false i qs h
+
+joined : (b : Bool) (xs ys : List Path) → cond b xs [] ++ cond b ys [] ≡ cond b (xs ++ ys) []
+joined true xs ys = refl
+joined false xs ys = refl
+
+pub filter_row-const : (g : Lists) (P : Path → Bool) (b : Bool) (m : ℕ) (ts : List Term) → ((j : ℕ) (q : Path) → m ≤ j → P (j ∷ q) ≡ b) → filter P (row g m ts) ≡ cond b (row g m ts) []
+filter_row-const g P true m [] h = refl
+filter_row-const g P false m [] h = refl
+filter_row-const g P b m (t ∷ ts) h =
+    let own = map (λ q. m ∷ q) (g t) in
+    filter-append P own (row g (suc m) ts) ∙ ap (λ us. us ++ filter P (row g (suc m) ts)) (filter_const P b m (g t) (λ q. h m q (omega arith))) ∙ ap (λ us. cond b own [] ++ us) (filter_row-const g P b (suc m) ts (λ j q l. h j q (omega arith))) ∙ joined b own (row g (suc m) ts)
+
+none_of : (b : Bool) → ◌≡◌ {A = List Path} [] (cond b [] [])
+none_of true = refl
+none_of false = refl
+
+pub filter-row : (g : Lists) (P Q : Path → Bool) (b c : Bool) (m d i : ℕ) (ts : List Term) → i ≡ m + d → ((j : ℕ) (q : Path) → j < i → P (j ∷ q) ≡ b) → ((q : Path) → P (i ∷ q) ≡ Q q) → ((j : ℕ) (q : Path) → i < j → P (j ∷ q) ≡ c) → filter P (row g m ts) ≡ cond b (row g m (take d ts)) [] ++ (map (λ q. i ∷ q) (filter Q (of_some g (slice_get ts d))) ++ cond c (row g (suc i) (drop (suc d) ts)) [])
+filter-row g P Q b c m zero i [] e less same more = none_of c ∙ ap (λ us. us ++ cond c [] []) (none_of b)
+filter-row g P Q b c m (suc d) i [] e less same more = none_of c ∙ ap (λ us. us ++ cond c [] []) (none_of b)
+filter-row g P Q b c m zero i (t ∷ ts) e less same more =
+    let place : m ≡ i = omega arith in
+    ap (λ k. filter P (row g k (t ∷ ts))) place ∙ filter-append P (map (λ q. i ∷ q) (g t)) (row g (suc i) ts) ∙ ap (λ us. us ++ filter P (row g (suc i) ts)) (filter_same P Q i (g t) same) ∙ ap (λ us. map (λ q. i ∷ q) (filter Q (g t)) ++ us) (filter_row-const g P c (suc i) ts (λ j q l. more j q (omega arith))) ∙ ap (λ us. us ++ (map (λ q. i ∷ q) (filter Q (g t)) ++ cond c (row g (suc i) ts) [])) (none_of b)
+filter-row g P Q b c m (suc d) i (t ∷ ts) e less same more =
+    let own = map (λ q. m ∷ q) (g t) in
+    let ls = row g (suc m) (take d ts) in
+    let us = map (λ q. i ∷ q) (filter Q (of_some g (slice_get ts d))) ++ cond c (row g (suc i) (drop (suc d) ts)) [] in
+    filter-append P own (row g (suc m) ts) ∙ ap (λ vs. vs ++ filter P (row g (suc m) ts)) (filter_const P b m (g t) (λ q. less m q (omega arith))) ∙ ap (λ vs. cond b own [] ++ vs) (filter-row g P Q b c (suc m) d i ts (omega arith) less same more) ∙ sym (append_assoc (cond b own []) (cond b ls []) us) ∙ ap (λ vs. vs ++ us) (joined b own ls)
+
+-- The leaves that a path begins, those that it stands before, and those that stand before it.
+pub filter_all : (P : Path → Bool) (qs : List Path) → ((q : Path) → P q ≡ true) → filter P qs ≡ qs
+filter_all P [] h = refl
+filter_all P (q ∷ qs) h = ap (λ b. cond b (q ∷ filter P qs) (filter P qs)) (h q) ∙ ap (λ us. q ∷ us) (filter_all P qs h)
+
+filter_none : (P : Path → Bool) (qs : List Path) → ((q : Path) → P q ≡ false) → filter P qs ≡ []
+filter_none P [] h = refl
+filter_none P (q ∷ qs) h = ap (λ b. cond b (q ∷ filter P qs) (filter P qs)) (h q) ∙ filter_none P qs h
+
+pub not-begins : (i j : ℕ) (p q : Path) → (i < j) ⊎ (j < i) → begins (i ∷ p) (j ∷ q) ≡ false
+not-begins i j p q h = elim h [
+  | inl l ↦ ap (λ b. b && begins p q) (eq_less i j l)
+  | inr l ↦ ap (λ b. b && begins p q) (eq_not i j l)
+]
+
+pub leaves-below : (t : Option Term) (p : Path) → filter (begins p) (of_some leaf_list t) ≡ map (λ q. p ++ q) (of_some leaf_list (subterm_of t p))
+leaves-below None p = refl
+leaves-below (Some t) [] = filter_all (begins []) (leaf_list t) (λ q. refl) ∙ sym (map-id (leaf_list t))
+leaves-below (Some (Token t)) (i ∷ p) = refl
+leaves-below (Some (Node n)) (i ∷ p) =
+    let u = slice_get (node_children n) i in
+    ap (filter (begins (i ∷ p))) (leaf_list-node n) ∙ filter-row leaf_list (begins (i ∷ p)) (begins p) false false 0 i i (node_children n) (omega arith) (λ j q l. not-begins i j p q (inr l)) (λ q. begins-same i p q) (λ j q l. not-begins i j p q (inl l)) ∙ append-nil (map (λ q. i ∷ q) (filter (begins p) (of_some leaf_list u))) ∙ ap (map (λ q. i ∷ q)) (leaves-below u p) ∙ map_longer i p (of_some leaf_list (subterm_of u p))
+
+pub leaves-behind : (t : Option Term) (p : Path) → filter (λ q. stands_before p q) (of_some leaf_list t) ≡ rest leaf_list t p 0
+leaves-behind None p = refl
+leaves-behind (Some (Token t)) [] = refl
+leaves-behind (Some (Token t)) (i ∷ p) = refl
+leaves-behind (Some (Node n)) [] =
+    let ls = row leaf_list 0 (node_children n) in
+    ap (filter (λ q. stands_before [] q)) (leaf_list-node n) ∙ filter_row-const leaf_list (λ q. stands_before [] q) true 0 (node_children n) (λ j q l. refl) ∙ sym (append-nil (map (λ q. q) ls) ∙ map-id ls)
+leaves-behind (Some (Node n)) (i ∷ p) =
+    let u = slice_get (node_children n) i in
+    let own = row leaf_list 0 (children_of (subterm_of u p)) in
+    let ls = row leaf_list (suc i) (drop (suc i) (node_children n)) in
+    ap (filter (λ q. stands_before (i ∷ p) q)) (leaf_list-node n) ∙ filter-row leaf_list (λ q. stands_before (i ∷ p) q) (λ q. stands_before p q) false true 0 i i (node_children n) (omega arith) (λ j q l. before_at_greater i j p q l) (λ q. before_at_same i p q) (λ j q l. before_at_less i j p q l) ∙ ap (λ us. map (λ q. i ∷ q) us ++ ls) (leaves-behind u p) ∙ ap (λ us. us ++ ls) (map-append (λ q. i ∷ q) (map (λ q. p ++ q) own) (after leaf_list u p) ∙ ap (λ us. us ++ map (λ q. i ∷ q) (after leaf_list u p)) (map_longer i p own)) ∙ append_assoc (map (λ q. (i ∷ p) ++ q) own) (map (λ q. i ∷ q) (after leaf_list u p)) ls
+
+pub leaves-before : (t : Option Term) (p : Path) (c : Term) → subterm_of t p ≡ Some c → filter (λ q. stands_before q p) (of_some leaf_list t) ≡ before leaf_list t p
+leaves-before None p c e = absurd cc
+leaves-before (Some t) [] c e = filter_none (λ q. stands_before q []) (leaf_list t) (λ q. none q)
+  where
+    none : (q : Path) → stands_before q [] ≡ false
+    none [] = refl
+    none (i ∷ q) = refl
+leaves-before (Some (Token t)) (i ∷ p) c e = absurd cc
+leaves-before (Some (Node n)) (i ∷ p) c e =
+    let u = slice_get (node_children n) i in
+    let ls = row leaf_list 0 (take i (node_children n)) in
+    ap (filter (λ q. stands_before q (i ∷ p))) (leaf_list-node n) ∙ filter-row leaf_list (λ q. stands_before q (i ∷ p)) (λ q. stands_before q p) true false 0 i i (node_children n) (omega arith) (λ j q l. before_at_less j i q p l) (λ q. before_at_same i q p) (λ j q l. before_at_greater j i q p l) ∙ ap (λ us. ls ++ us) (append-nil (map (λ q. i ∷ q) (filter (λ q. stands_before q p) (of_some leaf_list u))) ∙ ap (map (λ q. i ∷ q)) (leaves-before u p c e))
+
+-- The first that passes is the first of those that pass, from either end.
+pub find-first : (P : Path → Bool) (qs : List Path) → find P qs ≡ first_at (filter P qs)
+find-first P [] = refl
+find-first P (q ∷ qs) = by (P q) (find-first P qs)
+  where
+    by : (b : Bool) → find P qs ≡ first_at (filter P qs) → cond b (Some q) (find P qs) ≡ first_at (cond b (q ∷ filter P qs) (filter P qs))
+    by true e = refl
+    by false e = e
+
+filter-reverse : (P : Path → Bool) (qs : List Path) → filter P (reverse qs) ≡ reverse (filter P qs)
+filter-reverse P [] = refl
+filter-reverse P (q ∷ qs) =
+    ap (filter P) (reverse-append (q ∷ []) qs) ∙ filter-append P (reverse qs) (q ∷ []) ∙ ap (λ us. us ++ filter P (q ∷ [])) (filter-reverse P qs) ∙ by (P q)
+  where
+    by : (b : Bool) → reverse (filter P qs) ++ cond b (q ∷ []) [] ≡ reverse (cond b (q ∷ filter P qs) (filter P qs))
+    by true = sym (reverse-append (q ∷ []) (filter P qs))
+    by false = append-nil (reverse (filter P qs))
+
+abbrev pub last_at : List Path → Option Path
+last_at qs = first_at (reverse qs)
+
+pub find-last : (P : Path → Bool) (qs : List Path) → find P (reverse qs) ≡ last_at (filter P qs)
+find-last P qs = find-first P (reverse qs) ∙ ap first_at (filter-reverse P qs)
+
+pub first_leaf-below : (root : NodeTerm) (p : Path) → first_leaf_path root p ≡ first_at (map (λ q. p ++ q) (of_some leaf_list (subterm (Node root) p)))
+first_leaf-below root p = find-first (begins p) (leaf_paths root) ∙ ap first_at (leaves-below (Some (Node root)) p)
+
+pub last_leaf-below : (root : NodeTerm) (p : Path) → last_leaf_path root p ≡ last_at (map (λ q. p ++ q) (of_some leaf_list (subterm (Node root) p)))
+last_leaf-below root p = find-last (begins p) (leaf_paths root) ∙ ap last_at (leaves-below (Some (Node root)) p)
+
+pub next_leaf-rest : (root : NodeTerm) (p : Path) → next_leaf_path root p ≡ first_at (rest leaf_list (Some (Node root)) p 0)
+next_leaf-rest root p = find-first (λ q. stands_before p q) (leaf_paths root) ∙ ap first_at (leaves-behind (Some (Node root)) p)
+
+pub prev_leaf-before : (root : NodeTerm) (p : Path) (c : Term) → subterm (Node root) p ≡ Some c → prev_leaf_path root p ≡ last_at (before leaf_list (Some (Node root)) p)
+prev_leaf-before root p c e = find-last (λ q. stands_before q p) (leaf_paths root) ∙ ap last_at (leaves-before (Some (Node root)) p c e)

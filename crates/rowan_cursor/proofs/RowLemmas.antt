@@ -1,0 +1,72 @@
+-- Laws of rows: the first and the last of entries side by side, and the first and the last that pass a test.
+use Rattle.std.proofs.Common.{◌≡◌, ℕ, zero, suc, ◌+◌, ◌-◌, ◌<◌, Bool, true, false, cond, List, [], ◌∷◌, ◌++◌, map, reverse, Some, None, refl, sym, ◌∙◌, ap, arith}
+use Rattle.std.specs.List.{find}
+use Rattle.std.proofs.lemmas.List.{reverse-append, map-append}
+use Rattle.rowan_green.specs.Path.{Path}
+use Rattle.rowan_cursor.specs.Moves.{numbers}
+
+pub map-reverse : {A B : Type 0} (f : A → B) (xs : List A) → map f (reverse xs) ≡ reverse (map f xs)
+map-reverse f [] = refl
+map-reverse f (x ∷ xs) =
+    ap (map f) (reverse-append (x ∷ []) xs) ∙ map-append f (reverse xs) (x ∷ [])
+    ∙ ap (λ ys. ys ++ f x ∷ []) (map-reverse f xs) ∙ sym (reverse-append (f x ∷ []) (map f xs))
+
+pub numbers-last : (a n : ℕ) → numbers a (suc n) ≡ numbers a n ++ (a + n) ∷ []
+numbers-last a zero = let e : a ≡ a + 0 = omega arith in ap (λ k. k ∷ []) e
+numbers-last a (suc n) =
+    let e : a + 1 + n ≡ a + suc n = omega arith in
+    ap (λ ks. a ∷ ks) (numbers-last (a + 1) n) ∙ ap (λ k. a ∷ (numbers (a + 1) n ++ k ∷ [])) e
+
+row-last : (f : ℕ → Path) (a n : ℕ) → reverse (map f (numbers a (suc n))) ≡ f (a + n) ∷ reverse (map f (numbers a n))
+row-last f a n =
+    ap (λ ks. reverse (map f ks)) (numbers-last a n)
+    ∙ ap reverse (map-append f (numbers a n) ((a + n) ∷ [])) ∙ reverse-append (map f (numbers a n)) (f (a + n) ∷ [])
+
+-- a row that is not empty, by its first and by its last
+pub first_split : (f : ℕ → Path) (a b : ℕ) → a < b → map f (numbers a (b - a)) ≡ f a ∷ map f (numbers (a + 1) (b - (a + 1)))
+first_split f a b h =
+    let e : b - a ≡ suc (b - (a + 1)) = omega arith in
+    ap (λ n. map f (numbers a n)) e
+
+pub last_split : (f : ℕ → Path) (a b c : ℕ) → a < b → c + 1 ≡ b → reverse (map f (numbers a (b - a))) ≡ f c ∷ reverse (map f (numbers a (c - a)))
+last_split f a b c h is =
+    let e : b - a ≡ suc (c - a) = omega arith in
+    let k : a + (c - a) ≡ c = omega arith in
+    ap (λ n. reverse (map f (numbers a n))) e ∙ row-last f a (c - a) ∙ ap (λ m. f m ∷ reverse (map f (numbers a (c - a)))) k
+
+pub empty_row : (f : ℕ → Path) (a b : ℕ) → a ≡ b → map f (numbers a (b - a)) ≡ []
+empty_row f a b h =
+    let e : b - a ≡ 0 = omega arith in
+    ap (λ n. map f (numbers a n)) e
+
+find-hit : (p : Path → Bool) (x : Path) (xs : List Path) → p x ≡ true → find p (x ∷ xs) ≡ Some x
+find-hit p x xs h = ap (λ b. cond b (Some x) (find p xs)) h
+
+find-miss : (p : Path → Bool) (x : Path) (xs : List Path) → p x ≡ false → find p (x ∷ xs) ≡ find p xs
+find-miss p x xs h = ap (λ b. cond b (Some x) (find p xs)) h
+
+-- a search through a row, from its front
+
+pub found_first : (p : Path → Bool) (f : ℕ → Path) (a b : ℕ) → a < b → p (f a) ≡ true → find p (map f (numbers a (b - a))) ≡ Some (f a)
+found_first p f a b h e =
+    ap (find p) (first_split f a b h) ∙ find-hit p (f a) (map f (numbers (a + 1) (b - (a + 1)))) e
+
+pub missed_first : (p : Path → Bool) (f : ℕ → Path) (a b : ℕ) → a < b → p (f a) ≡ false → find p (map f (numbers a (b - a))) ≡ find p (map f (numbers (a + 1) (b - (a + 1))))
+missed_first p f a b h e =
+    ap (find p) (first_split f a b h) ∙ find-miss p (f a) (map f (numbers (a + 1) (b - (a + 1)))) e
+
+pub found_none : (p : Path → Bool) (f : ℕ → Path) (a b : ℕ) → a ≡ b → find p (map f (numbers a (b - a))) ≡ None
+found_none p f a b h = ap (find p) (empty_row f a b h)
+
+-- a search through a row, from its end
+
+pub found_last : (p : Path → Bool) (f : ℕ → Path) (a b c : ℕ) → a < b → c + 1 ≡ b → p (f c) ≡ true → find p (reverse (map f (numbers a (b - a)))) ≡ Some (f c)
+found_last p f a b c h is e =
+    ap (find p) (last_split f a b c h is) ∙ find-hit p (f c) (reverse (map f (numbers a (c - a)))) e
+
+pub missed_last : (p : Path → Bool) (f : ℕ → Path) (a b c : ℕ) → a < b → c + 1 ≡ b → p (f c) ≡ false → find p (reverse (map f (numbers a (b - a)))) ≡ find p (reverse (map f (numbers a (c - a))))
+missed_last p f a b c h is e =
+    ap (find p) (last_split f a b c h is) ∙ find-miss p (f c) (reverse (map f (numbers a (c - a)))) e
+
+pub found_none_back : (p : Path → Bool) (f : ℕ → Path) (a b : ℕ) → a ≡ b → find p (reverse (map f (numbers a (b - a)))) ≡ None
+found_none_back p f a b h = ap (λ ps. find p (reverse ps)) (empty_row f a b h)

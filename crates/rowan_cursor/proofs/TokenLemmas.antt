@@ -1,0 +1,344 @@
+-- From an element to the next one: what the answers of single moves mean for a pass over the elements.
+use Rattle.std.proofs.Common.{◌≡◌, ◌≢◌, ℕ, zero, suc, ◌+◌, ◌-◌, ◌<◌, true, false, cond, List, [], ◌∷◌, ◌++◌, map, length, filter, Option, Some, None, take, drop, reverse, inl, inr, refl, sym, ◌∙◌, ap, arith, length-append, append_assoc}
+use Rattle.std.specs.Prelude.{slice_get}
+use Rattle.std.proofs.lemmas.Bool.{cases_lt, true≢false}
+use Rattle.std.proofs.lemmas.List.{append-nil, length-take, map-append, reverse-append}
+use Rattle.std.proofs.lemmas.List.Elements.{filter-append}
+use Rattle.std.proofs.lemmas.Option.{slice_get_past}
+use Rattle.rowan_green.specs.declared.utility_types.NodeOrToken.TheVariants.{Node, Token}
+use Rattle.rowan_green.specs.Term.{NodeTerm, Term}
+use Rattle.rowan_green.specs.Path.{Path, term_children, subterm, begins}
+use Rattle.rowan_cursor.specs.Cursor.{last_place}
+use Rattle.rowan_cursor.specs.Moves.{parent_path, children_of, numbers, below, child_count, child_paths, following, preceding, is_node, is_node_at, first_at, first_leaf_path, last_leaf_path, next_leaf_path, prev_leaf_path}
+use Rattle.rowan_cursor.specs.Pass.{Lists, row, of_some, after, before, entered, rest, reached, upto, leaf_list, element_list, ComesBehind, ComesNext, ComesBefore, ComesBack, first_inside, last_inside}
+use Rattle.rowan_cursor.specs.Table.{IsFilling, IsTable, root_of, path_at}
+use Rattle.rowan_cursor.specs.declared.tree.Entry.{Entry}
+use Rattle.rowan_cursor.proofs.PathLemmas.{last-split, parent_path-child, last_place-child, following-child, preceding-child, begins-rest, begins-own, begins-same, subterm-child}
+use Rattle.rowan_cursor.proofs.LeafLemmas.{after-child, rest-child, rest-none, before-child, upto-child, upto-none, upto-all, leaf_list-node, element_list-term, filter_same, filter_row-const, filter-row, not-begins, find-first, find-last, last_at, first_leaf-below, last_leaf-below, next_leaf-rest, prev_leaf-before}
+use Rattle.rowan_cursor.proofs.TableLemmas.{slice_get-some, path_at-child, is_entry}
+
+-- The first of a list of children, and the last.
+below-first : (p : Path) (a d : ℕ) (s : Path) → Some s ≡ first_at (below p (numbers a d)) → (s ≡ p ++ a ∷ []) × (0 < d)
+below-first p a zero s h = absurd cc
+below-first p a (suc d) s h = (cc, omega arith)
+
+below-none : (p : Path) (a d : ℕ) → ◌≡◌ {A = Option Path} None (first_at (below p (numbers a d))) → d ≡ 0
+below-none p a zero h = refl
+below-none p a (suc d) h = absurd cc
+
+numbers-last : (a n : ℕ) → numbers a (suc n) ≡ numbers a n ++ (a + n) ∷ []
+numbers-last a zero = let e : a ≡ a + 0 = omega arith in ap (λ k. k ∷ []) e
+numbers-last a (suc n) =
+    let e : a + 1 + n ≡ a + suc n = omega arith in
+    ap (λ ks. a ∷ ks) (numbers-last (a + 1) n) ∙ ap (λ k. a ∷ (numbers (a + 1) n ++ k ∷ [])) e
+
+numbers-back : (n : ℕ) → reverse (numbers 0 (suc n)) ≡ n ∷ reverse (numbers 0 n)
+numbers-back n =
+    let e : 0 + n ≡ n = omega arith in
+    ap reverse (numbers-last 0 n) ∙ reverse-append (numbers 0 n) ((0 + n) ∷ []) ∙ ap (λ k. k ∷ reverse (numbers 0 n)) e
+
+below-back : (p : Path) (n : ℕ) → reverse (below p (numbers 0 (suc n))) ≡ (p ++ n ∷ []) ∷ reverse (below p (numbers 0 n))
+below-back p n =
+    let e : 0 + n ≡ n = omega arith in
+    ap (λ ks. reverse (below p ks)) (numbers-last 0 n) ∙ ap reverse (map-append (λ i. p ++ i ∷ []) (numbers 0 n) ((0 + n) ∷ [])) ∙ reverse-append (below p (numbers 0 n)) ((p ++ (0 + n) ∷ []) ∷ []) ∙ ap (λ k. (p ++ k ∷ []) ∷ reverse (below p (numbers 0 n))) e
+
+nearest-first : (p : Path) (n : ℕ) (s : Path) → Some s ≡ first_at (below p (reverse (numbers 0 n))) → (j : ℕ) × (n ≡ suc j) × (s ≡ p ++ j ∷ [])
+nearest-first p zero s h = absurd cc
+nearest-first p (suc j) s h =
+    let x : Some s ≡ Some (p ++ j ∷ []) = h ∙ ap (λ ks. first_at (below p ks)) (numbers-back j) in
+    (j, refl, cc)
+
+nearest-none : (p : Path) (n : ℕ) → ◌≡◌ {A = Option Path} None (first_at (below p (reverse (numbers 0 n)))) → n ≡ 0
+nearest-none p zero h = refl
+nearest-none p (suc j) h =
+    let x : ◌≡◌ {A = Option Path} None (Some (p ++ j ∷ [])) = h ∙ ap (λ ks. first_at (below p ks)) (numbers-back j) in
+    absurd cc
+
+below-last : (p : Path) (n : ℕ) (s : Path) → Some s ≡ first_at (reverse (below p (numbers 0 n))) → (j : ℕ) × (n ≡ suc j) × (s ≡ p ++ j ∷ [])
+below-last p zero s h = absurd cc
+below-last p (suc j) s h =
+    let x : Some s ≡ Some (p ++ j ∷ []) = h ∙ ap first_at (below-back p j) in
+    (j, refl, cc)
+
+below-last_none : (p : Path) (n : ℕ) → ◌≡◌ {A = Option Path} None (first_at (reverse (below p (numbers 0 n)))) → n ≡ 0
+below-last_none p zero h = refl
+below-last_none p (suc j) h =
+    let x : ◌≡◌ {A = Option Path} None (Some (p ++ j ∷ [])) = h ∙ ap first_at (below-back p j) in
+    absurd cc
+
+-- Inside an element.
+same_parent : (p q : Path) (i j : ℕ) → p ++ i ∷ [] ≡ q ++ j ∷ [] → p ≡ q
+same_parent p q i j e =
+    let x : Some p ≡ Some q = sym (parent_path-child p i) ∙ ap parent_path e ∙ parent_path-child q j in
+    cc
+
+begins-longer : (top p q : Path) → begins top p ≡ true → begins top (p ++ q) ≡ true
+begins-longer top p q h =
+    let r = begins-rest top p h in
+    ap (λ u. begins top (u ++ q)) r.1 ∙ ap (begins top) (append_assoc top r.0 q) ∙ begins-own top (r.0 ++ q)
+
+pub inside-child : (top p s : Path) (i : ℕ) → begins top p ≡ true → s ≡ p ++ i ∷ [] → begins top s ≡ true
+inside-child top p s i h e = ap (begins top) e ∙ begins-longer top p (i ∷ []) h
+
+pub inside-parent : (top p q : Path) (i : ℕ) → begins top p ≡ true → p ≢ top → p ≡ q ++ i ∷ [] → begins top q ≡ true
+inside-parent top p q i h apart e =
+    let r = begins-rest top p h in
+    elim (last-split r.0) [
+      | inl x ↦ absurd (apart (r.1 ∙ ap (λ u. top ++ u) x ∙ append-nil top))
+      | inr x ↦ ap (begins top) (same_parent q (top ++ x.0) i x.1 (sym e ∙ r.1 ∙ ap (λ u. top ++ u) x.2 ∙ sym (append_assoc top x.0 (x.1 ∷ [])))) ∙ begins-own top x.0
+    ]
+
+-- Where a path has a sibling behind it, or before it.
+pub record HasBehind (root : NodeTerm) (p s : Path) : Type 0 where
+  pub parent : Path
+  pub place : ℕ
+  pub here : p ≡ parent ++ place ∷ []
+  pub there : s ≡ parent ++ suc place ∷ []
+  pub count : suc place < child_count root parent
+
+pub has_behind : (root : NodeTerm) (p s : Path) → Some s ≡ first_at (following root p) → HasBehind root p s
+has_behind root p s h = elim (last-split p) [
+  | inl e ↦ absurd (let x : ◌≡◌ {A = Option Path} (Some s) None = h ∙ ap (λ u. first_at (following root u)) e in cc)
+  | inr t ↦ (
+      let f = below-first t.0 (t.1 + 1) (child_count root t.0 - (t.1 + 1)) s (h ∙ ap (λ u. first_at (following root u)) t.2 ∙ ap first_at (following-child root t.0 t.1)) in
+      let e : t.1 + 1 ≡ suc t.1 = omega arith in
+      record { parent = t.0; place = t.1; here = t.2; there = f.0 ∙ ap (λ k. t.0 ++ k ∷ []) e; count = omega (arith, f.1) })
+]
+
+pub record HasBefore (root : NodeTerm) (p s : Path) : Type 0 where
+  pub parent : Path
+  pub place : ℕ
+  pub here : p ≡ parent ++ suc place ∷ []
+  pub there : s ≡ parent ++ place ∷ []
+
+pub has_before : (root : NodeTerm) (p s : Path) → Some s ≡ first_at (preceding root p) → HasBefore root p s
+has_before root p s h = elim (last-split p) [
+  | inl e ↦ absurd (let x : ◌≡◌ {A = Option Path} (Some s) None = h ∙ ap (λ u. first_at (preceding root u)) e in cc)
+  | inr t ↦ (
+      let f = nearest-first t.0 t.1 s (h ∙ ap (λ u. first_at (preceding root u)) t.2 ∙ ap first_at (preceding-child root t.0 t.1)) in
+      record { parent = t.0; place = f.0; here = t.2 ∙ ap (λ k. t.0 ++ k ∷ []) f.1; there = f.2 })
+]
+
+-- a sibling is as much inside as its neighbour
+pub behind-inside : (root : NodeTerm) (top p s : Path) → begins top p ≡ true → p ≢ top → Some s ≡ first_at (following root p) → begins top s ≡ true
+behind-inside root top p s h apart e =
+    let t = has_behind root p s e in
+    inside-child top t.parent s (suc t.place) (inside-parent top p t.parent t.place h apart t.here) t.there
+
+pub before-inside : (root : NodeTerm) (top p s : Path) → begins top p ≡ true → p ≢ top → Some s ≡ first_at (preceding root p) → begins top s ≡ true
+before-inside root top p s h apart e =
+    let t = has_before root p s e in
+    inside-child top t.parent s t.place (inside-parent top p t.parent (suc t.place) h apart t.here) t.there
+
+-- the parent of what is inside, and not the element itself
+pub split-parent : (p q : Path) → Some q ≡ parent_path p → (i : ℕ) × (p ≡ q ++ i ∷ [])
+split-parent p q h = elim (last-split p) [
+  | inl e ↦ absurd (let x : ◌≡◌ {A = Option Path} (Some q) None = h ∙ ap parent_path e in cc)
+  | inr t ↦ (
+      let x : Some q ≡ Some t.0 = h ∙ ap parent_path t.2 ∙ parent_path-child t.0 t.1 in
+      let e : t.0 ≡ q = cc in
+      (t.1, t.2 ∙ ap (λ u. u ++ t.1 ∷ []) e))
+]
+
+pub parent-inside : (top p q : Path) → begins top p ≡ true → p ≢ top → Some q ≡ parent_path p → begins top q ≡ true
+parent-inside top p q h apart e = let t = split-parent p q e in inside-parent top p q t.0 h apart t.1
+
+pub no_parent : (p : Path) → ◌≡◌ {A = Option Path} None (parent_path p) → p ≡ []
+no_parent p h = elim (last-split p) [
+  | inl e ↦ e
+  | inr t ↦ absurd (let x : ◌≡◌ {A = Option Path} None (Some t.0) = h ∙ ap parent_path t.2 ∙ parent_path-child t.0 t.1 in cc)
+]
+
+-- Steps of a pass.
+pub next_behind : (root : NodeTerm) (p s : Path) → Some s ≡ first_at (following root p) → ComesBehind root p s
+next_behind root p s h =
+    let t = has_behind root p s h in
+    let c = slice_get-some (children_of (subterm (Node root) t.parent)) (suc t.place) t.count in
+    record {
+      same = λ g. ap (entered g (Some (Node root))) t.there ∙ sym (rest-child g (Some (Node root)) t.parent (suc t.place) c.0 c.1) ∙ sym (after-child g (Some (Node root)) t.parent t.place) ∙ ap (after g (Some (Node root))) (sym t.here);
+    }
+
+pub next_before : (root : NodeTerm) (p s : Path) (u : Term) → subterm (Node root) s ≡ Some u → Some s ≡ first_at (preceding root p) → ComesBefore root p s
+next_before root p s u there h =
+    let t = has_before root p s h in
+    let child : slice_get (children_of (subterm (Node root) t.parent)) t.place ≡ Some u = sym (subterm-child (Some (Node root)) t.parent t.place) ∙ ap (subterm (Node root)) (sym t.there) ∙ there in
+    record {
+      same = λ g. ap (reached g (Some (Node root))) t.there ∙ sym (upto-child g (Some (Node root)) t.parent t.place u child) ∙ sym (before-child g (Some (Node root)) t.parent (suc t.place)) ∙ ap (before g (Some (Node root))) (sym t.here);
+    }
+
+pub climb_behind : (root : NodeTerm) (p q : Path) → ◌≡◌ {A = Option Path} None (first_at (following root p)) → Some q ≡ parent_path p → (g : Lists) → after g (Some (Node root)) p ≡ after g (Some (Node root)) q
+climb_behind root p q h e g =
+    let t = split-parent p q e in
+    let none = below-none q (t.0 + 1) (child_count root q - (t.0 + 1)) (h ∙ ap (λ u. first_at (following root u)) t.1 ∙ ap first_at (following-child root q t.0)) in
+    ap (after g (Some (Node root))) t.1 ∙ after-child g (Some (Node root)) q t.0 ∙ rest-none g (Some (Node root)) q (suc t.0) (omega (arith, none))
+
+pub climb_before : (root : NodeTerm) (p q : Path) → ◌≡◌ {A = Option Path} None (first_at (preceding root p)) → Some q ≡ parent_path p → (g : Lists) → before g (Some (Node root)) p ≡ before g (Some (Node root)) q
+climb_before root p q h e g =
+    let t = split-parent p q e in
+    let none = nearest-none q t.0 (h ∙ ap (λ u. first_at (preceding root u)) t.1 ∙ ap first_at (preceding-child root q t.0)) in
+    ap (before g (Some (Node root))) t.1 ∙ before-child g (Some (Node root)) q t.0 ∙ ap (upto g (Some (Node root)) q) none ∙ upto-none g (Some (Node root)) q
+
+pub first_child-inside : (root : NodeTerm) (top p s : Path) → begins top p ≡ true → Some s ≡ first_at (child_paths root p) → begins top s ≡ true
+first_child-inside root top p s h e = inside-child top p s 0 h (below-first p 0 (child_count root p) s e).0
+
+pub last_child-inside : (root : NodeTerm) (top p s : Path) → begins top p ≡ true → Some s ≡ first_at (reverse (child_paths root p)) → begins top s ≡ true
+last_child-inside root top p s h e = let t = below-last p (child_count root p) s e in inside-child top p s t.0 h t.2
+
+pub next_child : (root : NodeTerm) (p s : Path) → Some s ≡ first_at (child_paths root p) → ComesNext root p s
+next_child root p s h =
+    let f = below-first p 0 (child_count root p) s h in
+    let c = slice_get-some (children_of (subterm (Node root) p)) 0 f.1 in
+    record { same = λ g. ap (entered g (Some (Node root))) f.0 ∙ sym (rest-child g (Some (Node root)) p 0 c.0 c.1) }
+
+pub no_child-rest : (root : NodeTerm) (p : Path) → ◌≡◌ {A = Option Path} None (first_at (child_paths root p)) → (g : Lists) → rest g (Some (Node root)) p 0 ≡ after g (Some (Node root)) p
+no_child-rest root p h g = rest-none g (Some (Node root)) p 0 (omega (arith, below-none p 0 (child_count root p) h))
+
+pub next_no_child : (root : NodeTerm) (p s : Path) → ◌≡◌ {A = Option Path} None (first_at (child_paths root p)) → ComesBehind root p s → ComesNext root p s
+next_no_child root p s h b = record { same = λ g. b.same g ∙ sym (no_child-rest root p h g) }
+
+pub back_child : (root : NodeTerm) (p s : Path) → Some s ≡ first_at (reverse (child_paths root p)) → ComesBack root p s
+back_child root p s h =
+    let t = below-last p (child_count root p) s h in
+    let c = slice_get-some (children_of (subterm (Node root) p)) t.0 (omega (arith, t.1)) in
+    record { same = λ g. ap (reached g (Some (Node root))) t.2 ∙ sym (upto-child g (Some (Node root)) p t.0 c.0 c.1) ∙ ap (upto g (Some (Node root)) p) (sym t.1) }
+
+pub no_child-upto : (root : NodeTerm) (p : Path) → ◌≡◌ {A = Option Path} None (first_at (reverse (child_paths root p))) → (g : Lists) → upto g (Some (Node root)) p (child_count root p) ≡ before g (Some (Node root)) p
+no_child-upto root p h g = ap (upto g (Some (Node root)) p) (below-last_none p (child_count root p) h) ∙ upto-none g (Some (Node root)) p
+
+pub back_no_child : (root : NodeTerm) (p s : Path) → ◌≡◌ {A = Option Path} None (first_at (reverse (child_paths root p))) → ComesBefore root p s → ComesBack root p s
+back_no_child root p s h b = record { same = λ g. b.same g ∙ sym (no_child-upto root p h g) }
+
+-- Nothing behind an element is below it, nor before it.
+after-outside : (g : Lists) (t : Option Term) (p : Path) → filter (begins p) (after g t p) ≡ []
+after-outside g None p = refl
+after-outside g (Some t) [] = refl
+after-outside g (Some t) (i ∷ p) =
+    let own = after g (slice_get (term_children t) i) p in
+    let ls = row g (suc i) (drop (suc i) (term_children t)) in
+    filter-append (begins (i ∷ p)) (map (λ q. i ∷ q) own) ls ∙ ap (λ us. us ++ filter (begins (i ∷ p)) ls) (filter_same (begins (i ∷ p)) (begins p) i own (λ q. begins-same i p q) ∙ ap (map (λ q. i ∷ q)) (after-outside g (slice_get (term_children t) i) p)) ∙ filter_row-const g (begins (i ∷ p)) false (suc i) (drop (suc i) (term_children t)) (λ j q l. not-begins i j p q (inl (omega arith)))
+
+before-outside : (g : Lists) (t : Option Term) (p : Path) → filter (begins p) (before g t p) ≡ []
+before-outside g None p = refl
+before-outside g (Some t) [] = refl
+before-outside g (Some t) (i ∷ p) =
+    let own = before g (slice_get (term_children t) i) p in
+    let ts = take i (term_children t) in
+    let past : slice_get ts i ≡ None = slice_get_past ts i (omega (arith, length-take i (term_children t))) in
+    filter-append (begins (i ∷ p)) (row g 0 ts) (map (λ q. i ∷ q) own) ∙ ap (λ us. us ++ filter (begins (i ∷ p)) (map (λ q. i ∷ q) own)) (filter-row g (begins (i ∷ p)) (begins p) false false 0 i i ts (omega arith) (λ j q l. not-begins i j p q (inr l)) (λ q. begins-same i p q) (λ j q l. not-begins i j p q (inl l)) ∙ ap (λ o. map (λ q. i ∷ q) (filter (begins p) (of_some g o)) ++ []) past) ∙ filter_same (begins (i ∷ p)) (begins p) i own (λ q. begins-same i p q) ∙ ap (map (λ q. i ∷ q)) (before-outside g (slice_get (term_children t) i) p)
+
+pub first_inside-after : (g : Lists) (t : Option Term) (p : Path) → first_inside p (after g t p) ≡ None
+first_inside-after g t p = find-first (begins p) (after g t p) ∙ ap first_at (after-outside g t p)
+
+pub last_inside-before : (g : Lists) (t : Option Term) (p : Path) → last_inside p (before g t p) ≡ None
+last_inside-before g t p = find-last (begins p) (before g t p) ∙ ap last_at (before-outside g t p)
+
+all_below : (p : Path) (qs : List Path) → filter (begins p) (map (λ q. p ++ q) qs) ≡ map (λ q. p ++ q) qs
+all_below p [] = refl
+all_below p (q ∷ qs) = ap (λ b. cond b ((p ++ q) ∷ filter (begins p) (map (λ q. p ++ q) qs)) (filter (begins p) (map (λ q. p ++ q) qs))) (begins-own p q) ∙ ap (λ us. (p ++ q) ∷ us) (all_below p qs)
+
+-- The moves to tokens, as what a pass finds.
+pub first_leaf-pass : (root : NodeTerm) (p : Path) → first_inside p (entered leaf_list (Some (Node root)) p) ≡ first_leaf_path root p
+first_leaf-pass root p =
+    let own = map (λ q. p ++ q) (of_some leaf_list (subterm (Node root) p)) in
+    let ls = after leaf_list (Some (Node root)) p in
+    find-first (begins p) (own ++ ls) ∙ ap first_at (filter-append (begins p) own ls ∙ ap (λ us. us ++ filter (begins p) ls) (all_below p (of_some leaf_list (subterm (Node root) p))) ∙ ap (λ us. own ++ us) (after-outside leaf_list (Some (Node root)) p) ∙ append-nil own) ∙ sym (first_leaf-below root p)
+
+pub last_leaf-pass : (root : NodeTerm) (p : Path) → last_inside p (reached leaf_list (Some (Node root)) p) ≡ last_leaf_path root p
+last_leaf-pass root p =
+    let own = map (λ q. p ++ q) (of_some leaf_list (subterm (Node root) p)) in
+    let ls = before leaf_list (Some (Node root)) p in
+    find-last (begins p) (ls ++ own) ∙ ap last_at (filter-append (begins p) ls own ∙ ap (λ us. us ++ filter (begins p) own) (before-outside leaf_list (Some (Node root)) p) ∙ all_below p (of_some leaf_list (subterm (Node root) p))) ∙ sym (last_leaf-below root p)
+
+first_inside-root : (qs : List Path) → first_inside [] qs ≡ first_at qs
+first_inside-root [] = refl
+first_inside-root (q ∷ qs) = refl
+
+pub next_leaf-pass : (root : NodeTerm) (p : Path) → first_inside [] (rest leaf_list (Some (Node root)) p 0) ≡ next_leaf_path root p
+next_leaf-pass root p = first_inside-root (rest leaf_list (Some (Node root)) p 0) ∙ sym (next_leaf-rest root p)
+
+pub prev_leaf-pass : (root : NodeTerm) (p : Path) (c : Term) → subterm (Node root) p ≡ Some c → last_inside [] (before leaf_list (Some (Node root)) p) ≡ prev_leaf_path root p
+prev_leaf-pass root p c e = first_inside-root (reverse (before leaf_list (Some (Node root)) p)) ∙ sym (prev_leaf-before root p c e)
+
+-- At a node the pass goes on below it, and has one element less before it; at a token it has found it.
+entered_node : (t : Option Term) → is_node t ≡ true → of_some leaf_list t ≡ row leaf_list 0 (children_of t)
+entered_node None h = absurd (true≢false (sym h))
+entered_node (Some (Token t)) h = absurd (true≢false (sym h))
+entered_node (Some (Node n)) h = leaf_list-node n
+
+entered_elements : (t : Option Term) → is_node t ≡ true → of_some element_list t ≡ [] ∷ row element_list 0 (children_of t)
+entered_elements None h = absurd (true≢false (sym h))
+entered_elements (Some t) h = element_list-term t
+
+found_token : (t : Option Term) (c : Term) → t ≡ Some c → is_node t ≡ false → of_some leaf_list t ≡ [] ∷ []
+found_token None c e h = absurd cc
+found_token (Some (Node n)) c e h = absurd (true≢false h)
+found_token (Some (Token t)) c e h = refl
+
+pub entered-node : (root : NodeTerm) (p : Path) → is_node_at root p ≡ true → entered leaf_list (Some (Node root)) p ≡ rest leaf_list (Some (Node root)) p 0
+entered-node root p h = ap (λ us. map (λ q. p ++ q) us ++ after leaf_list (Some (Node root)) p) (entered_node (subterm (Node root) p) h)
+
+pub entered-fewer : (root : NodeTerm) (p : Path) → is_node_at root p ≡ true → length (rest element_list (Some (Node root)) p 0) < length (entered element_list (Some (Node root)) p)
+entered-fewer root p h =
+    let e = ap (λ us. map (λ q. p ++ q) us ++ after element_list (Some (Node root)) p) (entered_elements (subterm (Node root) p) h) in
+    omega (arith, ap length e)
+
+pub reached-node : (root : NodeTerm) (p : Path) → is_node_at root p ≡ true → reached leaf_list (Some (Node root)) p ≡ upto leaf_list (Some (Node root)) p (child_count root p)
+reached-node root p h = ap (λ us. before leaf_list (Some (Node root)) p ++ map (λ q. p ++ q) us) (entered_node (subterm (Node root) p) h) ∙ sym (upto-all leaf_list (Some (Node root)) p (child_count root p) (omega arith))
+
+pub reached-fewer : (root : NodeTerm) (p : Path) → is_node_at root p ≡ true → length (upto element_list (Some (Node root)) p (child_count root p)) < length (reached element_list (Some (Node root)) p)
+reached-fewer root p h =
+    let ls = before element_list (Some (Node root)) p in
+    let us = row element_list 0 (children_of (subterm (Node root) p)) in
+    let e = ap (λ us. ls ++ map (λ q. p ++ q) us) (entered_elements (subterm (Node root) p) h) in
+    omega (arith, ap length e, length-append ls (map (λ q. p ++ q) ([] ∷ us)), ap length (upto-all element_list (Some (Node root)) p (child_count root p) (omega arith)), length-append ls (map (λ q. p ++ q) us))
+
+pub token-first : (root : NodeTerm) (top p : Path) (c : Term) → subterm (Node root) p ≡ Some c → is_node_at root p ≡ false → begins top p ≡ true → Some p ≡ first_inside top (entered leaf_list (Some (Node root)) p)
+token-first root top p c e h inside =
+    let ls = after leaf_list (Some (Node root)) p in
+    sym (ap (λ us. first_inside top (map (λ q. p ++ q) us ++ ls)) (found_token (subterm (Node root) p) c e h) ∙ ap (λ q. first_inside top (q ∷ ls)) (append-nil p) ∙ ap (λ b. cond b (Some p) (first_inside top ls)) inside)
+
+pub token-last : (root : NodeTerm) (top p : Path) (c : Term) → subterm (Node root) p ≡ Some c → is_node_at root p ≡ false → begins top p ≡ true → Some p ≡ last_inside top (reached leaf_list (Some (Node root)) p)
+token-last root top p c e h inside =
+    let ls = before leaf_list (Some (Node root)) p in
+    sym (ap (λ us. last_inside top (ls ++ map (λ q. p ++ q) us)) (found_token (subterm (Node root) p) c e h) ∙ ap (λ q. last_inside top (ls ++ q ∷ [])) (append-nil p) ∙ ap (first_inside top) (reverse-append ls (p ∷ [])) ∙ ap (λ b. cond b (Some p) (first_inside top (reverse ls))) inside)
+
+-- Entries with one path have one number.
+ends_apart : (p : Path) (i : ℕ) → p ++ i ∷ [] ≡ [] → ⊥
+ends_apart [] i e = cc
+ends_apart (j ∷ p) i e = cc
+
+same_number : (es : List Entry) → IsFilling es → (k m n : ℕ) → m < k → m < length es → n < length es → path_at es m ≡ path_at es n → m ≡ n
+same_number es f zero m n b i j h = absurd (omega arith)
+same_number es f (suc k) m n b i j h =
+    let d = slice_get-some es m i in
+    let e = slice_get-some es n j in
+    elim (cases_lt 0 m) [
+      | inl x ↦ elim (cases_lt 0 n) [
+        | inl y ↦ (
+            let joined = sym (path_at-child es f m d.0 d.1 x) ∙ h ∙ path_at-child es f n e.0 e.1 y in
+            let less : d.0.parent < m = f.earlier m d.0 d.1 x in
+            let lesser : e.0.parent < n = f.earlier n e.0 e.1 y in
+            let parents : d.0.parent ≡ e.0.parent = same_number es f k d.0.parent e.0.parent (omega arith) (omega arith) (omega arith) (same_parent (path_at es d.0.parent) (path_at es e.0.parent) d.0.index e.0.index joined) in
+            let places : d.0.index ≡ e.0.index = sym (last_place-child (path_at es d.0.parent) d.0.index) ∙ ap last_place joined ∙ last_place-child (path_at es e.0.parent) e.0.index in
+            let above = slice_get-some es d.0.parent (omega arith) in
+            let one = f.parents m d.0 above.0 d.1 x above.1 in
+            let other = f.parents n e.0 above.0 e.1 y (ap (slice_get es) (sym parents) ∙ above.1) in
+            omega (arith, one.place, other.place))
+        | inr y ↦ (
+            let zero_n : n ≡ 0 = omega arith in
+            absurd (ends_apart (path_at es d.0.parent) d.0.index (sym (path_at-child es f m d.0 d.1 x) ∙ h ∙ ap (path_at es) zero_n)))
+      ]
+      | inr x ↦ elim (cases_lt 0 n) [
+        | inl y ↦ (
+            let zero_m : m ≡ 0 = omega arith in
+            absurd (ends_apart (path_at es e.0.parent) e.0.index (sym (path_at-child es f n e.0 e.1 y) ∙ sym h ∙ ap (path_at es) zero_m)))
+        | inr y ↦ omega arith
+      ]
+    ]
+
+pub apart_paths : (es : List Entry) → IsTable es → (m n : ℕ) → m < length es → n < length es → m ≢ n → path_at es m ≢ path_at es n
+apart_paths es t m n i j apart h = apart (same_number es t.filling (suc m) m n (omega arith) i j h)
+
+-- something stands at each path of a table
+pub stands_at : (es : List Entry) → IsTable es → (n : ℕ) → n < length es → (u : Term) × (subterm (Node (root_of es)) (path_at es n) ≡ Some u)
+stands_at es t n i = let e = slice_get-some es n i in (e.0.green, (is_entry es t n e.0 e.1).green)

@@ -1,0 +1,105 @@
+-- The table of a tree: an entry for each of its nodes and tokens, level by level, the root first.
+--     The children of a node stand side by side in their order, behind those of the nodes before it. An entry knows the number of
+--     its parent and of its first child, its index among its parent's children, how many children it has, and where its text starts.
+--     The path of an entry is read off by going up: from parent to parent, to the root.
+-- All facts are local: each speaks of one entry, or of an entry and its parent.
+use Rattle.std.specs.Prelude.{◌≡◌, true, ℕ, zero, suc, ◌+◌, ◌-◌, ◌<◌, ◌≤◌, List, [], ◌∷◌, ◌++◌, map, length, take, reverse, Some, slice_get}
+use Rattle.std.specs.Option.{option_map_or}
+use Rattle.rowan_green.specs.declared.utility_types.NodeOrToken.TheVariants.{Node, Token}
+use Rattle.rowan_green.specs.Fits.{byte_limit}
+use Rattle.rowan_green.specs.Search.{child_start}
+use Rattle.rowan_green.specs.Term.{NodeTerm, node, empty, Term, term_len}
+use Rattle.rowan_green.specs.Path.{Path, subterm, offset, term_children}
+use Rattle.rowan_cursor.specs.Cursor.{last_place}
+use Rattle.rowan_cursor.specs.Moves.{child_paths, is_node_at, numbers}
+use Rattle.rowan_cursor.specs.declared.tree.Entry.{Entry}
+
+abbrev pub node_in : Term → NodeTerm
+node_in (Node n) = n
+node_in (Token t) = node 0 empty
+
+-- the node of the first entry
+abbrev pub root_of : List Entry → NodeTerm
+root_of [] = node 0 empty
+root_of (e ∷ es) = node_in e.green
+
+-- how many children these entries have together
+abbrev pub counts : List Entry → ℕ
+counts [] = 0
+counts (e ∷ es) = e.child_count + counts es
+
+-- the path of an entry, found by going up at most so many times
+abbrev pub path_within : ℕ → List Entry → ℕ → Path
+path_within zero es n = []
+path_within (suc steps) es zero = []
+path_within (suc steps) es (suc n) =
+    option_map_or (λ e. path_within steps es e.parent ++ e.index ∷ []) (slice_get es (suc n)) []
+
+-- the path of the entry with this number; a parent's number is less than its child's
+abbrev pub path_at : List Entry → ℕ → Path
+path_at es n = path_within n es n
+
+-- the first entry is that of a root
+pub record IsTop (es : List Entry) (e : Entry) : Type 0 where
+  pub green : e.green ≡ Node (root_of es)
+  pub start : e.offset ≡ 0
+  pub index : e.index ≡ 0
+
+-- entry e, with the number n, is a child of entry p
+pub record IsChildOf (p : Entry) (n : ℕ) (e : Entry) : Type 0 where
+  pub place : n ≡ p.first_child + e.index
+  pub child : slice_get (term_children p.green) e.index ≡ Some e.green
+  pub start : e.offset ≡ p.offset + child_start (term_children p.green) e.index
+
+-- a table to which entries may still be added
+pub record IsFilling (es : List Entry) : Type 0 where
+  pub some : 0 < length es
+  pub top : (e : Entry) → slice_get es 0 ≡ Some e → IsTop es e
+  pub counted : (n : ℕ) (e : Entry) → slice_get es n ≡ Some e → e.child_count ≡ length (term_children e.green)
+  pub ends : (n : ℕ) (e : Entry) → slice_get es n ≡ Some e → e.offset + term_len e.green ≤ byte_limit
+  pub firsts : (n : ℕ) (e : Entry) → slice_get es n ≡ Some e → e.first_child ≡ counts (take n es) + 1
+  pub earlier : (n : ℕ) (e : Entry) → slice_get es n ≡ Some e → 0 < n → e.parent < n
+  pub parents : (n : ℕ) (e p : Entry) → slice_get es n ≡ Some e → 0 < n → slice_get es e.parent ≡ Some p → IsChildOf p n e
+
+-- a table with all children of each entry
+pub record IsTable (es : List Entry) : Type 0 where
+  pub filling : IsFilling es
+  pub whole : length es ≡ counts es + 1
+
+-- the entries from one number up to another stand at these paths, in this order
+pub record IsRow (es : List Entry) (start end : ℕ) (paths : List Path) : Type 0 where
+  pub order : start ≤ end
+  pub within : end ≤ length es
+  pub row : map (path_at es) (numbers start (end - start)) ≡ paths
+
+-- the same in the other order
+pub record IsRowBack (es : List Entry) (start end : ℕ) (paths : List Path) : Type 0 where
+  pub order : start ≤ end
+  pub within : end ≤ length es
+  pub row : reverse (map (path_at es) (numbers start (end - start))) ≡ paths
+
+-- where an entry's parent stands, if it is not the root
+pub record IsBelow (es : List Entry) (n : ℕ) (e : Entry) : Type 0 where
+  pub earlier : e.parent < n
+  pub path : path_at es n ≡ path_at es e.parent ++ e.index ∷ []
+
+-- what stands in a table at a number, in terms of the paths in its root
+pub record IsEntry (es : List Entry) (n : ℕ) (e : Entry) : Type 0 where
+  pub at : slice_get es n ≡ Some e
+  pub green : subterm (Node (root_of es)) (path_at es n) ≡ Some e.green
+  pub start : offset (Node (root_of es)) (path_at es n) ≡ e.offset
+  pub end : e.offset + term_len e.green ≤ byte_limit
+  pub index : last_place (path_at es n) ≡ e.index
+  pub count : e.child_count ≡ length (term_children e.green)
+  pub below : 0 < n → IsBelow es n e
+  pub children : IsRow es e.first_child (e.first_child + e.child_count) (child_paths (root_of es) (path_at es n))
+
+-- the entry with this number is that of a node
+abbrev pub IsNodeEntry : List Entry → ℕ → Type 0
+IsNodeEntry es n = is_node_at (root_of es) (path_at es n) ≡ true
+
+-- the entries that were added are those of these terms, in this order
+pub record GrowsBy (old new : List Entry) (ts : List Term) : Type 0 where
+  pub row : List Entry
+  pub grown : new ≡ old ++ row
+  pub greens : map (λ e. e.green) row ≡ ts

@@ -1,0 +1,194 @@
+ghost use Rattle.std.specs.Prelude.{◌≡◌, ◌<◌, [], IfOk, IfErr, IfSome, Some, length, map};
+ghost use Rattle.std.specs.Option.{option_map};
+ghost use Rattle.rowan_green.specs.declared.utility_types.NodeOrToken.TheVariants.{Node};
+ghost use Rattle.rowan_green.specs.Path.{range};
+ghost use Rattle.rowan_green.specs.Term.{Term, term_kind};
+ghost use Rattle.rowan_cursor.specs.Cursor.{term_at, last_place};
+ghost use Rattle.rowan_cursor.specs.CursorView.{element_of};
+ghost use Rattle.rowan_cursor.specs.Moves.{Element, place_of, cursor_at, element_at, parent_path, first_at, following, preceding, first_leaf_path, last_leaf_path, element_ancestors};
+
+use crate::cursor::{Ancestors, SyntaxNode, SyntaxToken};
+use crate::tree::Tree;
+use rowan_green::fault::Fault;
+use rowan_green::green::SyntaxKind;
+use rowan_green::text::TextRange;
+use rowan_green::utility_types::NodeOrToken;
+use std::rc::Rc;
+
+/// A node or a token in a tree.
+pub type SyntaxElement = NodeOrToken<SyntaxNode, SyntaxToken>;
+
+// The element of a number.
+pub(super) fn at(tree: &Rc<Tree>, entry: usize) -> Result<SyntaxElement, Fault>
+    requires { entry < length tree.now.value.entries.items }
+    ensures ok { IfOk result (λ e. e ≡ element_of tree.now.value.entries.items entry) }
+    ensures err { IfErr result (λ e. e ≡ Fault.Memory) }
+{
+    match &tree.entry(entry).green {
+        NodeOrToken::Node(_) => Ok(NodeOrToken::Node(SyntaxNode::at(tree, entry)?)),
+        NodeOrToken::Token(_) => Ok(NodeOrToken::Token(SyntaxToken::at(tree, entry)?)),
+    }
+}
+
+// The same, where there is a number.
+pub(super) fn found(tree: &Rc<Tree>, entry: Option<usize>) -> Result<Option<SyntaxElement>, Fault>
+    requires { IfSome entry (λ n. n < length tree.now.value.entries.items) }
+    ensures ok { IfOk result (λ found. found ≡ option_map (element_of tree.now.value.entries.items) entry) }
+    ensures err { IfErr result (λ e. e ≡ Fault.Memory) }
+{
+    match entry {
+        Some(entry) => Ok(Some(at(tree, entry)?)),
+        None => Ok(None),
+    }
+}
+
+/// The calls of a [`SyntaxElement`]. It is a trait since the type of elements is that of another crate.
+pub trait ElementCalls {
+    ghost element: { Self → Element };
+
+    /// Where the element's text lies in the text of the root, in bytes.
+    fn text_range(&self) -> TextRange
+        ensures { let place = place_of (element self.now) in result ≡ range (Node place.root) place.path };
+
+    /// The place of the element among all children of its parent; 0 for a root.
+    fn index(&self) -> usize
+        ensures { result ≡ last_place (place_of (element self.now)).path };
+
+    /// The kind of the element.
+    fn kind(&self) -> SyntaxKind
+        ensures { (t : Term) → term_at (place_of (element self.now)) ≡ Some t → result.0 ≡ term_kind t };
+
+    /// The parent, or `None` of a root.
+    fn parent(&self) -> Result<Option<SyntaxNode>, Fault>
+        ensures ok { let place = place_of (element self.now) in
+            IfOk result (λ found. found ≡ option_map (cursor_at place.root) (parent_path place.path)) }
+        ensures err { IfErr result (λ e. e ≡ Fault.Memory) };
+
+    /// The root of the tree.
+    fn tree_top(&self) -> Result<SyntaxNode, Fault>
+        ensures ok { IfOk result (λ n. n ≡ cursor_at (place_of (element self.now)).root []) }
+        ensures err { IfErr result (λ e. e ≡ Fault.Memory) };
+
+    /// The first token of all that are in a node, also an empty one; a token itself.
+    fn first_token(&self) -> Result<Option<SyntaxToken>, Fault>
+        ensures ok { let place = place_of (element self.now) in
+            IfOk result (λ found. found ≡ option_map (cursor_at place.root) (first_leaf_path place.root place.path)) }
+        ensures err { IfErr result (λ e. e ≡ Fault.Memory) };
+
+    /// The last token of all that are in a node, also an empty one; a token itself.
+    fn last_token(&self) -> Result<Option<SyntaxToken>, Fault>
+        ensures ok { let place = place_of (element self.now) in
+            IfOk result (λ found. found ≡ option_map (cursor_at place.root) (last_leaf_path place.root place.path)) }
+        ensures err { IfErr result (λ e. e ≡ Fault.Memory) };
+
+    /// The next sibling.
+    fn next_sibling_or_token(&self) -> Result<Option<SyntaxElement>, Fault>
+        ensures ok { let place = place_of (element self.now) in
+            IfOk result (λ found. found ≡ option_map (element_at place.root) (first_at (following place.root place.path))) }
+        ensures err { IfErr result (λ e. e ≡ Fault.Memory) };
+
+    /// The sibling before this one.
+    fn prev_sibling_or_token(&self) -> Result<Option<SyntaxElement>, Fault>
+        ensures ok { let place = place_of (element self.now) in
+            IfOk result (λ found. found ≡ option_map (element_at place.root) (first_at (preceding place.root place.path))) }
+        ensures err { IfErr result (λ e. e ≡ Fault.Memory) };
+
+    /// A node and the nodes above it, up to the root; of a token the nodes above it.
+    fn ancestors(&self) -> Ancestors
+        ensures ok { IfOk result (λ left. left ≡ map (cursor_at (place_of (element self.now)).root) (element_ancestors (element self.now))) }
+        ensures err { IfErr result (λ e. e ≡ Fault.Memory) };
+}
+
+impl ElementCalls for SyntaxElement {
+    ghost element = { λ e. e };
+
+    fn text_range(&self) -> TextRange {
+        match self {
+            NodeOrToken::Node(node) => node.text_range(),
+            NodeOrToken::Token(token) => token.text_range(),
+        }
+    }
+
+    fn index(&self) -> usize {
+        match self {
+            NodeOrToken::Node(node) => node.index(),
+            NodeOrToken::Token(token) => token.index(),
+        }
+    }
+
+    fn kind(&self) -> SyntaxKind {
+        match self {
+            NodeOrToken::Node(node) => node.kind(),
+            NodeOrToken::Token(token) => token.kind(),
+        }
+    }
+
+    fn parent(&self) -> Result<Option<SyntaxNode>, Fault> {
+        match self {
+            NodeOrToken::Node(node) => node.parent(),
+            NodeOrToken::Token(token) => token.parent(),
+        }
+    }
+
+    fn tree_top(&self) -> Result<SyntaxNode, Fault> {
+        match self {
+            NodeOrToken::Node(node) => node.tree_top(),
+            NodeOrToken::Token(token) => token.tree_top(),
+        }
+    }
+
+    fn first_token(&self) -> Result<Option<SyntaxToken>, Fault> {
+        match self {
+            NodeOrToken::Node(node) => node.first_token(),
+            NodeOrToken::Token(token) => token.first_token(),
+        }
+    }
+
+    fn last_token(&self) -> Result<Option<SyntaxToken>, Fault> {
+        match self {
+            NodeOrToken::Node(node) => node.last_token(),
+            NodeOrToken::Token(token) => token.last_token(),
+        }
+    }
+
+    fn next_sibling_or_token(&self) -> Result<Option<SyntaxElement>, Fault> {
+        match self {
+            NodeOrToken::Node(node) => node.next_sibling_or_token(),
+            NodeOrToken::Token(token) => token.next_sibling_or_token(),
+        }
+    }
+
+    fn prev_sibling_or_token(&self) -> Result<Option<SyntaxElement>, Fault> {
+        match self {
+            NodeOrToken::Node(node) => node.prev_sibling_or_token(),
+            NodeOrToken::Token(token) => token.prev_sibling_or_token(),
+        }
+    }
+
+    fn ancestors(&self) -> Ancestors {
+        match self {
+            NodeOrToken::Node(node) => node.ancestors(),
+            NodeOrToken::Token(token) => token.ancestors(),
+        }
+    }
+}
+
+impl From<SyntaxNode> for SyntaxElement {
+    ghost use Rattle.rowan_green.specs.declared.utility_types.NodeOrToken.TheVariants.{Node};
+
+    ghost from_gives = { λ node element. element ≡ Node node };
+
+    fn from(node: SyntaxNode) -> SyntaxElement {
+        NodeOrToken::Node(node)
+    }
+}
+
+impl From<SyntaxToken> for SyntaxElement {
+    ghost use Rattle.rowan_green.specs.declared.utility_types.NodeOrToken.TheVariants.{Token};
+
+    ghost from_gives = { λ token element. element ≡ Token token };
+
+    fn from(token: SyntaxToken) -> SyntaxElement {
+        NodeOrToken::Token(token)
+    }
+}

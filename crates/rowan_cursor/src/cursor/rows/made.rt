@@ -1,0 +1,108 @@
+//! The rows of children and of siblings.
+ghost use Rattle.std.specs.Prelude.{◌≡◌, ◌-◌, ◌<◌, ◌≤◌, ◌++◌, map, length, IfOk, IfErr};
+ghost use Rattle.std.specs.List.{filter};
+ghost use Rattle.std.specs.Option.{ForSome};
+ghost use Rattle.rowan_cursor.specs.CursorView.{cursor_of, element_of};
+ghost use Rattle.rowan_cursor.specs.Moves.{cursor_at, element_at, numbers, child_paths, sibling_paths, nodes_at};
+ghost use Rattle.rowan_cursor.specs.Rows.{row_elements, row_nodes, rest_of, has_node, in_order, option_list};
+ghost use Rattle.rowan_cursor.specs.Table.{root_of, path_at};
+
+use super::{Row, RowLeft};
+use crate::tree::Tree;
+use rowan_green::fault::Fault;
+use rowan_green::utility_types::Direction;
+use std::alloc::AllocError;
+use std::ops::Range;
+use std::rc::Rc;
+
+impl Row {
+    fn shared(
+        tree: &Rc<Tree>,
+        first: Option<usize>,
+        row: Range<usize>,
+        direction: Direction,
+    ) -> RowLeft
+        requires has_first { ForSome first (λ n. n < length tree.now.value.entries.items) }
+        requires within { row.end ≤ length tree.now.value.entries.items }
+        ensures elements { let es = tree.now.value.entries.items in IfOk (rest_of row_elements result) (λ left.
+            left ≡ map (element_of es) (option_list first ++ in_order direction (numbers row.start (row.end - row.start)))) }
+        ensures nodes { let es = tree.now.value.entries.items in IfOk (rest_of row_nodes result) (λ left.
+            left ≡ map (cursor_of es) (filter (has_node es) (option_list first ++ in_order direction (numbers row.start (row.end - row.start))))) }
+    {
+        let tree = match tree.clone() {
+            Ok(tree) => tree,
+            Err(refused) => return Some(Err(refused)),
+        };
+        Some(Ok(Row {
+            tree,
+            first,
+            start: row.start,
+            end: row.end,
+            direction,
+        }))
+    }
+
+    // All children of an entry.
+    pub(in crate::cursor) fn children(tree: &Rc<Tree>, number: usize) -> RowLeft
+        requires { number < length tree.now.value.entries.items }
+        ensures elements { let es = tree.now.value.entries.items in IfOk (rest_of row_elements result) (λ left.
+            left ≡ map (element_at (root_of es)) (child_paths (root_of es) (path_at es number))) }
+        ensures nodes { let es = tree.now.value.entries.items in IfOk (rest_of row_nodes result) (λ left.
+            left ≡ map (cursor_at (root_of es)) (nodes_at (root_of es) (child_paths (root_of es) (path_at es number)))) }
+    {
+        Row::shared(tree, None, tree.child_numbers(number), Direction::Next)
+    }
+
+    // An entry and its siblings in one direction.
+    pub(in crate::cursor) fn siblings(
+        tree: &Rc<Tree>,
+        number: usize,
+        direction: Direction,
+    ) -> RowLeft
+        requires { number < length tree.now.value.entries.items }
+        ensures elements { let es = tree.now.value.entries.items in IfOk (rest_of row_elements result) (λ left.
+            left ≡ map (element_at (root_of es)) (sibling_paths direction (root_of es) (path_at es number))) }
+        ensures nodes { let es = tree.now.value.entries.items in IfOk (rest_of row_nodes result) (λ left.
+            left ≡ map (cursor_at (root_of es)) (nodes_at (root_of es) (sibling_paths direction (root_of es) (path_at es number)))) }
+    {
+        match direction {
+            Direction::Next => {
+                Row::shared(
+                    tree,
+                    Some(number),
+                    tree.following_numbers(number),
+                    direction,
+                )
+            }
+            Direction::Prev => {
+                Row::shared(
+                    tree,
+                    Some(number),
+                    tree.preceding_numbers(number),
+                    direction,
+                )
+            }
+        }
+    }
+
+    // The same again.
+    pub(in crate::cursor) fn clone_left(left: &RowLeft) -> Result<RowLeft, AllocError>
+        ensures elements { IfOk result (λ copy. rest_of row_elements copy ≡ rest_of row_elements left.now) }
+        ensures nodes { IfOk result (λ copy. rest_of row_nodes copy ≡ rest_of row_nodes left.now) }
+    {
+        match left {
+            None => Ok(None),
+            Some(Err(_)) => Ok(Some(Err(AllocError))),
+            Some(Ok(row)) => {
+                let tree = row.tree.clone()?;
+                Ok(Some(Ok(Row {
+                    tree,
+                    first: row.first,
+                    start: row.start,
+                    end: row.end,
+                    direction: row.direction,
+                })))
+            }
+        }
+    }
+}

@@ -1,0 +1,245 @@
+ghost use Rattle.std.specs.Prelude.{◌≡◌, [], IfOk, IfErr, IfSome, Some, map, reverse};
+ghost use Rattle.std.specs.Option.{option_map, option_map_or};
+ghost use Rattle.rowan_green.specs.declared.utility_types.NodeOrToken.TheVariants.{Node};
+ghost use Rattle.rowan_green.specs.Term.{TokenTerm, Term, term_kind};
+ghost use Rattle.rowan_green.specs.Path.{range};
+ghost use Rattle.rowan_cursor.specs.Cursor.{StandsAtToken, term_at, last_place};
+ghost use Rattle.rowan_cursor.specs.CursorView.{cursor_of, HasToken};
+ghost use Rattle.rowan_cursor.specs.Moves.{cursor_at, element_at, parent_path, first_at, following, preceding, first_leaf_path, last_leaf_path, next_leaf_path, prev_leaf_path, ancestor_paths, sibling_paths};
+
+use crate::cursor::ancestors::Climb;
+use crate::cursor::rows::Row;
+use crate::cursor::{Ancestors, SiblingsWithTokens, SyntaxElement, SyntaxNode, element};
+use crate::tree::Tree;
+use rowan_green::fault::Fault;
+use rowan_green::green::{GreenToken, SyntaxKind};
+use rowan_green::text::TextRange;
+use rowan_green::utility_types::Direction;
+use std::alloc::AllocError;
+use std::fmt;
+use std::hash::{Hash, Hasher};
+use std::marker::Model;
+use std::rc::Rc;
+
+/// A token in a tree: a root, and the way from it to the token. A clone shares the tree.
+#[derive(Drop)]
+pub struct SyntaxToken {
+    tree: Rc<Tree>,
+    entry: usize,
+}
+
+impl Model for SyntaxToken {
+    ghost use Rattle.rowan_cursor.specs.Cursor.{Cursor};
+    ghost use Rattle.rowan_cursor.specs.CursorCode.{coded_cursor};
+
+    ghost Value = { Cursor };
+
+    ghost coded = { coded_cursor };
+
+    ghost use Rattle.rowan_cursor.specs.CursorView.{cursor_of, HasToken};
+
+    ghost view = { λ t. cursor_of t.tree.value.entries.items t.entry };
+
+    ghost invariant = { λ t. HasToken t.tree.value.entries.items t.entry };
+}
+
+impl SyntaxToken {
+    // The cursor at the token of a number.
+    pub(super) fn at(tree: &Rc<Tree>, entry: usize) -> Result<SyntaxToken, Fault>
+        requires { HasToken tree.now.value.entries.items entry }
+        ensures ok { IfOk result (λ t. t ≡ cursor_of tree.now.value.entries.items entry) }
+        ensures err { IfErr result (λ e. e ≡ Fault.Memory) }
+    {
+        let tree = tree.clone()?;
+        Ok(SyntaxToken { tree, entry })
+    }
+
+    // The same, where there is a number.
+    pub(super) fn found(tree: &Rc<Tree>, entry: Option<usize>) -> Result<Option<SyntaxToken>, Fault>
+        requires { IfSome entry (HasToken tree.now.value.entries.items) }
+        ensures ok { IfOk result (λ found. found ≡ option_map (cursor_of tree.now.value.entries.items) entry) }
+        ensures err { IfErr result (λ e. e ≡ Fault.Memory) }
+    {
+        match entry {
+            Some(entry) => Ok(Some(SyntaxToken::at(tree, entry)?)),
+            None => Ok(None),
+        }
+    }
+
+    /// The kind of the token.
+    pub fn kind(&self) -> SyntaxKind
+        ensures { (t : Term) → term_at self.now ≡ Some t → result.0 ≡ term_kind t }
+    {
+        self.green().kind()
+    }
+
+    /// Where the token's text lies in the text of the root, in bytes.
+    pub fn text_range(&self) -> TextRange
+        ensures { result ≡ range (Node self.now.root) self.now.path }
+    {
+        self.tree.text_range(self.entry)
+    }
+
+    /// The place of the token among all children of its parent.
+    pub fn index(&self) -> usize
+        ensures { result ≡ last_place self.now.path }
+    {
+        self.tree.entry(self.entry).index as usize
+    }
+
+    /// The text of the token.
+    pub fn text(&self) -> &str
+        ensures { (t : TokenTerm) → StandsAtToken self.now t → result.now ≡ t.text }
+    {
+        self.green().text()
+    }
+
+    /// The green token at this place.
+    pub fn green(&self) -> &GreenToken
+        ensures { StandsAtToken self.now result.now }
+    {
+        self.tree.token(self.entry)
+    }
+
+    /// The root of the tree.
+    pub fn tree_top(&self) -> Result<SyntaxNode, Fault>
+        ensures ok { IfOk result (λ n. n ≡ cursor_at self.now.root []) }
+        ensures err { IfErr result (λ e. e ≡ Fault.Memory) }
+    {
+        SyntaxNode::at(&self.tree, 0)
+    }
+
+    /// The parent.
+    pub fn parent(&self) -> Result<Option<SyntaxNode>, Fault>
+        ensures ok { IfOk result (λ found. found ≡ option_map (cursor_at self.now.root) (parent_path self.now.path)) }
+        ensures err { IfErr result (λ e. e ≡ Fault.Memory) }
+    {
+        SyntaxNode::found(&self.tree, self.tree.parent(self.entry))
+    }
+
+    /// The next sibling.
+    pub fn next_sibling_or_token(&self) -> Result<Option<SyntaxElement>, Fault>
+        ensures ok { IfOk result (λ found. found ≡ option_map (element_at self.now.root) (first_at (following self.now.root self.now.path))) }
+        ensures err { IfErr result (λ e. e ≡ Fault.Memory) }
+    {
+        element::found(&self.tree, self.tree.next_sibling_or_token(self.entry))
+    }
+
+    /// The sibling before this one.
+    pub fn prev_sibling_or_token(&self) -> Result<Option<SyntaxElement>, Fault>
+        ensures ok { IfOk result (λ found. found ≡ option_map (element_at self.now.root) (first_at (preceding self.now.root self.now.path))) }
+        ensures err { IfErr result (λ e. e ≡ Fault.Memory) }
+    {
+        element::found(&self.tree, self.tree.prev_sibling_or_token(self.entry))
+    }
+
+    /// The next token of the tree, also an empty one, whatever node it is in.
+    pub fn next_token(&self) -> Result<Option<SyntaxToken>, Fault>
+        ensures ok { IfOk result (λ found. found ≡ option_map (cursor_at self.now.root) (next_leaf_path self.now.root self.now.path)) }
+        ensures err { IfErr result (λ e. e ≡ Fault.Memory) }
+    {
+        SyntaxToken::found(&self.tree, self.tree.next_token(self.entry))
+    }
+
+    /// The token of the tree before this one, also an empty one, whatever node it is in.
+    pub fn prev_token(&self) -> Result<Option<SyntaxToken>, Fault>
+        ensures ok { IfOk result (λ found. found ≡ option_map (cursor_at self.now.root) (prev_leaf_path self.now.root self.now.path)) }
+        ensures err { IfErr result (λ e. e ≡ Fault.Memory) }
+    {
+        SyntaxToken::found(&self.tree, self.tree.prev_token(self.entry))
+    }
+
+    // The token itself, by the way that a node takes to its first or last token.
+    pub(super) fn first_token(&self) -> Result<Option<SyntaxToken>, Fault>
+        ensures ok { IfOk result (λ found. found ≡ option_map (cursor_at self.now.root) (first_leaf_path self.now.root self.now.path)) }
+        ensures err { IfErr result (λ e. e ≡ Fault.Memory) }
+    {
+        SyntaxToken::found(&self.tree, self.tree.first_token(self.entry))
+    }
+
+    pub(super) fn last_token(&self) -> Result<Option<SyntaxToken>, Fault>
+        ensures ok { IfOk result (λ found. found ≡ option_map (cursor_at self.now.root) (last_leaf_path self.now.root self.now.path)) }
+        ensures err { IfErr result (λ e. e ≡ Fault.Memory) }
+    {
+        SyntaxToken::found(&self.tree, self.tree.last_token(self.entry))
+    }
+
+    /// The nodes above the token: its parent, and so on up to the root.
+    pub fn ancestors(&self) -> Ancestors
+        ensures ok { IfOk result (λ left. left ≡ map (cursor_at self.now.root) (option_map_or ancestor_paths (parent_path self.now.path) [])) }
+        ensures err { IfErr result (λ e. e ≡ Fault.Memory) }
+    {
+        Ancestors::new(Climb::new(&self.tree, self.tree.parent(self.entry)))
+    }
+
+    /// The token, and then its siblings in a direction, nearest first.
+    pub fn siblings_with_tokens(&self, direction: Direction) -> SiblingsWithTokens
+        ensures ok { IfOk result (λ left. left ≡ map (element_at self.now.root) (sibling_paths direction self.now.root self.now.path)) }
+        ensures err { IfErr result (λ e. e ≡ Fault.Memory) }
+    {
+        SiblingsWithTokens::new(Row::siblings(&self.tree, self.entry, direction))
+    }
+}
+
+impl Clone for SyntaxToken {
+    ghost is_clone = { λ token copy. copy ≡ token };
+
+    fn clone(&self) -> Result<SyntaxToken, AllocError> {
+        let tree = self.tree.clone()?;
+        Ok(SyntaxToken {
+            tree,
+            entry: self.entry,
+        })
+    }
+}
+
+impl PartialEq for SyntaxToken {
+    ghost use Rattle.std.specs.Cmp.{partial_equiv_from_equiv};
+    ghost use Rattle.rowan_cursor.specs.Equal.{same_place, same_place-laws};
+
+    ghost eq = { same_place };
+
+    ghost laws = { partial_equiv_from_equiv same_place-laws };
+
+    fn eq(&self, other: &SyntaxToken) -> bool {
+        self.text_range().start() == other.text_range().start() && *self.green() == *other.green()
+    }
+}
+
+impl Eq for SyntaxToken {
+    ghost use Rattle.rowan_cursor.specs.Equal.{same_place-laws};
+
+    ghost laws = { same_place-laws };
+}
+
+impl Hash for SyntaxToken {
+    ghost use Rattle.rowan_cursor.specs.Equal.{fed_place, fed_place-same};
+
+    ghost hash_input = { fed_place };
+
+    ghost respects_eq = { fed_place-same };
+
+    fn hash<H: Hasher>(&self, state: &mut H) {
+        u32::from(self.text_range().start()).hash(state);
+        self.green().hash(state);
+    }
+}
+
+impl fmt::Display for SyntaxToken {
+    ghost use Rattle.rowan_cursor.specs.Cursor.{text_at};
+
+    ghost output = { λ t. Some (text_at t) };
+
+    fn fmt<W: fmt::Write>(&self, f: &mut fmt::Formatter<W>) -> fmt::Result {
+        self.green().fmt(f)
+    }
+}
+
+impl fmt::Debug for SyntaxToken {
+    fn fmt<W: fmt::Write>(&self, f: &mut fmt::Formatter<W>) -> fmt::Result {
+        f.debug_struct("SyntaxToken")
+            .field("kind", &self.kind())
+            .field("text_range", &self.text_range())
+            .finish()
+    }
+}

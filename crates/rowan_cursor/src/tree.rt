@@ -1,0 +1,160 @@
+//! The table that all cursors of one tree share: an entry for each node and token.
+
+mod elements;
+mod fill;
+mod rows;
+#[cfg(test)]
+mod tests;
+mod tokens;
+
+ghost use Rattle.std.specs.Prelude.{◌≡◌, ◌<◌, IfOk, IfErr, IfSome, length, reverse};
+ghost use Rattle.std.specs.Option.{option_map};
+ghost use Rattle.rowan_cursor.specs.Moves.{parent_path, first_at, first_node_at, child_paths, following, preceding, is_node_at};
+ghost use Rattle.rowan_cursor.specs.Table.{IsTable, IsEntry, IsNodeEntry, root_of, path_at};
+ghost use Rattle.rowan_cursor.specs.TableProp.{IsTable-prop};
+
+use fill::Draft;
+use rowan_green::fault::Fault;
+use rowan_green::green::{GreenElement, GreenNode};
+use rowan_green::text::TextSize;
+use rowan_green::utility_types::NodeOrToken;
+use std::alloc::Global;
+
+/// A node or token of a tree, and its place there. The root is its own parent.
+#[derive(Drop)]
+pub(crate) struct Entry {
+    pub(crate) green: GreenElement,
+    pub(crate) parent: usize,
+    pub(crate) first_child: usize,
+    pub(crate) index: u32,
+    pub(crate) child_count: u32,
+    pub(crate) offset: TextSize,
+}
+
+/// A tree as a table of its nodes and tokens, level by level. Each is known by the number of its entry; the root has 0.
+#[derive(Drop)]
+pub(crate) struct Tree {
+    pub(crate) entries: Vec<Entry>,
+    pub(crate) ghost table: { IsTable entries.items } by { IsTable-prop entries.items },
+}
+
+impl Tree {
+    /// The table of a green tree. Refused only for want of memory.
+    pub(crate) fn new(alloc: Global, green: GreenNode) -> Result<Tree, Fault>
+        ensures ok { IfOk result (λ tree. root_of tree.entries.items ≡ green) }
+        ensures err { IfErr result (λ e. e ≡ Fault.Memory) }
+    {
+        let mut draft = Draft::new(alloc, green)?;
+        let mut done = 0;
+        while done < draft.len() {
+            draft.push_children(done)?;
+            done += 1;
+        }
+        Ok(draft.finish())
+    }
+
+    /// What stands at a number.
+    pub(crate) fn entry(&self, number: usize) -> &Entry
+        requires { number < length self.now.entries.items }
+        ensures { IsEntry self.now.entries.items number result.now }
+    {
+        &self.entries[number]
+    }
+
+    /// Whether a node stands at a number.
+    pub(crate) fn is_node(&self, number: usize) -> bool
+        requires { number < length self.now.entries.items }
+        ensures { result ≡ is_node_at (root_of self.now.entries.items) (path_at self.now.entries.items number) }
+    {
+        matches!(self.entry(number).green, NodeOrToken::Node(_))
+    }
+
+    /// The parent.
+    pub(crate) fn parent(&self, number: usize) -> Option<usize>
+        requires { number < length self.now.entries.items }
+        ensures path { let es = self.now.entries.items in option_map (path_at es) result ≡ parent_path (path_at es number) }
+        ensures earlier { IfSome result (λ n. n < number) }
+        ensures node { IfSome result (λ n. IsNodeEntry self.now.entries.items n) }
+    {
+        if number == 0 {
+            return None;
+        }
+        Some(self.entry(number).parent)
+    }
+
+    /// The first child, tokens too.
+    pub(crate) fn first_child_or_token(&self, number: usize) -> Option<usize>
+        requires { number < length self.now.entries.items }
+        ensures path { let es = self.now.entries.items in option_map (path_at es) result ≡ first_at (child_paths (root_of es) (path_at es number)) }
+        ensures within { IfSome result (λ n. n < length self.now.entries.items) }
+    {
+        self.first_in(self.child_numbers(number))
+    }
+
+    /// The last child, tokens too.
+    pub(crate) fn last_child_or_token(&self, number: usize) -> Option<usize>
+        requires { number < length self.now.entries.items }
+        ensures path { let es = self.now.entries.items in option_map (path_at es) result ≡ first_at (reverse (child_paths (root_of es) (path_at es number))) }
+        ensures within { IfSome result (λ n. n < length self.now.entries.items) }
+    {
+        self.last_in(self.child_numbers(number))
+    }
+
+    /// The next sibling, tokens too.
+    pub(crate) fn next_sibling_or_token(&self, number: usize) -> Option<usize>
+        requires { number < length self.now.entries.items }
+        ensures path { let es = self.now.entries.items in option_map (path_at es) result ≡ first_at (following (root_of es) (path_at es number)) }
+        ensures within { IfSome result (λ n. n < length self.now.entries.items) }
+    {
+        self.first_in(self.following_numbers(number))
+    }
+
+    /// The sibling before this one, tokens too.
+    pub(crate) fn prev_sibling_or_token(&self, number: usize) -> Option<usize>
+        requires { number < length self.now.entries.items }
+        ensures path { let es = self.now.entries.items in option_map (path_at es) result ≡ first_at (preceding (root_of es) (path_at es number)) }
+        ensures within { IfSome result (λ n. n < length self.now.entries.items) }
+    {
+        self.last_in(self.preceding_numbers(number))
+    }
+
+    /// The first child that is a node.
+    pub(crate) fn first_child(&self, number: usize) -> Option<usize>
+        requires { number < length self.now.entries.items }
+        ensures path { let es = self.now.entries.items in option_map (path_at es) result ≡ first_node_at (root_of es) (child_paths (root_of es) (path_at es number)) }
+        ensures within { IfSome result (λ n. n < length self.now.entries.items) }
+        ensures node { IfSome result (λ n. IsNodeEntry self.now.entries.items n) }
+    {
+        self.first_node_in(self.child_numbers(number))
+    }
+
+    /// The last child that is a node.
+    pub(crate) fn last_child(&self, number: usize) -> Option<usize>
+        requires { number < length self.now.entries.items }
+        ensures path { let es = self.now.entries.items in option_map (path_at es) result ≡ first_node_at (root_of es) (reverse (child_paths (root_of es) (path_at es number))) }
+        ensures within { IfSome result (λ n. n < length self.now.entries.items) }
+        ensures node { IfSome result (λ n. IsNodeEntry self.now.entries.items n) }
+    {
+        self.last_node_in(self.child_numbers(number))
+    }
+
+    /// The next sibling that is a node.
+    pub(crate) fn next_sibling(&self, number: usize) -> Option<usize>
+        requires { number < length self.now.entries.items }
+        ensures path { let es = self.now.entries.items in option_map (path_at es) result ≡ first_node_at (root_of es) (following (root_of es) (path_at es number)) }
+        ensures within { IfSome result (λ n. n < length self.now.entries.items) }
+        ensures node { IfSome result (λ n. IsNodeEntry self.now.entries.items n) }
+    {
+        self.first_node_in(self.following_numbers(number))
+    }
+
+    /// The nearest sibling before this one that is a node.
+    pub(crate) fn prev_sibling(&self, number: usize) -> Option<usize>
+        requires { number < length self.now.entries.items }
+        ensures path { let es = self.now.entries.items in option_map (path_at es) result ≡ first_node_at (root_of es) (preceding (root_of es) (path_at es number)) }
+        ensures within { IfSome result (λ n. n < length self.now.entries.items) }
+        ensures node { IfSome result (λ n. IsNodeEntry self.now.entries.items n) }
+    {
+        self.last_node_in(self.preceding_numbers(number))
+    }
+}

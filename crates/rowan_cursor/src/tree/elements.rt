@@ -1,0 +1,44 @@
+//! What stands at a number: where its text lies, and its green value.
+ghost use Rattle.std.specs.Prelude.{◌≡◌, ◌<◌, length, Some};
+ghost use Rattle.rowan_green.specs.declared.utility_types.NodeOrToken.TheVariants.{Node, Token};
+ghost use Rattle.rowan_green.specs.Path.{range, subterm};
+ghost use Rattle.rowan_cursor.specs.CursorView.{HasNode, HasToken};
+ghost use Rattle.rowan_cursor.specs.Table.{root_of, path_at};
+
+use super::Tree;
+use rowan_green::green::{GreenNode, GreenToken};
+use rowan_green::text::TextRange;
+use rowan_green::utility_types::NodeOrToken;
+
+impl Tree {
+    /// Where the text lies in that of the root.
+    pub(crate) fn text_range(&self, number: usize) -> TextRange
+        requires { number < length self.now.entries.items }
+        ensures { let es = self.now.entries.items in result ≡ range (Node (root_of es)) (path_at es number) }
+    {
+        let entry = self.entry(number);
+        TextRange::at(entry.offset, entry.green.text_len())
+    }
+
+    /// The node.
+    pub(crate) fn node(&self, number: usize) -> &GreenNode
+        requires { HasNode self.now.entries.items number }
+        ensures { let es = self.now.entries.items in subterm (Node (root_of es)) (path_at es number) ≡ Some (Node result.now) }
+    {
+        match &self.entry(number).green {
+            NodeOrToken::Node(node) => node,
+            NodeOrToken::Token(_) => unreachable!(),
+        }
+    }
+
+    /// The token.
+    pub(crate) fn token(&self, number: usize) -> &GreenToken
+        requires { HasToken self.now.entries.items number }
+        ensures { let es = self.now.entries.items in subterm (Node (root_of es)) (path_at es number) ≡ Some (Token result.now) }
+    {
+        match &self.entry(number).green {
+            NodeOrToken::Node(_) => unreachable!(),
+            NodeOrToken::Token(token) => token,
+        }
+    }
+}

@@ -1,0 +1,105 @@
+//! Rows: entries that stand side by side, as the children of a node do.
+ghost use Rattle.std.specs.Prelude.{◌≡◌, ◌-◌, ◌<◌, ◌≤◌, IfSome, length, map, reverse};
+ghost use Rattle.std.specs.Option.{option_map};
+ghost use Rattle.rowan_cursor.specs.Moves.{numbers, first_at, first_node_at, child_paths, following, preceding};
+ghost use Rattle.rowan_cursor.specs.Table.{IsNodeEntry, IsRow, IsRowBack, root_of, path_at};
+
+use super::Tree;
+use std::ops::Range;
+
+impl Tree {
+    /// The numbers of all children.
+    pub(crate) fn child_numbers(&self, number: usize) -> Range<usize>
+        requires { number < length self.now.entries.items }
+        ensures { let es = self.now.entries.items in IsRow es result.start result.end (child_paths (root_of es) (path_at es number)) }
+    {
+        let entry = self.entry(number);
+        entry.first_child..entry.first_child + entry.child_count as usize
+    }
+
+    /// The numbers of the siblings behind this one.
+    pub(crate) fn following_numbers(&self, number: usize) -> Range<usize>
+        requires { number < length self.now.entries.items }
+        ensures { let es = self.now.entries.items in IsRow es result.start result.end (following (root_of es) (path_at es number)) }
+    {
+        if number == 0 {
+            return 0..0;
+        }
+        let parent = self.entry(self.entry(number).parent);
+        number + 1..parent.first_child + parent.child_count as usize
+    }
+
+    /// The numbers of the siblings before this one.
+    pub(crate) fn preceding_numbers(&self, number: usize) -> Range<usize>
+        requires { number < length self.now.entries.items }
+        ensures { let es = self.now.entries.items in IsRowBack es result.start result.end (preceding (root_of es) (path_at es number)) }
+    {
+        if number == 0 {
+            return 0..0;
+        }
+        let parent = self.entry(self.entry(number).parent);
+        parent.first_child..number
+    }
+
+    /// The first of a row.
+    pub(crate) fn first_in(&self, row: Range<usize>) -> Option<usize>
+        requires order { row.start ≤ row.end }
+        requires within { row.end ≤ length self.now.entries.items }
+        ensures path { let es = self.now.entries.items in option_map (path_at es) result
+            ≡ first_at (map (path_at es) (numbers row.start (row.end - row.start))) }
+        ensures within { IfSome result (λ n. n < length self.now.entries.items) }
+    {
+        if row.start == row.end {
+            return None;
+        }
+        Some(row.start)
+    }
+
+    /// The last of a row.
+    pub(crate) fn last_in(&self, row: Range<usize>) -> Option<usize>
+        requires order { row.start ≤ row.end }
+        requires within { row.end ≤ length self.now.entries.items }
+        ensures path { let es = self.now.entries.items in option_map (path_at es) result
+            ≡ first_at (reverse (map (path_at es) (numbers row.start (row.end - row.start)))) }
+        ensures within { IfSome result (λ n. n < length self.now.entries.items) }
+    {
+        if row.start == row.end {
+            return None;
+        }
+        Some(row.end - 1)
+    }
+
+    /// The first node of a row.
+    pub(crate) fn first_node_in(&self, row: Range<usize>) -> Option<usize>
+        requires order { row.start ≤ row.end }
+        requires within { row.end ≤ length self.now.entries.items }
+        ensures path { let es = self.now.entries.items in option_map (path_at es) result
+            ≡ first_node_at (root_of es) (map (path_at es) (numbers row.start (row.end - row.start))) }
+        ensures within { IfSome result (λ n. n < length self.now.entries.items) }
+        ensures node { IfSome result (λ n. IsNodeEntry self.now.entries.items n) }
+    {
+        for number in row.start..row.end {
+            if self.is_node(number) {
+                return Some(number);
+            }
+        }
+        None
+    }
+
+    /// The last node of a row.
+    pub(crate) fn last_node_in(&self, row: Range<usize>) -> Option<usize>
+        requires order { row.start ≤ row.end }
+        requires within { row.end ≤ length self.now.entries.items }
+        ensures path { let es = self.now.entries.items in option_map (path_at es) result
+            ≡ first_node_at (root_of es) (reverse (map (path_at es) (numbers row.start (row.end - row.start)))) }
+        ensures within { IfSome result (λ n. n < length self.now.entries.items) }
+        ensures node { IfSome result (λ n. IsNodeEntry self.now.entries.items n) }
+    {
+        for number in (row.start..row.end).rev() {
+            if self.is_node(number) {
+                return Some(number);
+            }
+        }
+        None
+    }
+}
