@@ -1,5 +1,6 @@
-//! Scripts: builder calls as values, and their replay on a builder.
+//! Scripts: builder calls as values, their replay on a builder, and the elements of a tree by their places.
 mod calls;
+mod places;
 
 ghost use Rattle.std.specs.Prelude.{◌≡◌, IfOk, IfErr, OnErr};
 ghost use Rattle.rowan_green.specs.Loan.{value_of, word_of, loan_of};
@@ -9,6 +10,7 @@ ghost use Rattle.rowan.specs.Run.{Gives, Precedes, Run};
 use crate::builder::{CacheHome, Checkpoint, GreenNodeBuilder};
 use crate::fault::Fault;
 pub use calls::{Call, Outcome};
+pub use places::element_at;
 use std::alloc::Global;
 
 /// Makes the calls on the builder, in order, and gives the outcome of each. A refused call leaves the builder as it was and

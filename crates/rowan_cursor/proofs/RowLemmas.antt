@@ -1,5 +1,6 @@
 -- Laws of rows: the first and the last of entries side by side, and the first and the last that pass a test.
-use Rattle.std.proofs.Common.{◌≡◌, ℕ, zero, suc, ◌+◌, ◌-◌, ◌<◌, Bool, true, false, cond, List, [], ◌∷◌, ◌++◌, map, reverse, Some, None, refl, sym, ◌∙◌, ap, arith}
+use Rattle.std.proofs.Common.{◌≡◌, ℕ, zero, suc, ◌+◌, ◌-◌, ◌<◌, ◌≤◌, Bool, true, false, cond, List, [], ◌∷◌, ◌++◌, map, reverse, Some, None, refl, sym, ◌∙◌, ap, arith}
+use Rattle.std.specs.Prelude.{slice_get}
 use Rattle.std.specs.List.{find}
 use Rattle.std.proofs.lemmas.List.{reverse-append, map-append}
 use Rattle.rowan_green.specs.Path.{Path}
@@ -70,3 +71,16 @@ missed_last p f a b c h is e =
 
 pub found_none_back : (p : Path → Bool) (f : ℕ → Path) (a b : ℕ) → a ≡ b → find p (reverse (map f (numbers a (b - a)))) ≡ None
 found_none_back p f a b h = ap (λ ps. find p (reverse ps)) (empty_row f a b h)
+
+-- a row by its places
+pub row-get : (f : ℕ → Path) (a n i : ℕ) → i < n → slice_get (map f (numbers a n)) i ≡ Some (f (a + i))
+row-get f a zero i h = absurd (omega arith)
+row-get f a (suc n) zero h = let e : a ≡ a + 0 = omega arith in ap (λ k. Some (f k)) e
+row-get f a (suc n) (suc i) h =
+    let e : a + 1 + i ≡ a + suc i = omega arith in
+    row-get f (a + 1) n i (omega arith) ∙ ap (λ k. Some (f k)) e
+
+pub row-past : (f : ℕ → Path) (a n i : ℕ) → n ≤ i → slice_get (map f (numbers a n)) i ≡ None
+row-past f a zero i h = refl
+row-past f a (suc n) zero h = absurd (omega arith)
+row-past f a (suc n) (suc i) h = row-past f (a + 1) n i (omega arith)

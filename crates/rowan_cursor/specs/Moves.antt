@@ -120,3 +120,7 @@ place_of (Token c) = c
 abbrev pub element_ancestors : Element → List Path
 element_ancestors (Node c) = ancestor_paths c.path
 element_ancestors (Token c) = option_map_or ancestor_paths (parent_path c.path) []
+
+-- the element at a path of a root, where something stands there
+abbrev pub element_if_there : NodeTerm → Path → Option Element
+element_if_there root p = option_map (λ t. element_at root p) (subterm (Node root) p)

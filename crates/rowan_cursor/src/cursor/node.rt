@@ -1,4 +1,4 @@
-ghost use Rattle.std.specs.Prelude.{◌≡◌, [], IfOk, IfErr, IfSome, Some, map, reverse};
+ghost use Rattle.std.specs.Prelude.{◌≡◌, [], IfOk, IfErr, IfSome, Some, map, reverse, slice_get};
 ghost use Rattle.std.specs.Option.{option_map, option_map_or};
 ghost use Rattle.rowan_green.specs.declared.utility_types.NodeOrToken.TheVariants.{Node};
 ghost use Rattle.rowan_green.specs.Term.{NodeTerm, Term, term_kind};
@@ -160,6 +160,14 @@ impl SyntaxNode {
         ensures err { IfErr result (λ e. e ≡ Fault.Memory) }
     {
         element::found(&self.tree, self.tree.last_child_or_token(self.entry))
+    }
+
+    /// The child at an index among all children, or `None` past the last one.
+    pub fn child_or_token_at_index(&self, index: usize) -> Result<Option<SyntaxElement>, Fault>
+        ensures ok { IfOk result (λ found. found ≡ option_map (element_at self.now.root) (slice_get (child_paths self.now.root self.now.path) index)) }
+        ensures err { IfErr result (λ e. e ≡ Fault.Memory) }
+    {
+        element::found(&self.tree, self.tree.child_at(self.entry, index))
     }
 
     /// The next sibling that is a node.

@@ -1,8 +1,10 @@
 //! What stands at a number: where its text lies, and its green value.
-ghost use Rattle.std.specs.Prelude.{◌≡◌, ◌<◌, length, Some};
+ghost use Rattle.std.specs.Prelude.{◌≡◌, ◌<◌, IfSome, length, slice_get, Some};
+ghost use Rattle.std.specs.Option.{option_map};
 ghost use Rattle.rowan_green.specs.declared.utility_types.NodeOrToken.TheVariants.{Node, Token};
 ghost use Rattle.rowan_green.specs.Path.{range, subterm};
 ghost use Rattle.rowan_cursor.specs.CursorView.{HasNode, HasToken};
+ghost use Rattle.rowan_cursor.specs.Moves.{child_paths};
 ghost use Rattle.rowan_cursor.specs.Table.{root_of, path_at};
 
 use super::Tree;
@@ -18,6 +20,19 @@ impl Tree {
     {
         let entry = self.entry(number);
         TextRange::at(entry.offset, entry.green.text_len())
+    }
+
+    /// The child at an index, tokens counted.
+    pub(crate) fn child_at(&self, number: usize, index: usize) -> Option<usize>
+        requires { number < length self.now.entries.items }
+        ensures path { let es = self.now.entries.items in option_map (path_at es) result ≡ slice_get (child_paths (root_of es) (path_at es number)) index }
+        ensures within { IfSome result (λ n. n < length self.now.entries.items) }
+    {
+        let children = self.child_numbers(number);
+        if index >= children.end - children.start {
+            return None;
+        }
+        Some(children.start + index)
     }
 
     /// The node.
