@@ -16,10 +16,10 @@ items_are_first p xs (y ∷ ys) are e =
     let few : length (y ∷ ys) ≤ length xs = omega (arith, n, are.0) in
     ext_get_or y (y ∷ ys) (take (length (y ∷ ys)) xs) (sym (length-take-le (length (y ∷ ys)) xs few))
     (λ k h.
-      let in_run : k < p.len = omega (arith, n, h) in
-      let read : Some (get_or p.items k y) ≡ Some (get_or xs k y) = sym (p.reads k y in_run) ∙ are.2 k y in_run in
-      let same : get_or p.items k y ≡ get_or xs k y = cc in
-      ap (λ zs. get_or zs k y) e ∙ same ∙ sym (get_or-take (length (y ∷ ys)) xs k y h))
+    let in_run : k < p.len = omega (arith, n, h) in
+    let read : Some (get_or p.items k y) ≡ Some (get_or xs k y) = sym (p.reads k y in_run) ∙ are.2 k y in_run in
+    let same : get_or p.items k y ≡ get_or xs k y = cc in
+    ap (λ zs. get_or zs k y) e ∙ same ∙ sym (get_or-take (length (y ∷ ys)) xs k y h))
 
 passes-by : (ts us items : List Term) (start end : ℕ) (whole : Bool) (e : Fault) → (whole ≡ true → items ≡ us) → items ≡ take (length items) us
     → PassesLimit (spliced_so_far ts start end items whole) e → PassesLimit (spliced ts start end us) e

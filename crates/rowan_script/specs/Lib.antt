@@ -1,3 +1,4 @@
 pub mod Comparison
 pub mod Edits
+pub mod Moves
 pub mod Steps

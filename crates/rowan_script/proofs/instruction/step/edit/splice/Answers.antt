@@ -12,8 +12,8 @@ returns-clause-err c =
     let copies : c.in_ok-clone.field-0.items ≡ c.args.children.now.items = same_from_all_zip _ c.args.children.now.items c.in_ok-clone.field-0.items c.in_ok-clone.ensures.cases.0 (λ x y r. search rules) in
     IfErr-weaker c.splice_children.result _ _
     (λ e passes not_memory.
-      let run = passes not_memory in
-      let p = run.2.0 in
-      let are : ItemsAre p c.args.children.now.items = subst (λ vs. ItemsAre p vs) (ap into_iter_items run.2.1 ∙ run.1.0 ∙ copies) (run.1.3 p p.seen) in
-      passes-spliced p (node_children c.args.node.now) c.args.children.now.items c.args.range.start c.args.range.end e are run.2.2)
+    let run = passes not_memory in
+    let p = run.2.0 in
+    let are : ItemsAre p c.args.children.now.items = subst (λ vs. ItemsAre p vs) (ap into_iter_items run.2.1 ∙ run.1.0 ∙ copies) (run.1.3 p p.seen) in
+    passes-spliced p (node_children c.args.node.now) c.args.children.now.items c.args.range.start c.args.range.end e are run.2.2)
     c.splice_children.ensures.err
