@@ -2,11 +2,9 @@
 use Rattle.std.specs.Prelude.{List, [], ◌++◌, map, reverse, Option, Some, None}
 use Rattle.std.specs.Option.{option_map}
 use Rattle.rowan_green.specs.declared.utility_types.NodeOrToken.TheVariants.{Node, Token}
-use Rattle.rowan_green.specs.Path.{Path}
-use Rattle.rowan_green.specs.Term.{NodeTerm, Term}
+use Rattle.rowan_green.specs.Term.{Term}
 use Rattle.rowan_cursor.specs.Cursor.{Cursor, term_at}
-use Rattle.rowan_cursor.specs.Equal.{same_place}
-use Rattle.rowan_cursor.specs.Moves.{Element, place_of, cursor_at, element_at, element_if_there, parent_path, first_at, first_node_at, nodes_at, child_paths, following, preceding, sibling_paths, first_leaf_path, last_leaf_path, next_leaf_path, prev_leaf_path, element_ancestors}
+use Rattle.rowan_cursor.specs.Moves.{Element, cursor_at, element_at, element_if_there, parent_path, first_at, first_node_at, nodes_at, child_paths, following, preceding, sibling_paths, first_leaf_path, last_leaf_path, next_leaf_path, prev_leaf_path, element_ancestors}
 use Rattle.rowan_script.specs.declared.instruction.step.listing.Listing.{Listing}
 use Rattle.rowan_script.specs.declared.instruction.step.listing.Listing.TheVariants.{Children, ChildrenWithTokens, Ancestors, Siblings, SiblingsWithTokens}
 use Rattle.rowan_script.specs.declared.instruction.step.moves.Move.{Move}

@@ -96,11 +96,13 @@ impl Standing {
         let Some(kept) = self.kept.get(&slot) else {
             return Ok(Answer::Nowhere);
         };
-        self.place = kept.clone()?;
-        match kept {
-            Place::At(element) => Ok(Answer::Moved(element.clone()?)),
-            Place::Unknown => Ok(Answer::Unsupported),
-        }
+        let place = kept.clone()?;
+        let answer = match kept {
+            Place::At(element) => Answer::Moved(element.clone()?),
+            Place::Unknown => Answer::Unsupported,
+        };
+        self.place = place;
+        Ok(answer)
     }
 
     fn compare<'a>(&self, slot: u32) -> Answer<'a>

@@ -45,12 +45,12 @@ impl Listing {
         ensures { IfOk result (λ found. option_map (λ es. es.items) found ≡ listed self from.now) }
     {
         match from {
-            NodeOrToken::Node(node) => Ok(Some(self.from_node(alloc, node)?)),
-            NodeOrToken::Token(token) => self.from_token(alloc, token),
+            NodeOrToken::Node(node) => Ok(Some(self.at_node(alloc, node)?)),
+            NodeOrToken::Token(token) => self.at_token(alloc, token),
         }
     }
 
-    fn from_node(self, alloc: Global, node: &SyntaxNode) -> Result<Vec<SyntaxElement>, Fault>
+    fn at_node(self, alloc: Global, node: &SyntaxNode) -> Result<Vec<SyntaxElement>, Fault>
         ensures { IfOk result (λ es. es.items ≡ listed_from_node self node.now) }
     {
         match self {
@@ -64,7 +64,7 @@ impl Listing {
         }
     }
 
-    fn from_token(
+    fn at_token(
         self,
         alloc: Global,
         token: &SyntaxToken,

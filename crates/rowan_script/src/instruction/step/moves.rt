@@ -62,12 +62,12 @@ impl Move {
         ensures err { IfErr result (λ e. e ≡ Fault.Memory) }
     {
         match from {
-            NodeOrToken::Node(node) => self.from_node(alloc, node),
-            NodeOrToken::Token(token) => self.from_token(token),
+            NodeOrToken::Node(node) => self.at_node(alloc, node),
+            NodeOrToken::Token(token) => self.at_token(token),
         }
     }
 
-    fn from_node(&self, alloc: Global, node: &SyntaxNode) -> Result<Option<SyntaxElement>, Fault>
+    fn at_node(&self, alloc: Global, node: &SyntaxNode) -> Result<Option<SyntaxElement>, Fault>
         ensures ok { IfOk result (λ found. found ≡ moved_from_node self.now node.now) }
         ensures err { IfErr result (λ e. e ≡ Fault.Memory) }
     {
@@ -90,7 +90,7 @@ impl Move {
         }
     }
 
-    fn from_token(&self, token: &SyntaxToken) -> Result<Option<SyntaxElement>, Fault>
+    fn at_token(&self, token: &SyntaxToken) -> Result<Option<SyntaxElement>, Fault>
         ensures ok { IfOk result (λ found. found ≡ moved_from_token self.now token.now) }
         ensures err { IfErr result (λ e. e ≡ Fault.Memory) }
     {

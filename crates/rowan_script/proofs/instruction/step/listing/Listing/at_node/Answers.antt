@@ -2,7 +2,7 @@ use Rattle.std.proofs.Common.{◌∙◌, ap}
 use Rattle.std.proofs.lemmas.Result.{IfOk-weaker}
 use Rattle.rowan_script.proofs.Lists.{all_left}
 use Rattle.rowan_script.specs.Moves.{node_list}
-use Rattle.rowan_script.proofs.instruction.step.listing.Listing.from_node.Goals as goal
+use Rattle.rowan_script.proofs.instruction.step.listing.Listing.at_node.Goals as goal
 
 pub returns-in-Children : goal.returns-in-Children
 returns-in-Children c =

@@ -1,7 +1,7 @@
 use Rattle.std.proofs.Common.{◌∙◌, ap, Some}
 use Rattle.rowan_script.proofs.Lists.{all_left}
 use Rattle.rowan_script.specs.Moves.{node_list}
-use Rattle.rowan_script.proofs.instruction.step.listing.Listing.from_token.Goals as goal
+use Rattle.rowan_script.proofs.instruction.step.listing.Listing.at_token.Goals as goal
 
 pub returns-in_ok-nodes-in-Ancestors : goal.returns-in_ok-nodes-in-Ancestors
 returns-in_ok-nodes-in-Ancestors c =
