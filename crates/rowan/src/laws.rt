@@ -1,4 +1,4 @@
-//! Laws of runs, each as the contract of a function that does nothing; and the laws of green trees.
+//! Laws of runs, each as the contract of a function that does nothing; and the laws of green trees and of cursors.
 ghost use Rattle.std.specs.Prelude.{◌≡◌, List, [], ◌++◌};
 ghost use Rattle.rowan_green.specs.Builder.{BuilderValue};
 ghost use Rattle.rowan_green.specs.Cache.{first_seen};
@@ -9,6 +9,7 @@ ghost use Rattle.rowan.specs.declared.script.calls.Outcome.{Outcome};
 ghost use Rattle.rowan.specs.Run.{Run};
 ghost use Rattle.rowan.specs.Asked.{stream, accepted_text};
 
+pub use rowan_cursor::laws as cursor;
 pub use rowan_green::laws as green;
 
 /// A run asks its cache for the terms of its stream, in their order. So where the cache kept what is first seen of some terms,

@@ -9,6 +9,7 @@ pub mod script;
 
 pub use api::{Language, SyntaxNode};
 pub use builder::{Checkpoint, GreenNodeBuilder, OwnCache, Unfinished};
+pub use cursor::ElementCalls;
 pub use fault::Fault;
 pub use green::{
     Children, GreenElement, GreenElementRef, GreenNode, GreenNodeData, GreenToken, GreenTokenData,

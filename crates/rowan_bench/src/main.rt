@@ -1,12 +1,15 @@
-//! Measures what the library does with large trees. Without arguments it prints how it is called.
+//! Measures what the library does with large trees and nodes. Without arguments it prints how it is called.
 #![tactic(auto)]
 
+mod children;
 mod depth;
+mod draws;
 mod timed;
 
 use anyhow::{Context, Result, bail};
+use children::{Edit, Memory};
 use depth::Operation;
-use rowan::{NodeCache, TextSize};
+use rowan::{GreenElement, NodeCache, Steps, TextSize};
 use rowan_tool::sexp;
 use std::process::ExitCode;
 use std::time::Instant;
@@ -17,6 +20,8 @@ usage: rowan_bench depth parse|compare|show LEVELS
        rowan_bench build TOKENS
        rowan_bench parse
        rowan_bench intern tokens|nodes COUNT
+       rowan_bench search shared|own CHILDREN TIMES
+       rowan_bench edit shared|own CHILDREN TIMES
 
 depth   parses that many lists, one in the other, and then
           parse    drops the tree
@@ -25,7 +30,12 @@ depth   parses that many lists, one in the other, and then
         The status is 0 if it ends; a stack that is too small ends the process by a signal.
 build   builds a tree of that many tokens, with a new cache and once more with the same cache
 parse   parses the s-expressions of standard input, with a new cache and once more with the same cache
-intern  makes that many tokens, or nodes of two tokens, no two equal, and keeps them in a cache";
+intern  makes that many tokens, or nodes of two tokens, no two equal, and keeps them in a cache
+search  searches the child at so many ranges in a node over that many tokens, where
+          shared   equal tokens are one, as a cache makes them
+          own      each token has memory of its own
+edit    makes each edit of such a node so often, and copies its list of children as often;
+        what was made is dropped within the time";
 
 fn main(rt: HostRuntime) -> ExitCode {
     match run(&rt) {
@@ -49,6 +59,8 @@ fn run(rt: &HostRuntime) -> Result<()> {
         "build" => build(rt, number_at(words, 1)?),
         "parse" => parse(rt),
         "intern" => intern(rt, words),
+        "search" => search(rt, words),
+        "edit" => edit(rt, words),
         _ => bail!("there is no such command"),
     }
 }
@@ -104,6 +116,43 @@ fn intern(rt: &HostRuntime, words: &[String]) -> Result<()> {
         _ => bail!("tokens or nodes is missing"),
     }
     tell(rt, "new", start, &cache, TextSize::from(0))
+}
+
+/// The tokens that the words ask for, and how often something is done with them.
+fn tokens(rt: &HostRuntime, words: &[String]) -> Result<(Vec<GreenElement>, usize)> {
+    let word = words.get(1).map(|word| word.as_str());
+    let memory = word
+        .and_then(Memory::from_word)
+        .context("shared or own is missing")?;
+    let tokens = memory.tokens(rt.alloc(), number_at(words, 2)?)?;
+    Ok((tokens, number_at(words, 3)?))
+}
+
+fn search(rt: &HostRuntime, words: &[String]) -> Result<()> {
+    let (tokens, times) = tokens(rt, words)?;
+    let node = children::node(rt.alloc(), tokens)?;
+    let ranges = children::ranges(rt.alloc(), &node, times)?;
+    let mut steps = Steps::new();
+    let start = Instant::now(rt)?;
+    let found = children::search(&node, ranges.as_slice(), &mut steps);
+    let nanos = start.elapsed(rt)?.as_nanos();
+    let comparisons = steps.comparisons();
+    println!(rt; "search {nanos} ns, {found} found, {comparisons} comparisons")?;
+    Ok(())
+}
+
+fn edit(rt: &HostRuntime, words: &[String]) -> Result<()> {
+    let (tokens, times) = tokens(rt, words)?;
+    let node = children::node(rt.alloc(), tokens.clone()?)?;
+    for edit in Edit::ALL {
+        let start = Instant::now(rt)?;
+        edit.make_often(rt.alloc(), &node, times)?;
+        println!(rt; "{} {} ns", edit.word(), start.elapsed(rt)?.as_nanos())?;
+    }
+    let start = Instant::now(rt)?;
+    children::copy_often(&tokens, times)?;
+    println!(rt; "copy {} ns", start.elapsed(rt)?.as_nanos())?;
+    Ok(())
 }
 
 /// Prints what was done, and since when.

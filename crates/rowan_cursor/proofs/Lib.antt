@@ -4,5 +4,6 @@ pub mod LeafLemmas
 pub mod PathLemmas
 pub mod RowLemmas
 pub mod RowViews
+pub mod SizeLemmas
 pub mod TableLemmas
 pub mod TokenLemmas

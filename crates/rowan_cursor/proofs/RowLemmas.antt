@@ -18,7 +18,7 @@ numbers-last a (suc n) =
     let e : a + 1 + n ≡ a + suc n = omega arith in
     ap (λ ks. a ∷ ks) (numbers-last (a + 1) n) ∙ ap (λ k. a ∷ (numbers (a + 1) n ++ k ∷ [])) e
 
-row-last : (f : ℕ → Path) (a n : ℕ) → reverse (map f (numbers a (suc n))) ≡ f (a + n) ∷ reverse (map f (numbers a n))
+pub row-last : (f : ℕ → Path) (a n : ℕ) → reverse (map f (numbers a (suc n))) ≡ f (a + n) ∷ reverse (map f (numbers a n))
 row-last f a n =
     ap (λ ks. reverse (map f ks)) (numbers-last a n)
     ∙ ap reverse (map-append f (numbers a n) ((a + n) ∷ [])) ∙ reverse-append (map f (numbers a n)) (f (a + n) ∷ [])

@@ -10,11 +10,11 @@ use Rattle.rowan_green.specs.Term.{Term}
 use Rattle.rowan_green.specs.Path.{Path, subterm, offset, term_children}
 use Rattle.rowan_green.proofs.Paths.{offset-empty}
 use Rattle.rowan_cursor.specs.Cursor.{last_place}
-use Rattle.rowan_cursor.specs.Moves.{parent_path, numbers, below, child_count, children_of, is_node, child_paths, following, preceding}
+use Rattle.rowan_cursor.specs.Moves.{numbers, below, child_count, children_of, is_node, child_paths, following, preceding}
 use Rattle.rowan_cursor.specs.Table.{root_of, counts, path_within, path_at, IsTop, IsChildOf, IsFilling, IsTable, IsRow, IsRowBack, IsEntry, IsNodeEntry}
 use Rattle.rowan_cursor.specs.declared.tree.Entry.{Entry}
 use Rattle.rowan_cursor.proofs.RowLemmas.{map-reverse}
-use Rattle.rowan_cursor.proofs.PathLemmas.{parent_path-child, subterm-child, offset-child, last_place-child, following-child, preceding-child}
+use Rattle.rowan_cursor.proofs.PathLemmas.{subterm-child, offset-child, last_place-child, following-child, preceding-child}
 
 -- ---- lists
 
@@ -286,40 +286,3 @@ node_above es t n e at h =
     let a = above_of es t n e at h in
     let p = a.0 in
     ap is_node (stands es t.filling e.parent p a.1.above).green ∙ node_with_child p.green e.green e.index (t.filling.parents n e p at h a.1.above).child
-
--- ---- no two entries have the same path
-
-not_empty : (q : Path) (i : ℕ) → [] ≡ q ++ i ∷ [] → ⊥
-not_empty [] i e = cc
-not_empty (j ∷ q) i e = cc
-
-same_place : (es : List Entry) → IsTable es → (m n : ℕ) (d e p q : Entry) → HasAbove es m d p → HasAbove es n e q → d.parent ≡ e.parent → d.index ≡ e.index → m ≡ n
-same_place es t m n d e p q h k above index =
-    omega (arith, place es m d p t h, place es n e q t k, same_first p q (same_entry es d.parent e.parent p q h.above k.above above))
-
-path_at-same_within : (es : List Entry) → IsTable es → (steps m n : ℕ) → m ≤ steps → m < length es → n < length es → path_at es m ≡ path_at es n → m ≡ n
-path_at-same_within es t steps zero zero h a b e = refl
-path_at-same_within es t steps zero (suc n) h a b e =
-    let found = slice_get-some es (suc n) b in
-    absurd (not_empty (path_at es found.0.parent) found.0.index (e ∙ path_at-child es t.filling (suc n) found.0 found.1 (omega arith)))
-path_at-same_within es t steps (suc m) zero h a b e =
-    let found = slice_get-some es (suc m) a in
-    absurd (not_empty (path_at es found.0.parent) found.0.index (sym e ∙ path_at-child es t.filling (suc m) found.0 found.1 (omega arith)))
-path_at-same_within es t zero (suc m) (suc n) h a b e = absurd (omega arith)
-path_at-same_within es t (suc steps) (suc m) (suc n) h a b e =
-    let d = slice_get-some es (suc m) a in
-    let g = slice_get-some es (suc n) b in
-    let p = above_of es t (suc m) d.0 d.1 (omega arith) in
-    let q = above_of es t (suc n) g.0 g.1 (omega arith) in
-    let dl : d.0.parent < suc m = t.filling.earlier (suc m) d.0 d.1 (omega arith) in
-    let gl : g.0.parent < suc n = t.filling.earlier (suc n) g.0 g.1 (omega arith) in
-    let both : path_at es d.0.parent ++ d.0.index ∷ [] ≡ path_at es g.0.parent ++ g.0.index ∷ [] =
-    sym (path_at-child es t.filling (suc m) d.0 d.1 (omega arith)) ∙ e ∙ path_at-child es t.filling (suc n) g.0 g.1 (omega arith) in
-    let index : d.0.index ≡ g.0.index = sym (last_place-child (path_at es d.0.parent) d.0.index) ∙ ap last_place both ∙ last_place-child (path_at es g.0.parent) g.0.index in
-    let paths : path_at es d.0.parent ≡ path_at es g.0.parent =
-    same_Some (path_at es d.0.parent) (path_at es g.0.parent) (sym (parent_path-child (path_at es d.0.parent) d.0.index) ∙ ap parent_path both ∙ parent_path-child (path_at es g.0.parent) g.0.index) in
-    let above : d.0.parent ≡ g.0.parent = path_at-same_within es t steps d.0.parent g.0.parent (omega arith) (omega arith) (omega arith) paths in
-    same_place es t (suc m) (suc n) d.0 g.0 p.0 q.0 p.1 q.1 above index
-
-pub path_at-same : (es : List Entry) → IsTable es → (m n : ℕ) → m < length es → n < length es → path_at es m ≡ path_at es n → m ≡ n
-path_at-same es t m n a b e = path_at-same_within es t m m n (omega arith) a b e

@@ -2,7 +2,7 @@
 use Rattle.std.proofs.Common.{◌≡◌, ◌≢◌, ℕ, zero, suc, ◌+◌, ◌-◌, ◌<◌, true, false, cond, List, [], ◌∷◌, ◌++◌, map, length, filter, Option, Some, None, take, drop, reverse, inl, inr, refl, sym, ◌∙◌, ap, arith, length-append, append_assoc}
 use Rattle.std.specs.Prelude.{slice_get}
 use Rattle.std.proofs.lemmas.Bool.{cases_lt, true≢false}
-use Rattle.std.proofs.lemmas.List.{append-nil, length-take, map-append, reverse-append}
+use Rattle.std.proofs.lemmas.List.{append-nil, length-take, reverse-append}
 use Rattle.std.proofs.lemmas.List.Elements.{filter-append}
 use Rattle.std.proofs.lemmas.Option.{slice_get_past}
 use Rattle.rowan_green.specs.declared.utility_types.NodeOrToken.TheVariants.{Node, Token}
@@ -15,6 +15,7 @@ use Rattle.rowan_cursor.specs.Table.{IsFilling, IsTable, root_of, path_at}
 use Rattle.rowan_cursor.specs.declared.tree.Entry.{Entry}
 use Rattle.rowan_cursor.proofs.PathLemmas.{last-split, parent_path-child, last_place-child, following-child, preceding-child, begins-rest, begins-own, begins-same, subterm-child}
 use Rattle.rowan_cursor.proofs.LeafLemmas.{after-child, rest-child, rest-none, before-child, upto-child, upto-none, upto-all, leaf_list-node, element_list-term, filter_same, filter_row-const, filter-row, not-begins, find-first, find-last, last_at, first_leaf-below, last_leaf-below, next_leaf-rest, prev_leaf-before}
+use Rattle.rowan_cursor.proofs.RowLemmas.{map-reverse, row-last}
 use Rattle.rowan_cursor.proofs.TableLemmas.{slice_get-some, path_at-child, is_entry}
 
 -- The first of a list of children, and the last.
@@ -26,45 +27,23 @@ below-none : (p : Path) (a d : ℕ) → ◌≡◌ {A = Option Path} None (first_
 below-none p a zero h = refl
 below-none p a (suc d) h = absurd cc
 
-numbers-last : (a n : ℕ) → numbers a (suc n) ≡ numbers a n ++ (a + n) ∷ []
-numbers-last a zero = let e : a ≡ a + 0 = omega arith in ap (λ k. k ∷ []) e
-numbers-last a (suc n) =
-    let e : a + 1 + n ≡ a + suc n = omega arith in
-    ap (λ ks. a ∷ ks) (numbers-last (a + 1) n) ∙ ap (λ k. a ∷ (numbers (a + 1) n ++ k ∷ [])) e
-
-numbers-back : (n : ℕ) → reverse (numbers 0 (suc n)) ≡ n ∷ reverse (numbers 0 n)
-numbers-back n =
-    let e : 0 + n ≡ n = omega arith in
-    ap reverse (numbers-last 0 n) ∙ reverse-append (numbers 0 n) ((0 + n) ∷ []) ∙ ap (λ k. k ∷ reverse (numbers 0 n)) e
-
 below-back : (p : Path) (n : ℕ) → reverse (below p (numbers 0 (suc n))) ≡ (p ++ n ∷ []) ∷ reverse (below p (numbers 0 n))
 below-back p n =
     let e : 0 + n ≡ n = omega arith in
-    ap (λ ks. reverse (below p ks)) (numbers-last 0 n) ∙ ap reverse (map-append (λ i. p ++ i ∷ []) (numbers 0 n) ((0 + n) ∷ [])) ∙ reverse-append (below p (numbers 0 n)) ((p ++ (0 + n) ∷ []) ∷ []) ∙ ap (λ k. (p ++ k ∷ []) ∷ reverse (below p (numbers 0 n))) e
-
-nearest-first : (p : Path) (n : ℕ) (s : Path) → Some s ≡ first_at (below p (reverse (numbers 0 n))) → (j : ℕ) × (n ≡ suc j) × (s ≡ p ++ j ∷ [])
-nearest-first p zero s h = absurd cc
-nearest-first p (suc j) s h =
-    let x : Some s ≡ Some (p ++ j ∷ []) = h ∙ ap (λ ks. first_at (below p ks)) (numbers-back j) in
-    (j, refl, cc)
-
-nearest-none : (p : Path) (n : ℕ) → ◌≡◌ {A = Option Path} None (first_at (below p (reverse (numbers 0 n)))) → n ≡ 0
-nearest-none p zero h = refl
-nearest-none p (suc j) h =
-    let x : ◌≡◌ {A = Option Path} None (Some (p ++ j ∷ [])) = h ∙ ap (λ ks. first_at (below p ks)) (numbers-back j) in
-    absurd cc
+    row-last (λ i. p ++ i ∷ []) 0 n ∙ ap (λ k. (p ++ k ∷ []) ∷ reverse (below p (numbers 0 n))) e
 
 below-last : (p : Path) (n : ℕ) (s : Path) → Some s ≡ first_at (reverse (below p (numbers 0 n))) → (j : ℕ) × (n ≡ suc j) × (s ≡ p ++ j ∷ [])
 below-last p zero s h = absurd cc
-below-last p (suc j) s h =
-    let x : Some s ≡ Some (p ++ j ∷ []) = h ∙ ap first_at (below-back p j) in
-    (j, refl, cc)
+below-last p (suc j) s h = let x : Some s ≡ Some (p ++ j ∷ []) = h ∙ ap first_at (below-back p j) in (j, refl, cc)
 
 below-last_none : (p : Path) (n : ℕ) → ◌≡◌ {A = Option Path} None (first_at (reverse (below p (numbers 0 n)))) → n ≡ 0
 below-last_none p zero h = refl
 below-last_none p (suc j) h =
     let x : ◌≡◌ {A = Option Path} None (Some (p ++ j ∷ [])) = h ∙ ap first_at (below-back p j) in
     absurd cc
+
+nearest : (p : Path) (n : ℕ) → first_at (below p (reverse (numbers 0 n))) ≡ first_at (reverse (below p (numbers 0 n)))
+nearest p n = ap first_at (map-reverse (λ i. p ++ i ∷ []) (numbers 0 n))
 
 -- Inside an element.
 same_parent : (p q : Path) (i j : ℕ) → p ++ i ∷ [] ≡ q ++ j ∷ [] → p ≡ q
@@ -115,7 +94,7 @@ pub has_before : (root : NodeTerm) (p s : Path) → Some s ≡ first_at (precedi
 has_before root p s h = elim (last-split p) [
   | inl e ↦ absurd (let x : ◌≡◌ {A = Option Path} (Some s) None = h ∙ ap (λ u. first_at (preceding root u)) e in cc)
   | inr t ↦ (
-      let f = nearest-first t.0 t.1 s (h ∙ ap (λ u. first_at (preceding root u)) t.2 ∙ ap first_at (preceding-child root t.0 t.1)) in
+      let f = below-last t.0 t.1 s (h ∙ ap (λ u. first_at (preceding root u)) t.2 ∙ ap first_at (preceding-child root t.0 t.1) ∙ nearest t.0 t.1) in
       record { parent = t.0; place = f.0; here = t.2 ∙ ap (λ k. t.0 ++ k ∷ []) f.1; there = f.2 })
 ]
 
@@ -175,7 +154,7 @@ climb_behind root p q h e g =
 pub climb_before : (root : NodeTerm) (p q : Path) → ◌≡◌ {A = Option Path} None (first_at (preceding root p)) → Some q ≡ parent_path p → (g : Lists) → before g (Some (Node root)) p ≡ before g (Some (Node root)) q
 climb_before root p q h e g =
     let t = split-parent p q e in
-    let none = nearest-none q t.0 (h ∙ ap (λ u. first_at (preceding root u)) t.1 ∙ ap first_at (preceding-child root q t.0)) in
+    let none = below-last_none q t.0 (h ∙ ap (λ u. first_at (preceding root u)) t.1 ∙ ap first_at (preceding-child root q t.0) ∙ nearest q t.0) in
     ap (before g (Some (Node root))) t.1 ∙ before-child g (Some (Node root)) q t.0 ∙ ap (upto g (Some (Node root)) q) none ∙ upto-none g (Some (Node root)) q
 
 pub first_child-inside : (root : NodeTerm) (top p s : Path) → begins top p ≡ true → Some s ≡ first_at (child_paths root p) → begins top s ≡ true

@@ -2,4 +2,5 @@
 #![tactic(auto)]
 
 pub mod cursor;
+pub mod laws;
 mod tree;

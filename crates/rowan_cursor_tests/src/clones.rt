@@ -1,29 +1,26 @@
 //! Clones of subtrees, in the tree of `(+ (* 15 2) 62)`.
-use crate::fixture::{ATOM, Call, LIST, ROOT, node, node_at, root_of};
+use crate::fixture::{Call, LIST, ROOT, node, node_at, root_of};
 use std::test::Fail;
 
-const SUM: [Call; 22] = [
+const SUM: [Call; 19] = [
     Call::Open(ROOT),
     Call::Open(LIST),
     Call::Word("("),
-    Call::Word("+"),
+    Call::Atom("+"),
     Call::Word(" "),
     Call::Open(LIST),
     Call::Word("("),
-    Call::Word("*"),
+    Call::Atom("*"),
     Call::Word(" "),
-    Call::Open(ATOM),
-    Call::Word("15"),
-    Call::Close,
+    Call::Atom("15"),
     Call::Word(" "),
-    Call::Word("2"),
+    Call::Atom("2"),
     Call::Word(")"),
     Call::Close,
     Call::Word(" "),
-    Call::Word("62"),
+    Call::Atom("62"),
     Call::Word(")"),
     Call::Close,
-    Call::Word(""),
     Call::Close,
 ];
 
@@ -31,11 +28,11 @@ const SUM: [Call; 22] = [
 fn cloned_subtree(rt: HostRuntime) -> Result<(), Fail> {
     let root = root_of(rt.alloc(), SUM.as_slice())?;
     let inner = node_at(&root, &[0, 3])?;
-    let copy = inner.clone_subtree(rt.alloc())?;
+    let copy = inner.clone_subtree()?;
     assert_eq!(rt; copy.index(), 0);
     assert_eq!(rt; node(copy.parent()?), None);
     assert!(rt; copy != inner);
-    assert!(rt; copy == inner.clone_subtree(rt.alloc())?);
+    assert!(rt; copy == inner.clone_subtree()?);
     assert_eq!(rt; node(Some(inner)), Some((LIST, 3, 11)));
     assert_eq!(rt; node(Some(copy)), Some((LIST, 0, 8)));
     Ok(())

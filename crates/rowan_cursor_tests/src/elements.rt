@@ -33,6 +33,9 @@ fn elements_come_from_cursors(rt: HostRuntime) -> Result<(), Fail> {
     let root = root_of(rt.alloc(), MIXED.as_slice())?;
     let a = root.first_token()?.ok_or("no token")?;
     assert_eq!(rt; element(Some(SyntaxElement::from(a))), Some((WORD, 0, 1)));
-    assert_eq!(rt; element(Some(SyntaxElement::from(root))), Some((ROOT, 0, 4)));
+    assert_eq!(rt;
+        element(Some(SyntaxElement::from(root))),
+        Some((ROOT, 0, 4))
+    );
     Ok(())
 }

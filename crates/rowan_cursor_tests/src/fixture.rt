@@ -1,6 +1,7 @@
 //! Trees for the tests, and what cursors show of themselves.
 ghost use Rattle.std.specs.Iterator.{IsFinite};
 
+use rowan::builder::CacheHome;
 use rowan::cursor::{ElementCalls, SyntaxElement, SyntaxNode, SyntaxToken};
 use rowan::text::TextRange;
 use rowan::{Fault, GreenNode, GreenNodeBuilder, NodeOrToken, SyntaxKind};
@@ -20,13 +21,20 @@ pub const WORD: u16 = 3;
 pub enum Call {
     Open(u16),
     Word(&'static str),
+    /// A node over one word.
+    Atom(&'static str),
     Close,
 }
 
-fn make(builder: &mut GreenNodeBuilder<'_>, call: Call) -> Result<(), Fault> {
+fn make<H: CacheHome>(builder: &mut GreenNodeBuilder<'_, H>, call: Call) -> Result<(), Fault> {
     match call {
         Call::Open(kind) => builder.start_node(SyntaxKind(kind)),
         Call::Word(text) => builder.token(SyntaxKind(WORD), text),
+        Call::Atom(text) => {
+            builder.start_node(SyntaxKind(ATOM))?;
+            builder.token(SyntaxKind(WORD), text)?;
+            builder.finish_node()
+        }
         Call::Close => builder.finish_node(),
     }
 }

@@ -5,16 +5,14 @@ use crate::fixture::{
 use rowan::Direction;
 use std::test::Fail;
 
-pub const MIXED: [Call; 10] = [
+pub const MIXED: [Call; 8] = [
     Call::Open(ROOT),
     Call::Word("a"),
     Call::Open(LIST),
     Call::Word("b"),
     Call::Close,
     Call::Word(" "),
-    Call::Open(ATOM),
-    Call::Word("c"),
-    Call::Close,
+    Call::Atom("c"),
     Call::Close,
 ];
 

@@ -1,5 +1,5 @@
 //! What is asked of an element and leaves the cursor there.
-ghost use Rattle.std.specs.Prelude.{IfOk};
+ghost use Rattle.std.specs.Prelude.{◌≡◌, IfOk, IfErr};
 ghost use Rattle.rowan_green.specs.Term.{node_children};
 ghost use Rattle.rowan_script.specs.Moves.{listed};
 ghost use Rattle.rowan_script.specs.Steps.{AnswersAt, AnswersEdit, AnswersGreen, AnswersListing, AnswersSearch};
@@ -21,7 +21,8 @@ pub enum Place {
 impl Place {
     /// Searches the children of the green node.
     pub fn search<'a>(&self, range: TextRange) -> Result<Answer<'a>, Fault>
-        ensures { IfOk result (AnswersAt (AnswersGreen (λ n. AnswersSearch (node_children n) range)) self.now) }
+        ensures ok { IfOk result (AnswersAt (AnswersGreen (λ n. AnswersSearch (node_children n) range)) self.now) }
+        ensures err { IfErr result (λ e. e ≡ Fault.Memory) }
     {
         match self {
             Place::At(NodeOrToken::Node(node)) => search(node.green(), range),
@@ -43,7 +44,8 @@ impl Place {
 
     /// Lists elements around the cursor.
     pub fn list<'a>(&self, alloc: Global, listing: Listing) -> Result<Answer<'a>, Fault>
-        ensures { IfOk result (AnswersAt (λ e. AnswersListing (listed listing e)) self.now) }
+        ensures ok { IfOk result (AnswersAt (λ e. AnswersListing (listed listing e)) self.now) }
+        ensures err { IfErr result (λ e. e ≡ Fault.Memory) }
     {
         let Place::At(element) = self else {
             return Ok(Answer::Unsupported);
@@ -56,7 +58,8 @@ impl Place {
 }
 
 fn search<'a>(node: &GreenNode, range: TextRange) -> Result<Answer<'a>, Fault>
-    ensures { IfOk result (AnswersSearch (node_children node.now) range) }
+    ensures ok { IfOk result (AnswersSearch (node_children node.now) range) }
+    ensures err { IfErr result (λ e. e ≡ Fault.Memory) }
 {
     match node.child_at_range(range, &mut Steps::new()) {
         Some((index, offset, child)) => Ok(Answer::Child(index, offset, child.to_owned()?)),

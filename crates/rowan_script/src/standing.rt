@@ -1,5 +1,5 @@
 //! The steps of a case, behind its building part.
-ghost use Rattle.std.specs.Prelude.{◌≡◌, IfOk, OnOk, Some, unwrap_or};
+ghost use Rattle.std.specs.Prelude.{◌≡◌, IfOk, IfErr, OnOk, Some, unwrap_or};
 
 use crate::answer::Answer;
 use crate::instruction::{Listing, Move, Step};
@@ -33,6 +33,7 @@ impl Standing {
     pub fn new(alloc: Global, root: GreenNode) -> Result<Standing, Fault>
         ensures place { IfOk result (λ s. s.place ≡ At (Node (cursor_at root []))) }
         ensures kept { IfOk result (λ s. IsEmpty s.kept) }
+        ensures err { IfErr result (λ e. e ≡ Fault.Memory) }
     {
         let root = SyntaxNode::new_root(alloc, root)?;
         Ok(Standing {
@@ -41,9 +42,10 @@ impl Standing {
         })
     }
 
-    /// Answers a step, and goes where it leads.
+    /// Answers a step, and goes where it leads. Refused only for want of memory.
     pub fn answer<'a>(&mut self, alloc: Global, step: &Step) -> Result<Answer<'a>, Fault>
         ensures answers { IfOk result (Answers self.old step.now) }
+        ensures err { IfErr result (λ e. e ≡ Fault.Memory) }
         ensures place { OnOk result (self.new.place ≡ place_behind self.old step.now) }
         ensures kept { OnOk result (KeptBehind self.old step.now self.new) }
     {
@@ -51,7 +53,7 @@ impl Standing {
             Step::GreenChildAt(range) => self.place.search(*range),
             Step::GreenEdit(edit) => Ok(self.place.edit(edit)),
             Step::Listing(listing) => self.place.list(alloc, *listing),
-            Step::Move(way) => self.go(alloc, way),
+            Step::Move(way) => self.go(way),
             Step::Save(slot) => self.save(*slot),
             Step::Load(slot) => self.load(*slot),
             Step::Same(slot) => Ok(self.compare(*slot)),
@@ -63,15 +65,16 @@ impl Standing {
         }
     }
 
-    fn go<'a>(&mut self, alloc: Global, way: &Move) -> Result<Answer<'a>, Fault>
+    fn go<'a>(&mut self, way: &Move) -> Result<Answer<'a>, Fault>
         ensures answers { IfOk result (AnswersAt (λ e a. a ≡ move_answer (moved way.now e)) self.old.place) }
+        ensures err { IfErr result (λ e. e ≡ Fault.Memory) }
         ensures place { OnOk result (self.new.place ≡ place_moved (moved way.now) self.old.place) }
         ensures kept { OnOk result (self.new.kept ≡ self.old.kept) }
     {
         let Place::At(current) = &self.place else {
             return Ok(Answer::Unsupported);
         };
-        let Some(found) = way.make(alloc, current)? else {
+        let Some(found) = way.make(current)? else {
             return Ok(Answer::Nowhere);
         };
         self.place = Place::At(found.clone()?);
@@ -80,6 +83,7 @@ impl Standing {
 
     fn save<'a>(&mut self, slot: u32) -> Result<Answer<'a>, Fault>
         ensures answers { IfOk result (λ a. a ≡ Saved) }
+        ensures err { IfErr result (λ e. e ≡ Fault.Memory) }
         ensures place { OnOk result (self.new.place ≡ self.old.place) }
         ensures kept { OnOk result (Updates nat_cmp self.old.kept self.new.kept slot (Some self.old.place)) }
     {
@@ -90,6 +94,7 @@ impl Standing {
 
     fn load<'a>(&mut self, slot: u32) -> Result<Answer<'a>, Fault>
         ensures answers { IfOk result (λ a. a ≡ load_answer (kept_at self.old slot)) }
+        ensures err { IfErr result (λ e. e ≡ Fault.Memory) }
         ensures place { OnOk result (self.new.place ≡ unwrap_or (kept_at self.old slot) self.old.place) }
         ensures kept { OnOk result (self.new.kept ≡ self.old.kept) }
     {

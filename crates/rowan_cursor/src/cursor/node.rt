@@ -79,11 +79,11 @@ impl SyntaxNode {
     }
 
     /// The root of a new tree, which has the green node of this one.
-    pub fn clone_subtree(&self, alloc: Global) -> Result<SyntaxNode, Fault>
+    pub fn clone_subtree(&self) -> Result<SyntaxNode, Fault>
         ensures ok { IfOk result (λ n. (green : NodeTerm) → StandsAt self.now green → n ≡ record { root = green; path = [] }) }
         ensures err { IfErr result (λ e. e ≡ Fault.Memory) }
     {
-        SyntaxNode::new_root(alloc, self.green().clone()?)
+        SyntaxNode::new_root(self.tree.allocator(), self.green().clone()?)
     }
 
     /// The kind of the node.

@@ -11,8 +11,14 @@ use super::Tree;
 use rowan_green::green::{GreenNode, GreenToken};
 use rowan_green::text::TextRange;
 use rowan_green::utility_types::NodeOrToken;
+use std::alloc::Global;
 
 impl Tree {
+    /// The allocator with which the table was made.
+    pub(crate) fn allocator(&self) -> Global {
+        *self.entries.allocator()
+    }
+
     /// Where the text lies in that of the root.
     pub(crate) fn text_range(&self, number: usize) -> TextRange
         requires { number < length self.now.entries.items }

@@ -1,4 +1,4 @@
-//! From token to token, past nodes without any. Each element on the way is passed once, and only going up again.
+//! From token to token, past nodes without any. On the way each element is entered once, and climbing looks at ancestors alone.
 ghost use Rattle.std.specs.Prelude.{◌≡◌, ◌<◌, true, IfSome, IfNone, Some, None, length};
 ghost use Rattle.std.specs.Option.{option_map};
 ghost use Rattle.rowan_green.specs.declared.utility_types.NodeOrToken.TheVariants.{Node};

@@ -1,8 +1,9 @@
 //! The lists of elements around a cursor.
-ghost use Rattle.std.specs.Prelude.{◌≡◌, IfOk, List, Ok, map};
+ghost use Rattle.std.specs.Prelude.{◌≡◌, ◌⊎◌, IfOk, IfErr, List, Ok, map};
 ghost use Rattle.std.specs.Option.{option_map};
 ghost use Rattle.std.specs.Iterator.{Drains, IsFinite};
 ghost use Rattle.rowan_cursor.specs.Cursor.{Cursor};
+ghost use Rattle.rowan_script.specs.Gives.{GivesRefusal};
 ghost use Rattle.rowan_script.specs.Moves.{listed, listed_from_node, listed_from_token, node_list};
 
 use crate::operand;
@@ -42,7 +43,8 @@ impl Listing {
         alloc: Global,
         from: &SyntaxElement,
     ) -> Result<Option<Vec<SyntaxElement>>, Fault>
-        ensures { IfOk result (λ found. option_map (λ es. es.items) found ≡ listed self from.now) }
+        ensures ok { IfOk result (λ found. option_map (λ es. es.items) found ≡ listed self from.now) }
+        ensures err { IfErr result (λ e. e ≡ Fault.Memory) }
     {
         match from {
             NodeOrToken::Node(node) => Ok(Some(self.at_node(alloc, node)?)),
@@ -51,7 +53,8 @@ impl Listing {
     }
 
     fn at_node(self, alloc: Global, node: &SyntaxNode) -> Result<Vec<SyntaxElement>, Fault>
-        ensures { IfOk result (λ es. es.items ≡ listed_from_node self node.now) }
+        ensures ok { IfOk result (λ es. es.items ≡ listed_from_node self node.now) }
+        ensures err { IfErr result (λ e. e ≡ Fault.Memory) }
     {
         match self {
             Listing::Children => nodes(alloc, node.children()),
@@ -69,7 +72,8 @@ impl Listing {
         alloc: Global,
         token: &SyntaxToken,
     ) -> Result<Option<Vec<SyntaxElement>>, Fault>
-        ensures { IfOk result (λ found. option_map (λ es. es.items) found ≡ listed_from_token self token.now) }
+        ensures ok { IfOk result (λ found. option_map (λ es. es.items) found ≡ listed_from_token self token.now) }
+        ensures err { IfErr result (λ e. e ≡ Fault.Memory) }
     {
         match self {
             Listing::Ancestors => Ok(Some(nodes(alloc, token.ancestors())?)),
@@ -86,7 +90,8 @@ where
     I: Iterator<Item = Result<SyntaxElement, Fault>> + Drop,
     requires can { I.can_next items }
     requires ends { IsFinite (I.remaining items) }
-    ensures { IfOk result (λ es. Drains I.next_gives items (map (λ e. Ok e) es.items)) }
+    ensures ok { IfOk result (λ es. Drains I.next_gives items (map (λ e. Ok e) es.items)) }
+    ensures err { IfErr result (λ e. (e ≡ Fault.Memory) ⊎ GivesRefusal I.next_gives items e) }
 {
     let mut elements = Vec::new(alloc);
     for element in items {
@@ -100,7 +105,8 @@ where
     I: Iterator<Item = Result<SyntaxNode, Fault>> + Drop,
     requires can { I.can_next items }
     requires ends { IsFinite (I.remaining items) }
-    ensures { IfOk result (λ es. (cs : List Cursor) × Drains I.next_gives items (map (λ c. Ok c) cs) × (es.items ≡ node_list cs)) }
+    ensures ok { IfOk result (λ es. (cs : List Cursor) × Drains I.next_gives items (map (λ c. Ok c) cs) × (es.items ≡ node_list cs)) }
+    ensures err { IfErr result (λ e. (e ≡ Fault.Memory) ⊎ GivesRefusal I.next_gives items e) }
 {
     let mut nodes = Vec::new(alloc);
     for node in items {

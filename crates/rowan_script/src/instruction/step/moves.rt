@@ -57,17 +57,17 @@ impl Move {
     }
 
     /// Where the move leads. `None` where it finds nothing, and from a token also where tokens have no such call.
-    pub fn make(&self, alloc: Global, from: &SyntaxElement) -> Result<Option<SyntaxElement>, Fault>
+    pub fn make(&self, from: &SyntaxElement) -> Result<Option<SyntaxElement>, Fault>
         ensures ok { IfOk result (λ found. found ≡ moved self.now from.now) }
         ensures err { IfErr result (λ e. e ≡ Fault.Memory) }
     {
         match from {
-            NodeOrToken::Node(node) => self.at_node(alloc, node),
+            NodeOrToken::Node(node) => self.at_node(node),
             NodeOrToken::Token(token) => self.at_token(token),
         }
     }
 
-    fn at_node(&self, alloc: Global, node: &SyntaxNode) -> Result<Option<SyntaxElement>, Fault>
+    fn at_node(&self, node: &SyntaxNode) -> Result<Option<SyntaxElement>, Fault>
         ensures ok { IfOk result (λ found. found ≡ moved_from_node self.now node.now) }
         ensures err { IfErr result (λ e. e ≡ Fault.Memory) }
     {
@@ -85,7 +85,7 @@ impl Move {
             Move::FirstToken => Ok(as_token(node.first_token()?)),
             Move::LastToken => Ok(as_token(node.last_token()?)),
             Move::ElementAt(path) => element_at(node, path.as_slice()),
-            Move::CloneSubtree => root_of_clone(alloc, node),
+            Move::CloneSubtree => root_of_clone(node),
             Move::NextToken | Move::PrevToken => Ok(None),
         }
     }
@@ -120,11 +120,11 @@ fn as_token(token: Option<SyntaxToken>) -> Option<SyntaxElement>
 }
 
 /// The root of a new tree that has the green node of this one.
-fn root_of_clone(alloc: Global, node: &SyntaxNode) -> Result<Option<SyntaxElement>, Fault>
+fn root_of_clone(node: &SyntaxNode) -> Result<Option<SyntaxElement>, Fault>
     ensures ok { IfOk result (λ found. found ≡ own_root (term_at node.now)) }
     ensures err { IfErr result (λ e. e ≡ Fault.Memory) }
 {
     // Says that a node stands there.
     let _green = node.green();
-    Ok(Some(NodeOrToken::Node(node.clone_subtree(alloc)?)))
+    Ok(Some(NodeOrToken::Node(node.clone_subtree()?)))
 }

@@ -12,8 +12,8 @@ loop-node-preserved g c =
       c.in_ok-push.ensures.items ∙ more_given (λ n. Node n) before.0 _ node _ before.2 refl,
     )
 
-pub returns : goal.returns
-returns g c =
+pub returns-clause-ok : goal.returns-clause-ok
+returns-clause-ok g c =
     let all = c.loop-node.invariant in
     let gave = drained_by_loop g.I.Iterator.next_gives _ _ _ _ _ _ c.into_iter-node-iterator.ensures.into_iter_gives all.1 c.loop-node.yielded_by c.in-None.ensures.steps in
     (all.0, gave, all.2)
