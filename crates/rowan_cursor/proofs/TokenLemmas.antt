@@ -16,7 +16,7 @@ use Rattle.rowan_cursor.specs.declared.tree.Entry.{Entry}
 use Rattle.rowan_cursor.proofs.PathLemmas.{last-split, parent_path-child, last_place-child, following-child, preceding-child, begins-rest, begins-own, begins-same, subterm-child}
 use Rattle.rowan_cursor.proofs.LeafLemmas.{after-child, rest-child, rest-none, before-child, upto-child, upto-none, upto-all, leaf_list-node, element_list-term, filter_same, filter_row-const, filter-row, not-begins, find-first, find-last, last_at, first_leaf-below, last_leaf-below, next_leaf-rest, prev_leaf-before}
 use Rattle.rowan_cursor.proofs.RowLemmas.{map-reverse, row-last}
-use Rattle.rowan_cursor.proofs.TableLemmas.{slice_get-some, path_at-child, is_entry}
+use Rattle.rowan_cursor.proofs.TableLemmas.{slice_get-some, path_at-child, is_entry, kept-some}
 
 -- The first of a list of children, and the last.
 below-first : (p : Path) (a d : ℕ) (s : Path) → Some s ≡ first_at (below p (numbers a d)) → (s ≡ p ++ a ∷ []) × (0 < d)
@@ -320,4 +320,6 @@ apart_paths es t m n i j apart h = apart (same_number es t.filling (suc m) m n (
 
 -- something stands at each path of a table
 pub stands_at : (es : List Entry) → IsTable es → (n : ℕ) → n < length es → (u : Term) × (subterm (Node (root_of es)) (path_at es n) ≡ Some u)
-stands_at es t n i = let e = slice_get-some es n i in (e.0.green, (is_entry es t n e.0 e.1).green)
+stands_at es t n i =
+    let e = slice_get-some es n i in
+    kept-some (subterm (Node (root_of es)) (path_at es n)) e.0.green (is_entry es t n e.0 e.1).green

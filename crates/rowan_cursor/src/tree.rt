@@ -15,19 +15,18 @@ ghost use Rattle.rowan_cursor.specs.TableProp.{IsTable-prop};
 
 use fill::Draft;
 use rowan_green::fault::Fault;
-use rowan_green::green::{GreenElement, GreenNode};
+use rowan_green::green::GreenNode;
 use rowan_green::text::TextSize;
-use rowan_green::utility_types::NodeOrToken;
 use std::alloc::Global;
 
-/// A node or token of a tree, and its place there. The root is its own parent.
+/// A node or token of a tree, and its place there. The root is its own parent. A token's entry keeps no handle: the token is
+/// lent by its parent.
 #[derive(Drop)]
 pub(crate) struct Entry {
-    pub(crate) green: GreenElement,
+    pub(crate) green: Option<GreenNode>,
     pub(crate) parent: usize,
     pub(crate) first_child: usize,
     pub(crate) index: u32,
-    pub(crate) child_count: u32,
     pub(crate) offset: TextSize,
 }
 
@@ -66,7 +65,7 @@ impl Tree {
         requires { number < length self.now.entries.items }
         ensures { result ≡ is_node_at (root_of self.now.entries.items) (path_at self.now.entries.items number) }
     {
-        matches!(self.entry(number).green, NodeOrToken::Node(_))
+        matches!(self.entry(number).green, Some(_))
     }
 
     /// The parent.

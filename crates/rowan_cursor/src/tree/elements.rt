@@ -2,13 +2,14 @@
 ghost use Rattle.std.specs.Prelude.{◌≡◌, ◌<◌, IfSome, length, slice_get, Some};
 ghost use Rattle.std.specs.Option.{option_map};
 ghost use Rattle.rowan_green.specs.declared.utility_types.NodeOrToken.TheVariants.{Node, Token};
+ghost use Rattle.rowan_green.specs.Lent.{pointee};
 ghost use Rattle.rowan_green.specs.Path.{range, subterm};
 ghost use Rattle.rowan_cursor.specs.CursorView.{HasNode, HasToken};
 ghost use Rattle.rowan_cursor.specs.Moves.{child_paths};
 ghost use Rattle.rowan_cursor.specs.Table.{root_of, path_at};
 
 use super::Tree;
-use rowan_green::green::{GreenNode, GreenToken};
+use rowan_green::green::{GreenElementRef, GreenNode, GreenToken};
 use rowan_green::text::TextRange;
 use rowan_green::utility_types::NodeOrToken;
 use std::alloc::Global;
@@ -25,7 +26,7 @@ impl Tree {
         ensures { let es = self.now.entries.items in result ≡ range (Node (root_of es)) (path_at es number) }
     {
         let entry = self.entry(number);
-        TextRange::at(entry.offset, entry.green.text_len())
+        TextRange::at(entry.offset, self.element(number).text_len())
     }
 
     /// The child at an index, tokens counted.
@@ -47,8 +48,8 @@ impl Tree {
         ensures { let es = self.now.entries.items in subterm (Node (root_of es)) (path_at es number) ≡ Some (Node result.now) }
     {
         match &self.entry(number).green {
-            NodeOrToken::Node(node) => node,
-            NodeOrToken::Token(_) => unreachable!(),
+            Some(node) => node,
+            None => unreachable!(),
         }
     }
 
@@ -57,9 +58,27 @@ impl Tree {
         requires { HasToken self.now.entries.items number }
         ensures { let es = self.now.entries.items in subterm (Node (root_of es)) (path_at es number) ≡ Some (Token result.now) }
     {
-        match &self.entry(number).green {
+        match self.element(number) {
             NodeOrToken::Node(_) => unreachable!(),
             NodeOrToken::Token(token) => token,
         }
+    }
+
+    /// The node or token.
+    pub(crate) fn element(&self, number: usize) -> GreenElementRef<'_>
+        requires { number < length self.now.entries.items }
+        ensures { let es = self.now.entries.items in subterm (Node (root_of es)) (path_at es number) ≡ Some (pointee result) }
+    {
+        let entry = self.entry(number);
+        if let Some(node) = &entry.green {
+            return NodeOrToken::Node(node);
+        }
+        let Some(parent) = &self.entry(entry.parent).green else {
+            unreachable!();
+        };
+        let Some(found) = parent.child_ref(entry.index as usize) else {
+            unreachable!();
+        };
+        found.1
     }
 }
