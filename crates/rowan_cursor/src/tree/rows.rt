@@ -2,7 +2,7 @@
 ghost use Rattle.std.specs.Prelude.{◌≡◌, ◌+◌, ◌-◌, ◌<◌, ◌≤◌, IfSome, Some, length, map, reverse, slice_get};
 ghost use Rattle.std.specs.Option.{option_map};
 ghost use Rattle.rowan_cursor.specs.Moves.{numbers, first_at, first_node_at, child_paths, following, preceding};
-ghost use Rattle.rowan_cursor.specs.Table.{IsNodeEntry, IsRow, IsRowBack, children_in, root_of, path_at};
+ghost use Rattle.rowan_cursor.specs.Table.{IsNodeEntry, IsRow, IsRowBack, children_in, green_of, root_of, path_at};
 ghost use Rattle.rowan_cursor.specs.declared.tree.Entry.{Entry};
 
 use super::Tree;
@@ -43,7 +43,7 @@ impl Tree {
     // Where the children end: where those of the next entry begin.
     fn children_end(&self, number: usize) -> usize
         requires { number < length self.now.entries.items }
-        ensures { (e : Entry) → slice_get self.now.entries.items number ≡ Some e → result ≡ e.first_child + length (children_in e.green) }
+        ensures { (e : Entry) → slice_get self.now.entries.items number ≡ Some e → result ≡ e.first_child + length (children_in (green_of e)) }
     {
         let len = self.entries.len();
         if number + 1 == len {
