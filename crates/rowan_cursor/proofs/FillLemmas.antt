@@ -10,7 +10,6 @@ use Rattle.rowan_green.specs.Lent.{into_node}
 use Rattle.rowan_green.specs.Search.{child_start}
 use Rattle.rowan_green.specs.Sizes.{term_size, terms_size}
 use Rattle.rowan_green.specs.Term.{NodeTerm, node, Term, terms, node_children, node_len, term_len, sum_of_lens}
-use Rattle.rowan_green.specs.Path.{term_children}
 use Rattle.rowan_green.proofs.Drops.{terms_size-node_children}
 use Rattle.rowan_green.proofs.Terms.{forest-terms, node_len-node_of}
 use Rattle.rowan_cursor.specs.Table.{node_in, root_of, green_of, offset_of, children_in, len_in, counts, IsTop, IsChildOf, IsFilling, GrowsBy}

@@ -1,5 +1,5 @@
 -- Laws of tables: what the local facts say of the paths that are read off by going up.
-use Rattle.std.proofs.Common.{◌≡◌, true, false, ℕ, zero, suc, ◌+◌, ◌-◌, ◌<◌, ◌≤◌, List, [], ◌∷◌, ◌++◌, map, reverse, length, take, Option, Some, None, refl, sym, ◌∙◌, ap, arith}
+use Rattle.std.proofs.Common.{◌≡◌, true, false, ℕ, zero, suc, ◌+◌, ◌-◌, ◌<◌, ◌≤◌, List, [], ◌∷◌, ◌++◌, map, reverse, length, take, Option, Some, None, refl, sym, ◌∙◌, ap, subst, arith}
 use Rattle.std.specs.Prelude.{slice_get}
 use Rattle.std.specs.Option.{option_map, option_map_or}
 use Rattle.std.proofs.lemmas.List.{take_all}
@@ -371,6 +371,14 @@ above_of es t n e at h =
         above = above.1;
       },
     )
+
+-- the siblings behind an entry end where the children of its parent do
+pub following_to : (es : List Entry) → IsTable es → (n : ℕ) (e : Entry) (end : ℕ) → slice_get es n ≡ Some e → 0 < n
+    → ((p : Entry) → slice_get es e.parent ≡ Some p → end ≡ p.first_child + length (children_in (green_of p))) → IsRow es (n + 1) end (following (root_of es) (path_at es n))
+following_to es t n e end at h ends =
+    let a = above_of es t n e at h in
+    let row = following_row es t n e a.0 a.1 in
+    subst (λ k. IsRow es (n + 1) k (following (root_of es) (path_at es n))) (sym (ends a.0 a.1.above)) row
 
 -- only a node has children
 node_with_child : (o : Option Term) (g k : Option NodeTerm) (i : ℕ) → option_map into_node o ≡ Some g → option_map into_node (slice_get (children_in g) i) ≡ Some k → is_node o ≡ true

@@ -2,7 +2,7 @@
 use Rattle.std.specs.Prelude.{List}
 use Rattle.std.specs.Coded.{coded_option}
 use Rattle.std.proofs.Props.{props}
-use Rattle.rowan_green.specs.Coding.{coded_node, coded_term}
+use Rattle.rowan_green.specs.Coding.{coded_node}
 use Rattle.rowan_cursor.specs.declared.tree.Entry.{Entry}
 use Rattle.rowan_cursor.specs.Table.{IsFilling, IsTable}
 

@@ -1,5 +1,4 @@
-use Rattle.std.proofs.Common.{◌≡◌, ◌+◌, Some, refl, sym, ◌∙◌, arith}
-use Rattle.std.specs.Prelude.{slice_get}
+use Rattle.std.proofs.Common.{◌+◌, refl, arith}
 use Rattle.std.proofs.lemmas.Option.{slice_get_read}
 use Rattle.rowan_cursor.proofs.TableLemmas.{row_end-next, row_end-last}
 use Rattle.rowan_cursor.proofs.tree.Tree.children_end.Goals as goal

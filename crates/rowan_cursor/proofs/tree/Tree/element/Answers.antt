@@ -1,4 +1,4 @@
-use Rattle.std.proofs.Common.{◌≡◌, ◌-◌, ◌<◌, length, Some, refl, ◌∙◌, ap, arith}
+use Rattle.std.proofs.Common.{◌-◌, length, refl, ◌∙◌, ap, arith}
 use Rattle.std.specs.Prelude.{slice_get}
 use Rattle.rowan_cursor.specs.Table.{children_in, green_in}
 use Rattle.rowan_cursor.proofs.TableLemmas.{child_of_above}

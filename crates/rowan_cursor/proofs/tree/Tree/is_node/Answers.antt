@@ -1,5 +1,4 @@
 use Rattle.std.proofs.Common.{Some, sym, ◌∙◌, ap}
-use Rattle.rowan_green.specs.Term.{Term}
 use Rattle.rowan_cursor.specs.Table.{green_in}
 use Rattle.rowan_cursor.proofs.TableLemmas.{kept-none}
 use Rattle.rowan_cursor.proofs.tree.Tree.is_node.Goals as goal
