@@ -1,18 +1,20 @@
 -- Laws of filling a table: what one more entry leaves true, and what is left to be done.
-use Rattle.std.proofs.Common.{◌≡◌, ℕ, zero, suc, ◌+◌, ◌<◌, ◌≤◌, ◌⊎◌, inl, inr, List, [], ◌∷◌, ◌++◌, map, length, take, drop, Some, refl, sym, ◌∙◌, ap, subst, arith, length-append, append_assoc}
-use Rattle.std.specs.Prelude.{slice_get}
+use Rattle.std.proofs.Common.{◌≡◌, ℕ, zero, suc, ◌+◌, ◌-◌, ◌<◌, ◌≤◌, ◌⊎◌, inl, inr, List, [], ◌∷◌, ◌++◌, map, length, take, drop, Some, refl, sym, ◌∙◌, ap, subst, arith, length-append, append_assoc}
+use Rattle.std.specs.Prelude.{Option, slice_get}
+use Rattle.std.specs.Option.{option_map}
 use Rattle.std.proofs.lemmas.List.{take-append-le, take_all, length-take-le, append-nil, map-append, length-map, take_more, drop-append-le}
 use Rattle.std.proofs.lemmas.Option.{slice_get_within, same_Some, get_or_from_slice_get}
 use Rattle.rowan_green.specs.declared.utility_types.NodeOrToken.TheVariants.{Node, Token}
-use Rattle.rowan_green.specs.Fits.{byte_limit, Fits}
+use Rattle.rowan_green.specs.Fits.{byte_limit, Fits, FitsNode}
+use Rattle.rowan_green.specs.Lent.{into_node}
 use Rattle.rowan_green.specs.Search.{child_start}
 use Rattle.rowan_green.specs.Sizes.{term_size, terms_size}
 use Rattle.rowan_green.specs.Term.{NodeTerm, node, Term, terms, node_children, node_len, term_len, sum_of_lens}
-use Rattle.rowan_green.specs.Path.{term_children}
 use Rattle.rowan_green.proofs.Drops.{terms_size-node_children}
 use Rattle.rowan_green.proofs.Terms.{forest-terms, node_len-node_of}
-use Rattle.rowan_cursor.specs.Table.{node_in, root_of, counts, IsTop, IsChildOf, IsFilling, GrowsBy}
+use Rattle.rowan_cursor.specs.Table.{node_in, root_of, green_of, offset_of, children_in, len_in, counts, IsTop, IsChildOf, IsFilling, GrowsBy}
 use Rattle.rowan_cursor.specs.declared.tree.Entry.{Entry}
+use Rattle.rowan_cursor.proofs.TableLemmas.{counts-more, child_end, sum_of_lens-children}
 
 -- ---- lists
 
@@ -39,21 +41,6 @@ counts-append (e ∷ es) ds = omega (arith, counts-append es ds)
 
 -- ---- lengths
 
-sum_of_lens-children : (t : Term) → sum_of_lens (term_children t) ≤ term_len t
-sum_of_lens-children (Node (node k f)) =
-    omega (arith, ap (λ g. node_len (node k g)) (forest-terms f), node_len-node_of k (terms f))
-sum_of_lens-children (Token t) = omega arith
-
-child_end-within : (ts : List Term) (i : ℕ) (t : Term) → slice_get ts i ≡ Some t → child_start ts i + term_len t ≤ sum_of_lens ts
-child_end-within [] i t e = absurd cc
-child_end-within (u ∷ ts) zero t e = omega (arith, ap term_len (same_Some u t e))
-child_end-within (u ∷ ts) (suc i) t e = omega (arith, child_end-within ts i t e)
-
--- where a child ends, its parent has not ended before
-pub child_end : (u : Term) (i : ℕ) (t : Term) → slice_get (term_children u) i ≡ Some t → child_start (term_children u) i + term_len t ≤ term_len u
-child_end u i t e =
-    omega (arith, child_end-within (term_children u) i t e, sum_of_lens-children u)
-
 pub Fits-len : (t : Term) → Fits t → term_len t ≤ byte_limit
 Fits-len (Node (node k f)) h =
     omega (arith, h.0.text, ap (λ g. node_len (node k g)) (forest-terms f), node_len-node_of k (terms f))
@@ -64,32 +51,24 @@ Fits-len (Token t) h = h
 pub record IsNextChild (es : List Entry) (p e : Entry) : Type 0 where
   pub above : slice_get es e.parent ≡ Some p
   pub is : IsChildOf p (length es) e
-  pub counted : e.child_count ≡ length (term_children e.green)
   pub first : e.first_child ≡ counts es + 1
-  pub end : e.offset + term_len e.green ≤ byte_limit
+  pub end : (offset_of e) + len_in (green_of e) ≤ byte_limit
 
 IsTop-push : (es : List Entry) (y e : Entry) → 0 < length es → IsTop es e → IsTop (es ++ y ∷ []) e
 IsTop-push es y e some t = record {
-  green = t.green ∙ ap (λ (n : NodeTerm). let u : Term = Node n in u) (sym (root_of-grown es (y ∷ []) some));
+  green = t.green ∙ ap (λ (n : NodeTerm). Some n) (sym (root_of-grown es (y ∷ []) some));
   start = t.start;
-  index = t.index;
 }
 
 IsChildOf-at : (p : Entry) (m n : ℕ) (d e : Entry) → IsChildOf p m d → n ≡ m → d ≡ e → IsChildOf p n e
 IsChildOf-at p m n d e c h k =
-    let here : IsChildOf p n d = record {
-      place = h ∙ c.place;
-      child = c.child;
-      start = c.start;
-    } in
-    subst (λ (x : Entry). IsChildOf p n x) k here
+    subst (λ (x : Entry). IsChildOf p n x) k (subst (λ i. IsChildOf p i d) (sym h) c)
 
 pub IsFilling-push : (es : List Entry) (p y : Entry) → IsFilling es → IsNextChild es p y → IsFilling (es ++ y ∷ [])
 IsFilling-push es p y t next = record {
   some = omega (arith, length-append es (y ∷ []), t.some);
   top = λ e at. elim (push_cases es y e 0 at) [ inl h ↦ IsTop-push es y e t.some (t.top e h.1) | inr h ↦ absurd (omega (arith, h.0, t.some)) ];
-  counted = λ n e at. elim (push_cases es y e n at) [ inl h ↦ t.counted n e h.1 | inr h ↦ subst (λ (x : Entry). x.child_count ≡ length (term_children x.green)) h.1 next.counted ];
-  ends = λ n e at. elim (push_cases es y e n at) [ inl h ↦ t.ends n e h.1 | inr h ↦ subst (λ (x : Entry). x.offset + term_len x.green ≤ byte_limit) h.1 next.end ];
+  ends = λ n e at. elim (push_cases es y e n at) [ inl h ↦ t.ends n e h.1 | inr h ↦ subst (λ (x : Entry). (offset_of x) + len_in (green_of x) ≤ byte_limit) h.1 next.end ];
   firsts = λ n e at. elim (push_cases es y e n at) [
     | inl h ↦ t.firsts n e h.1 ∙ ap (λ ds. counts ds + 1) (sym (take-append-le n es (y ∷ []) (omega (arith, h.0))))
     | inr h ↦
@@ -113,35 +92,43 @@ IsFilling-push es p y t next = record {
   ];
 }
 
-pub next_child : (es : List Entry) → IsFilling es → (p y : Entry) (n : NodeTerm) → slice_get es y.parent ≡ Some p → p.green ≡ Node n → length es ≡ p.first_child + y.index
-    → slice_get (node_children n) y.index ≡ Some y.green → y.offset ≡ p.offset + child_start (node_children n) y.index
-    → y.child_count ≡ length (term_children y.green) → y.first_child ≡ counts es + 1 → IsNextChild es p y
-next_child es t p y n at is place child start counted first =
-    let terms : term_children p.green ≡ node_children n = ap term_children is in
-    let here : slice_get (term_children p.green) y.index ≡ Some y.green = ap (λ ts. slice_get ts y.index) terms ∙ child in
-    let from : y.offset ≡ p.offset + child_start (term_children p.green) y.index = start ∙ ap (λ ts. p.offset + child_start ts y.index) (sym terms) in
+len_of-kept : (t : Term) → len_in (into_node t) ≤ term_len t
+len_of-kept (Node n) = omega arith
+len_of-kept (Token t) = omega arith
+
+pub next_child : (es : List Entry) → IsFilling es → (p y : Entry) (n : NodeTerm) (i : ℕ) (u : Term) → slice_get es y.parent ≡ Some p → (green_of p) ≡ Some n → length es ≡ p.first_child + i
+    → slice_get (node_children n) i ≡ Some u → (green_of y) ≡ into_node u → (offset_of y) ≡ (offset_of p) + child_start (node_children n) i
+    → y.first_child ≡ counts es + 1 → IsNextChild es p y
+next_child es t p y n i u at is place child kept start first =
+    let index : i ≡ length es - p.first_child = omega arith in
+    let terms : node_children n ≡ children_in (green_of p) = ap children_in (sym is) in
+    let here : option_map into_node (slice_get (node_children n) i) ≡ Some (green_of y) =
+    ap (option_map into_node) child ∙ ap (λ g. Some g) (sym kept) in
     record {
       above = at;
-      is = record { place = place; child = here; start = from };
-      counted = counted;
+      is = record {
+        place = omega arith;
+        child = ap (λ ts. option_map into_node (slice_get ts (length es - p.first_child))) (sym terms) ∙ ap (λ k. option_map into_node (slice_get (node_children n) k)) (sym index) ∙ here;
+        start = start ∙ ap (λ k. (offset_of p) + child_start (node_children n) k) index ∙ ap (λ ts. (offset_of p) + child_start ts (length es - p.first_child)) terms;
+      };
       first = first;
-      end = omega (arith, from, child_end p.green y.index y.green here, t.ends y.parent p at);
+      end = omega (arith, start, child_end (Node n) i u child, ap len_in is, t.ends y.parent p at, ap len_in kept, len_of-kept u);
     }
 
 -- ---- what was added
 
-GrowsBy-child : (old new : List Entry) (p y : Entry) → new ≡ old ++ y ∷ [] → slice_get (term_children p.green) y.index ≡ Some y.green → (t : Term) → slice_get (term_children p.green) y.index ≡ Some t
-    → GrowsBy old new (t ∷ [])
-GrowsBy-child old new p y grown is t child = record {
+GrowsBy-child : (old new : List Entry) (p y : Entry) (i : ℕ) (u : Term) → new ≡ old ++ y ∷ [] → (green_of y) ≡ into_node u → slice_get (children_in (green_of p)) i ≡ Some u
+    → (t : Term) → slice_get (children_in (green_of p)) i ≡ Some t → GrowsBy old new (t ∷ [])
+GrowsBy-child old new p y i u grown kept is t child = record {
   row = y ∷ [];
   grown = grown;
-  greens = ap (λ u. u ∷ []) (same_Some y.green t (sym is ∙ child));
+  greens = ap (λ g. g ∷ []) (kept ∙ ap into_node (same_Some u t (sym is ∙ child)));
 }
 
-pub GrowsBy-next : (old new : List Entry) (p y : Entry) → new ≡ old ++ y ∷ [] → slice_get old y.parent ≡ Some p → slice_get (term_children p.green) y.index ≡ Some y.green
-    → (e : Entry) (t : Term) → slice_get old y.parent ≡ Some e → slice_get (term_children e.green) y.index ≡ Some t → GrowsBy old new (t ∷ [])
-GrowsBy-next old new p y grown above is e t at child =
-    GrowsBy-child old new p y grown is t (subst (λ (x : Entry). slice_get (term_children x.green) y.index ≡ Some t) (same_Some e p (sym at ∙ above)) child)
+pub GrowsBy-next : (old new : List Entry) (p y : Entry) (i : ℕ) (u : Term) → new ≡ old ++ y ∷ [] → slice_get old y.parent ≡ Some p → (green_of y) ≡ into_node u → slice_get (children_in (green_of p)) i ≡ Some u
+    → (e : Entry) (t : Term) → slice_get old y.parent ≡ Some e → slice_get (children_in (green_of e)) i ≡ Some t → GrowsBy old new (t ∷ [])
+GrowsBy-next old new p y i u grown above kept is e t at child =
+    GrowsBy-child old new p y i u grown kept is t (subst (λ (x : Entry). slice_get (children_in (green_of x)) i ≡ Some t) (same_Some e p (sym at ∙ above)) child)
 
 pub GrowsBy-none : (es : List Entry) → GrowsBy es es []
 GrowsBy-none es = record {
@@ -154,7 +141,7 @@ pub GrowsBy-then : (a b c : List Entry) (ts us : List Term) → GrowsBy a b ts �
 GrowsBy-then a b c ts us g h = record {
   row = g.row ++ h.row;
   grown = h.grown ∙ ap (λ es. es ++ h.row) g.grown ∙ append_assoc a g.row h.row;
-  greens = map-append (λ e. e.green) g.row h.row ∙ ap (λ vs. vs ++ map (λ e. e.green) h.row) g.greens ∙ ap (λ vs. ts ++ vs) h.greens;
+  greens = map-append green_of g.row h.row ∙ ap (λ vs. vs ++ map green_of h.row) g.greens ∙ ap (λ vs. map into_node ts ++ vs) h.greens ∙ sym (map-append into_node ts us);
 }
 
 pub GrowsBy-at : (a b : List Entry) (ts : List Term) (n : ℕ) (e : Entry) → GrowsBy a b ts → slice_get a n ≡ Some e → slice_get b n ≡ Some e
@@ -162,7 +149,7 @@ GrowsBy-at a b ts n e g at = ap (λ es. slice_get es n) g.grown ∙ slice_get-gr
 
 pub GrowsBy-length : (a b : List Entry) (ts : List Term) → GrowsBy a b ts → length b ≡ length a + length ts
 GrowsBy-length a b ts g =
-    omega (arith, ap length g.grown, length-append a g.row, ap length g.greens, length-map g.row (λ e. e.green))
+    omega (arith, ap length g.grown, length-append a g.row, ap length g.greens, length-map g.row green_of, length-map ts into_node)
 
 sum_of_lens-take : (ts : List Term) (i : ℕ) → sum_of_lens (take i ts) ≤ sum_of_lens ts
 sum_of_lens-take [] zero = omega arith
@@ -171,12 +158,12 @@ sum_of_lens-take (t ∷ ts) zero = omega arith
 sum_of_lens-take (t ∷ ts) (suc i) = omega (arith, sum_of_lens-take ts i)
 
 -- a child starts within the limit
-pub start_within : (es : List Entry) → IsFilling es → (parent : ℕ) (p : Entry) (n : NodeTerm) → slice_get es parent ≡ Some p → p.green ≡ Node n → (i : ℕ)
-    → p.offset + sum_of_lens (take i (node_children n)) ≤ byte_limit
+pub start_within : (es : List Entry) → IsFilling es → (parent : ℕ) (p : Entry) (n : NodeTerm) → slice_get es parent ≡ Some p → (green_of p) ≡ Some n → (i : ℕ)
+    → (offset_of p) + sum_of_lens (take i (node_children n)) ≤ byte_limit
 start_within es t parent p n at is i =
-    omega (arith, t.ends parent p at, ap term_len is, sum_of_lens-take (node_children n) i, sum_of_lens-children (Node n))
+    omega (arith, t.ends parent p at, ap len_in is, sum_of_lens-take (node_children n) i, sum_of_lens-children (Node n))
 
-pub counts-push : (es : List Entry) (y : Entry) → counts (es ++ y ∷ []) ≡ counts es + y.child_count
+pub counts-push : (es : List Entry) (y : Entry) → counts (es ++ y ∷ []) ≡ counts es + length (children_in (green_of y))
 counts-push es y = omega (arith, counts-append es (y ∷ []))
 
 -- ---- all children of an entry, one after the other
@@ -190,14 +177,13 @@ pub GrowsBy-all : (a b : List Entry) (ts : List Term) (i : ℕ) → length ts �
 GrowsBy-all a b ts i h g = subst (λ us. GrowsBy a b us) (take_all i ts h) g
 
 -- the next child's number
-pub child_place : (es ds : List Entry) → IsFilling es → (parent i : ℕ) (p e : Entry) → slice_get es parent ≡ Some p → length es ≡ counts (take parent es) + 1 → i < p.child_count
-    → GrowsBy es ds (take i (term_children p.green)) → slice_get ds parent ≡ Some e → (i < e.child_count) × (length ds ≡ e.first_child + i)
+pub child_place : (es ds : List Entry) → IsFilling es → (parent i : ℕ) (p e : Entry) → slice_get es parent ≡ Some p → length es ≡ counts (take parent es) + 1 → i < length (children_in (green_of p))
+    → GrowsBy es ds (take i (children_in (green_of p))) → slice_get ds parent ≡ Some e → (i < length (children_in (green_of e))) × (length ds ≡ e.first_child + i)
 child_place es ds t parent i p e at place less g found =
-    let same : p ≡ e = same_Some p e (sym (GrowsBy-at es ds (take i (term_children p.green)) parent p g at) ∙ found) in
-    let count : p.child_count ≡ length (term_children p.green) = t.counted parent p at in
-    let here : (i < p.child_count) × (length ds ≡ p.first_child + i) =
-    (less, omega (arith, t.firsts parent p at, place, GrowsBy-length es ds (take i (term_children p.green)) g, length-take-le i (term_children p.green) (omega arith))) in
-    subst (λ (x : Entry). (i < x.child_count) × (length ds ≡ x.first_child + i)) same here
+    let same : p ≡ e = same_Some p e (sym (GrowsBy-at es ds (take i (children_in (green_of p))) parent p g at) ∙ found) in
+    let here : (i < length (children_in (green_of p))) × (length ds ≡ p.first_child + i) =
+    (less, omega (arith, t.firsts parent p at, place, GrowsBy-length es ds (take i (children_in (green_of p))) g, length-take-le i (children_in (green_of p)) (omega arith))) in
+    subst (λ (x : Entry). (i < length (children_in (green_of x))) × (length ds ≡ x.first_child + i)) same here
 
 -- ---- the root alone
 
@@ -206,26 +192,22 @@ one_case y e n at =
     elim (push_cases [] y e n at) [ inl h ↦ absurd (omega (arith, h.0)) | inr h ↦ h ]
 
 pub record IsRootEntry (y : Entry) (root : NodeTerm) : Type 0 where
-  pub green : y.green ≡ Node root
-  pub start : y.offset ≡ 0
-  pub index : y.index ≡ 0
+  pub green : (green_of y) ≡ Some root
+  pub start : (offset_of y) ≡ 0
   pub first : y.first_child ≡ 1
-  pub counted : y.child_count ≡ length (term_children y.green)
-  pub fits : Fits y.green
+  pub fits : FitsNode root
 
 IsTop-one : (y : Entry) (root : NodeTerm) → IsRootEntry y root → IsTop (y ∷ []) y
 IsTop-one y root r = record {
-  green = r.green ∙ ap (λ (t : Term). let u : Term = Node (node_in t) in u) (sym r.green);
+  green = r.green ∙ ap (λ (g : Option NodeTerm). Some (node_in g)) (sym r.green);
   start = r.start;
-  index = r.index;
 }
 
 pub IsFilling-one : (y : Entry) (root : NodeTerm) → IsRootEntry y root → IsFilling (y ∷ [])
 IsFilling-one y root r = record {
   some = omega arith;
   top = λ e at. subst (λ (x : Entry). IsTop (y ∷ []) x) (one_case y e 0 at).1 (IsTop-one y root r);
-  counted = λ n e at. subst (λ (x : Entry). x.child_count ≡ length (term_children x.green)) (one_case y e n at).1 r.counted;
-  ends = λ n e at. subst (λ (x : Entry). x.offset + term_len x.green ≤ byte_limit) (one_case y e n at).1 (omega (arith, r.start, Fits-len y.green r.fits));
+  ends = λ n e at. subst (λ (x : Entry). (offset_of x) + len_in (green_of x) ≤ byte_limit) (one_case y e n at).1 (omega (arith, r.start, ap len_in r.green, Fits-len (Node root) r.fits));
   firsts = λ n e at.
       let c = one_case y e n at in
       subst (λ (x : Entry). x.first_child ≡ counts (take n (y ∷ [])) + 1) c.1 (omega (arith, r.first, ap (λ m. counts (take m (y ∷ []))) c.0));
@@ -235,47 +217,50 @@ IsFilling-one y root r = record {
 
 -- ---- one entry after the other
 
-counts-more : (es : List Entry) (n : ℕ) (e : Entry) → slice_get es n ≡ Some e → counts (take (n + 1) es) ≡ counts (take n es) + e.child_count
-counts-more es n e at =
-    let more : take (n + 1) es ≡ take n es ++ e ∷ [] = take_more es n e (slice_get_within es n e at) ∙ ap (λ x. take n es ++ x ∷ []) (get_or_from_slice_get es n e e at) in
-    ap counts more ∙ counts-push (take n es) e
-
 -- the entries before an entry have their children, and then it has its own
 pub next_done : (es ds : List Entry) → IsFilling es → (done : ℕ) (e : Entry) → slice_get es done ≡ Some e → length es ≡ counts (take done es) + 1
-    → GrowsBy es ds (term_children e.green) → (done + 1 ≤ length ds) × (length ds ≡ counts (take (done + 1) ds) + 1) × (root_of ds ≡ root_of es)
+    → GrowsBy es ds (children_in (green_of e)) → (done + 1 ≤ length ds) × (length ds ≡ counts (take (done + 1) ds) + 1) × (root_of ds ≡ root_of es)
 next_done es ds t done e at place g =
     let within : done < length es = slice_get_within es done e at in
-    let longer : length ds ≡ length es + length (term_children e.green) = GrowsBy-length es ds (term_children e.green) g in
+    let longer : length ds ≡ length es + length (children_in (green_of e)) = GrowsBy-length es ds (children_in (green_of e)) g in
     let front : take (done + 1) ds ≡ take (done + 1) es = ap (take (done + 1)) g.grown ∙ take-append-le (done + 1) es g.row (omega arith) in (
       omega arith,
-      omega (arith, ap counts front, counts-more es done e at, t.counted done e at),
+      omega (arith, ap counts front, counts-more es done e at),
       ap root_of g.grown ∙ root_of-grown es g.row t.some,
     )
 
-terms_size-append : (ts us : List Term) → terms_size (ts ++ us) ≡ terms_size ts + terms_size us
-terms_size-append [] us = omega arith
-terms_size-append (t ∷ ts) us = omega (arith, terms_size-append ts us)
+-- how much is left: the entries from one on, and what is below their nodes
+abbrev pub sizes : List (Option NodeTerm) → ℕ
+sizes [] = 0
+sizes (g ∷ gs) = 1 + terms_size (children_in g) + sizes gs
 
-terms_size-children : (t : Term) → terms_size (term_children t) < term_size t
-terms_size-children (Node n) = omega (arith, terms_size-node_children n)
-terms_size-children (Token t) = omega arith
-
--- how much is left: the sizes of the entries from one on
 abbrev pub left_from : ℕ → List Entry → ℕ
-left_from n es = terms_size (map (λ e. e.green) (drop n es))
+left_from n es = sizes (map green_of (drop n es))
 
-left_from-first : (es : List Entry) (n : ℕ) (e : Entry) → slice_get es n ≡ Some e → left_from n es ≡ term_size e.green + left_from (suc n) es
+sizes-append : (gs hs : List (Option NodeTerm)) → sizes (gs ++ hs) ≡ sizes gs + sizes hs
+sizes-append [] hs = omega arith
+sizes-append (g ∷ gs) hs = omega (arith, sizes-append gs hs)
+
+size-kept : (t : Term) → 1 + terms_size (children_in (into_node t)) ≤ term_size t
+size-kept (Node n) = omega (arith, terms_size-node_children n)
+size-kept (Token t) = omega arith
+
+sizes-kept : (ts : List Term) → sizes (map into_node ts) ≤ terms_size ts
+sizes-kept [] = omega arith
+sizes-kept (t ∷ ts) = omega (arith, size-kept t, sizes-kept ts)
+
+left_from-first : (es : List Entry) (n : ℕ) (e : Entry) → slice_get es n ≡ Some e → left_from n es ≡ 1 + terms_size (children_in (green_of e)) + left_from (suc n) es
 left_from-first [] n e at = absurd cc
 left_from-first (x ∷ es) zero e at =
-    ap (λ (y : Entry). term_size y.green + terms_size (map (λ d. d.green) es)) (same_Some x e at)
+    ap (λ (y : Entry). 1 + terms_size (children_in (green_of y)) + sizes (map green_of es)) (same_Some x e at)
 left_from-first (x ∷ es) (suc n) e at = left_from-first es n e at
 
-left_from-grown : (es row : List Entry) (n : ℕ) → n ≤ length es → left_from n (es ++ row) ≡ left_from n es + terms_size (map (λ e. e.green) row)
+left_from-grown : (es row : List Entry) (n : ℕ) → n ≤ length es → left_from n (es ++ row) ≡ left_from n es + sizes (map green_of row)
 left_from-grown es row n h =
-    ap (λ ds. terms_size (map (λ (e : Entry). e.green) ds)) (drop-append-le n es row h)
-    ∙ ap terms_size (map-append (λ (e : Entry). e.green) (drop n es) row) ∙ terms_size-append (map (λ e. e.green) (drop n es)) (map (λ e. e.green) row)
+    ap (λ ds. sizes (map green_of ds)) (drop-append-le n es row h)
+    ∙ ap sizes (map-append green_of (drop n es) row) ∙ sizes-append (map green_of (drop n es)) (map green_of row)
 
-pub less_left : (es ds : List Entry) (done : ℕ) (e : Entry) → slice_get es done ≡ Some e → GrowsBy es ds (term_children e.green) → left_from (done + 1) ds < left_from done es
+pub less_left : (es ds : List Entry) (done : ℕ) (e : Entry) → slice_get es done ≡ Some e → GrowsBy es ds (children_in (green_of e)) → left_from (done + 1) ds < left_from done es
 less_left es ds done e at g =
     let next : suc done ≡ done + 1 = omega arith in
-    omega (arith, ap (λ n. left_from n es) next, ap (left_from (done + 1)) g.grown, left_from-grown es g.row (done + 1) (omega (arith, slice_get_within es done e at)), ap terms_size g.greens, left_from-first es done e at, terms_size-children e.green)
+    omega (arith, ap (λ n. left_from n es) next, ap (left_from (done + 1)) g.grown, left_from-grown es g.row (done + 1) (omega (arith, slice_get_within es done e at)), ap sizes g.greens, sizes-kept (children_in (green_of e)), left_from-first es done e at)

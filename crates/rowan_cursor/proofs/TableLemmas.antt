@@ -1,17 +1,20 @@
 -- Laws of tables: what the local facts say of the paths that are read off by going up.
-use Rattle.std.proofs.Common.{◌≡◌, true, ℕ, zero, suc, ◌+◌, ◌-◌, ◌<◌, ◌≤◌, List, [], ◌∷◌, ◌++◌, map, reverse, length, take, Option, Some, None, refl, sym, ◌∙◌, ap, arith}
+use Rattle.std.proofs.Common.{◌≡◌, true, false, ℕ, zero, suc, ◌+◌, ◌-◌, ◌<◌, ◌≤◌, List, [], ◌∷◌, ◌++◌, map, reverse, length, take, Option, Some, None, refl, sym, ◌∙◌, ap, subst, arith}
 use Rattle.std.specs.Prelude.{slice_get}
-use Rattle.std.specs.Option.{option_map_or}
+use Rattle.std.specs.Option.{option_map, option_map_or}
 use Rattle.std.proofs.lemmas.List.{take_all}
 use Rattle.std.proofs.lemmas.Option.{slice_get_within, same_Some}
 use Rattle.rowan_green.specs.declared.utility_types.NodeOrToken.TheVariants.{Node, Token}
+use Rattle.rowan_green.specs.Fits.{byte_limit}
+use Rattle.rowan_green.specs.Lent.{into_node}
 use Rattle.rowan_green.specs.Search.{child_start}
-use Rattle.rowan_green.specs.Term.{Term}
-use Rattle.rowan_green.specs.Path.{Path, subterm, offset, term_children}
+use Rattle.rowan_green.specs.Term.{NodeTerm, Term, node, terms, term_len, node_len, sum_of_lens}
+use Rattle.rowan_green.specs.Path.{Path, subterm, offset, len_of, term_children}
 use Rattle.rowan_green.proofs.Paths.{offset-empty}
+use Rattle.rowan_green.proofs.Terms.{forest-terms, node_len-node_of}
 use Rattle.rowan_cursor.specs.Cursor.{last_place}
 use Rattle.rowan_cursor.specs.Moves.{numbers, below, child_count, children_of, is_node, child_paths, following, preceding}
-use Rattle.rowan_cursor.specs.Table.{root_of, counts, path_within, path_at, IsTop, IsChildOf, IsFilling, IsTable, IsRow, IsRowBack, IsEntry, IsNodeEntry}
+use Rattle.rowan_cursor.specs.Table.{root_of, green_of, offset_of, index_of, children_in, len_in, counts, path_within, path_at, IsTop, IsChildOf, IsFilling, IsTable, IsRow, IsRowBack, IsEntry, IsNodeEntry}
 use Rattle.rowan_cursor.specs.declared.tree.Entry.{Entry}
 use Rattle.rowan_cursor.proofs.RowLemmas.{map-reverse}
 use Rattle.rowan_cursor.proofs.PathLemmas.{subterm-child, offset-child, last_place-child, following-child, preceding-child}
@@ -23,24 +26,67 @@ slice_get-some [] i h = absurd (omega arith)
 slice_get-some (x ∷ xs) zero h = (x, refl)
 slice_get-some (x ∷ xs) (suc i) h = slice_get-some xs i (omega arith)
 
-counts-take-less : (es : List Entry) (m n : ℕ) (d : Entry) → slice_get es m ≡ Some d → m < n → counts (take m es) + d.child_count ≤ counts (take n es)
+counts-take-less : (es : List Entry) (m n : ℕ) (d : Entry) → slice_get es m ≡ Some d → m < n → counts (take m es) + length (children_in (green_of d)) ≤ counts (take n es)
 counts-take-less [] m n d e h = absurd cc
 counts-take-less (x ∷ es) zero zero d e h = absurd (omega arith)
 counts-take-less (x ∷ es) zero (suc n) d e h =
-    omega (arith, ap (λ (c : Entry). c.child_count) (same_Some x d e))
+    omega (arith, ap (λ (c : Entry). length (children_in (green_of c))) (same_Some x d e))
 counts-take-less (x ∷ es) (suc m) zero d e h = absurd (omega arith)
 counts-take-less (x ∷ es) (suc m) (suc n) d e h = omega (arith, counts-take-less es m n d e (omega arith))
 
-pub counts-within : (es : List Entry) (m : ℕ) (d : Entry) → slice_get es m ≡ Some d → counts (take m es) + d.child_count ≤ counts es
+pub counts-within : (es : List Entry) (m : ℕ) (d : Entry) → slice_get es m ≡ Some d → counts (take m es) + length (children_in (green_of d)) ≤ counts es
 counts-within es m d e =
     omega (arith, counts-take-less es m (length es) d e (slice_get_within es m d e), ap counts (take_all (length es) es (omega arith)))
+
+-- ---- lengths
+
+pub sum_of_lens-children : (t : Term) → sum_of_lens (term_children t) ≤ term_len t
+sum_of_lens-children (Node (node k f)) =
+    omega (arith, ap (λ g. node_len (node k g)) (forest-terms f), node_len-node_of k (terms f))
+sum_of_lens-children (Token t) = omega arith
+
+child_end-within : (ts : List Term) (i : ℕ) (t : Term) → slice_get ts i ≡ Some t → child_start ts i + term_len t ≤ sum_of_lens ts
+child_end-within [] i t e = absurd cc
+child_end-within (u ∷ ts) zero t e = omega (arith, ap term_len (same_Some u t e))
+child_end-within (u ∷ ts) (suc i) t e = omega (arith, child_end-within ts i t e)
+
+-- where a child ends, its parent has not ended before
+pub child_end : (u : Term) (i : ℕ) (t : Term) → slice_get (term_children u) i ≡ Some t → child_start (term_children u) i + term_len t ≤ term_len u
+child_end u i t e =
+    omega (arith, child_end-within (term_children u) i t e, sum_of_lens-children u)
+
+-- ---- what an entry keeps
+
+kept-children : (o : Option Term) (g : Option NodeTerm) → option_map into_node o ≡ Some g → children_of o ≡ children_in g
+kept-children None g e = absurd cc
+kept-children (Some (Node n)) g e = ap children_in (same_Some (Some n) g e)
+kept-children (Some (Token t)) g e = ap children_in (same_Some None g e)
+
+pub kept-some : (o : Option Term) (g : Option NodeTerm) → option_map into_node o ≡ Some g → (u : Term) × (o ≡ Some u)
+kept-some None g e = absurd cc
+kept-some (Some u) g e = (u, refl)
+
+pub kept-none : (o : Option Term) → option_map into_node o ≡ Some None → is_node o ≡ false
+kept-none None e = absurd cc
+kept-none (Some (Node n)) e = absurd cc
+kept-none (Some (Token t)) e = refl
+
+pub kept-node : (o : Option Term) (n : NodeTerm) → option_map into_node o ≡ Some (Some n) → o ≡ Some (Node n)
+kept-node None n e = absurd cc
+kept-node (Some (Node m)) n e = ap (λ k. let t : Term = Node k in Some t) (same_Some m n (same_Some (Some m) (Some n) e))
+kept-node (Some (Token t)) n e = absurd cc
+
+kept_within : (ts : List Term) (i : ℕ) (g : Option NodeTerm) → option_map into_node (slice_get ts i) ≡ Some g → i < length ts
+kept_within [] i g e = absurd cc
+kept_within (t ∷ ts) zero g e = omega arith
+kept_within (t ∷ ts) (suc i) g e = omega (arith, kept_within ts i g e)
 
 -- ---- paths
 
 same_step : (es : List Entry) (f g : ℕ → Path) (n : ℕ) → IsFilling es → ((m : ℕ) → m < n → f m ≡ g m) → 0 < n → (o : Option Entry) → slice_get es n ≡ o
-    → option_map_or (λ e. f e.parent ++ e.index ∷ []) o [] ≡ option_map_or (λ e. g e.parent ++ e.index ∷ []) o []
+    → option_map_or (λ e. f e.parent ++ index_of es n e ∷ []) o [] ≡ option_map_or (λ e. g e.parent ++ index_of es n e ∷ []) o []
 same_step es f g n t same h None e = refl
-same_step es f g n t same h (Some x) e = ap (λ p. p ++ x.index ∷ []) (same x.parent (t.earlier n x e h))
+same_step es f g n t same h (Some x) e = ap (λ p. p ++ index_of es n x ∷ []) (same x.parent (t.earlier n x e h))
 
 -- going up any further than to the root changes nothing
 path_within-enough : (es : List Entry) → IsFilling es → (a b n : ℕ) → n ≤ a → n ≤ b → path_within a es n ≡ path_within b es n
@@ -54,22 +100,30 @@ path_within-enough es t (suc a) (suc b) (suc n) h k =
     same_step es (path_within a es) (path_within b es) (suc n) t (λ m less. path_within-enough es t a b m (omega arith) (omega arith)) (omega arith) (slice_get es (suc n)) refl
 
 -- the path of an entry is that of its parent, and its index
-pub path_at-child : (es : List Entry) → IsFilling es → (n : ℕ) (e : Entry) → slice_get es n ≡ Some e → 0 < n → path_at es n ≡ path_at es e.parent ++ e.index ∷ []
+pub path_at-child : (es : List Entry) → IsFilling es → (n : ℕ) (e : Entry) → slice_get es n ≡ Some e → 0 < n → path_at es n ≡ path_at es e.parent ++ index_of es n e ∷ []
 path_at-child es t zero e at h = absurd (omega arith)
 path_at-child es t (suc n) e at h =
     let less : e.parent < suc n = t.earlier (suc n) e at h in
-    ap (λ o. option_map_or (λ d. path_within n es d.parent ++ d.index ∷ []) o []) at
-    ∙ ap (λ p. p ++ e.index ∷ []) (path_within-enough es t n e.parent e.parent (omega arith) (omega arith))
+    ap (λ o. option_map_or (λ d. path_within n es d.parent ++ index_of es (suc n) d ∷ []) o []) at
+    ∙ ap (λ p. p ++ index_of es (suc n) e ∷ []) (path_within-enough es t n e.parent e.parent (omega arith) (omega arith))
+
+pub index_above : (es : List Entry) (n : ℕ) (e p : Entry) → slice_get es e.parent ≡ Some p → index_of es n e ≡ n - p.first_child
+index_above es n e p above = ap (λ o. n - option_map_or (λ (q : Entry). q.first_child) o 0) above
+
+-- the same by the parent's entry
+path_at-below : (es : List Entry) → IsFilling es → (n : ℕ) (e p : Entry) → slice_get es n ≡ Some e → 0 < n → slice_get es e.parent ≡ Some p → path_at es n ≡ path_at es e.parent ++ (n - p.first_child) ∷ []
+path_at-below es t n e p at h above =
+    path_at-child es t n e at h ∙ ap (λ i. path_at es e.parent ++ i ∷ []) (index_above es n e p above)
 
 -- ---- what stands at the path of an entry
 
 pub record Stands (es : List Entry) (n : ℕ) (e : Entry) : Type 0 where
-  pub green : subterm (Node (root_of es)) (path_at es n) ≡ Some e.green
-  pub start : offset (Node (root_of es)) (path_at es n) ≡ e.offset
+  pub green : option_map into_node (subterm (Node (root_of es)) (path_at es n)) ≡ Some (green_of e)
+  pub start : offset (Node (root_of es)) (path_at es n) ≡ (offset_of e)
 
 Stands-top : (es : List Entry) (e : Entry) → IsTop es e → Stands es 0 e
 Stands-top es e top = record {
-  green = ap (λ t. Some t) (sym top.green);
+  green = ap (λ g. Some g) (sym top.green);
   start = offset-empty (Node (root_of es)) ∙ sym top.start;
 }
 
@@ -79,12 +133,13 @@ Stands-child es t n e p at h above s =
     let c : IsChildOf p n e = t.parents n e p at h above in
     let root = root_of es in
     let q = path_at es e.parent in
-    let path : path_at es n ≡ q ++ e.index ∷ [] = path_at-child es t n e at h in
-    let terms : children_of (subterm (Node root) q) ≡ term_children p.green = ap children_of s.green in
-    let inside : e.index < length (children_of (subterm (Node root) q)) = omega (arith, ap length terms, slice_get_within (term_children p.green) e.index e.green c.child) in
+    let i = n - p.first_child in
+    let path : path_at es n ≡ q ++ i ∷ [] = path_at-below es t n e p at h above in
+    let terms : children_of (subterm (Node root) q) ≡ children_in (green_of p) = kept-children (subterm (Node root) q) (green_of p) s.green in
+    let inside : i < length (children_of (subterm (Node root) q)) = omega (arith, ap length terms, kept_within (children_in (green_of p)) i (green_of e) c.child) in
     record {
-      green = ap (λ r. subterm (Node root) r) path ∙ subterm-child (Some (Node root)) q e.index ∙ ap (λ ts. slice_get ts e.index) terms ∙ c.child;
-      start = ap (λ r. offset (Node root) r) path ∙ offset-child root q e.index inside ∙ ap (λ x. x + child_start (children_of (subterm (Node root) q)) e.index) s.start ∙ ap (λ ts. p.offset + child_start ts e.index) terms ∙ sym c.start;
+      green = ap (λ r. option_map into_node (subterm (Node root) r)) path ∙ ap (option_map into_node) (subterm-child (Some (Node root)) q i ∙ ap (λ ts. slice_get ts i) terms) ∙ c.child;
+      start = ap (λ r. offset (Node root) r) path ∙ offset-child root q i inside ∙ ap (λ x. x + child_start (children_of (subterm (Node root) q)) i) s.start ∙ ap (λ ts. (offset_of p) + child_start ts i) terms ∙ sym c.start;
     }
 
 Stands-within : (es : List Entry) → IsFilling es → (steps n : ℕ) → n ≤ steps → (e : Entry) → slice_get es n ≡ Some e → Stands es n e
@@ -98,18 +153,44 @@ Stands-within es t (suc steps) (suc n) h e at =
 pub stands : (es : List Entry) → IsFilling es → (n : ℕ) (e : Entry) → slice_get es n ≡ Some e → Stands es n e
 stands es t n e at = Stands-within es t n n (omega arith) e at
 
-last_place-index : (es : List Entry) → IsFilling es → (n : ℕ) (e : Entry) → slice_get es n ≡ Some e → last_place (path_at es n) ≡ e.index
-last_place-index es t zero e at = sym (t.top e at).index
+-- where the text of an entry ends: a node's is within the limit, and a token's in that of the node above
+end_of-token : (g : Option NodeTerm) (i : ℕ) (t : Term) → slice_get (children_in g) i ≡ Some t → child_start (children_in g) i + term_len t ≤ len_in g
+end_of-token None i t e = absurd cc
+end_of-token (Some n) i t e = child_end (Node n) i t e
+
+ends_below : (es : List Entry) → IsFilling es → (n : ℕ) (e p : Entry) → slice_get es n ≡ Some e → 0 < n → slice_get es e.parent ≡ Some p → (o : Option Term) → slice_get (children_in (green_of p)) (n - p.first_child) ≡ o → (offset_of e) + len_of o ≤ byte_limit
+ends_below es t n e p at h above None f = omega (arith, t.ends n e at)
+ends_below es t n e p at h above (Some u) f =
+    omega (arith, (t.parents n e p at h above).start, end_of-token (green_of p) (n - p.first_child) u f, t.ends e.parent p above)
+
+-- an entry's term is that child of the node above
+pub child_above : (es : List Entry) → IsFilling es → (n : ℕ) (e p : Entry) → slice_get es n ≡ Some e → 0 < n → slice_get es e.parent ≡ Some p → subterm (Node (root_of es)) (path_at es n) ≡ slice_get (children_in (green_of p)) (n - p.first_child)
+child_above es t n e p at h above =
+    let root = root_of es in
+    let q = path_at es e.parent in
+    ap (λ r. subterm (Node root) r) (path_at-below es t n e p at h above) ∙ subterm-child (Some (Node root)) q (n - p.first_child)
+    ∙ ap (λ ts. slice_get ts (n - p.first_child)) (kept-children (subterm (Node root) q) (green_of p) (stands es t e.parent p above).green)
+
+ends_within : (es : List Entry) → IsFilling es → (n : ℕ) (e : Entry) → slice_get es n ≡ Some e → (offset_of e) + len_of (subterm (Node (root_of es)) (path_at es n)) ≤ byte_limit
+ends_within es t zero e at = omega (arith, t.ends 0 e at, ap len_in (t.top e at).green)
+ends_within es t (suc n) e at =
+    let less : e.parent < suc n = t.earlier (suc n) e at (omega arith) in
+    let above = slice_get-some es e.parent (omega (arith, slice_get_within es (suc n) e at)) in
+    let p = above.0 in
+    omega (arith, ends_below es t (suc n) e p at (omega arith) above.1 (slice_get (children_in (green_of p)) (suc n - p.first_child)) refl, ap len_of (child_above es t (suc n) e p at (omega arith) above.1))
+
+last_place-index : (es : List Entry) → IsFilling es → (n : ℕ) (e : Entry) → slice_get es n ≡ Some e → last_place (path_at es n) ≡ index_of es n e
+last_place-index es t zero e at = omega arith
 last_place-index es t (suc n) e at =
-    ap last_place (path_at-child es t (suc n) e at (omega arith)) ∙ last_place-child (path_at es e.parent) e.index
+    ap last_place (path_at-child es t (suc n) e at (omega arith)) ∙ last_place-child (path_at es e.parent) (index_of es (suc n) e)
 
 -- ---- rows
 
-rows_apart : (es : List Entry) → IsFilling es → (m n : ℕ) (d e : Entry) → slice_get es m ≡ Some d → slice_get es n ≡ Some e → m < n → d.first_child + d.child_count ≤ e.first_child
+rows_apart : (es : List Entry) → IsFilling es → (m n : ℕ) (d e : Entry) → slice_get es m ≡ Some d → slice_get es n ≡ Some e → m < n → d.first_child + length (children_in (green_of d)) ≤ e.first_child
 rows_apart es t m n d e dat eat h =
     omega (arith, counts-take-less es m n d dat h, t.firsts m d dat, t.firsts n e eat)
 
-pub row_within : (es : List Entry) → IsTable es → (n : ℕ) (e : Entry) → slice_get es n ≡ Some e → e.first_child + e.child_count ≤ length es
+pub row_within : (es : List Entry) → IsTable es → (n : ℕ) (e : Entry) → slice_get es n ≡ Some e → e.first_child + length (children_in (green_of e)) ≤ length es
 row_within es t n e at = omega (arith, counts-within es n e at, t.filling.firsts n e at, t.whole)
 
 -- the entry with the number of child j of entry n is that child
@@ -117,12 +198,12 @@ pub record HasChild (es : List Entry) (n : ℕ) (e : Entry) (j : ℕ) : Type 0 w
   pub child : Entry
   pub at : slice_get es (e.first_child + j) ≡ Some child
   pub parent : child.parent ≡ n
-  pub index : child.index ≡ j
+  pub index : index_of es (e.first_child + j) child ≡ j
 
 same_parent : (a b : ℕ) → (a < b → ⊥) → (b < a → ⊥) → a ≡ b
 same_parent a b h k = omega arith
 
-same_index : (m a b i j : ℕ) → m ≡ a + i → m ≡ b + j → a ≡ b → i ≡ j
+same_index : (m a b i j : ℕ) → i ≡ m - a → m ≡ b + j → a ≡ b → i ≡ j
 same_index m a b i j d e f = omega arith
 
 same_entry : (es : List Entry) (m n : ℕ) (d e : Entry) → slice_get es m ≡ Some d → slice_get es n ≡ Some e → m ≡ n → d ≡ e
@@ -131,7 +212,7 @@ same_entry es m n d e p q h = same_Some d e (sym p ∙ ap (λ k. slice_get es k)
 same_first : (d e : Entry) → d ≡ e → d.first_child ≡ e.first_child
 same_first d e h = ap (λ (x : Entry). x.first_child) h
 
-pub has_child : (es : List Entry) → IsTable es → (n : ℕ) (e : Entry) (j : ℕ) → slice_get es n ≡ Some e → j < e.child_count → HasChild es n e j
+pub has_child : (es : List Entry) → IsTable es → (n : ℕ) (e : Entry) (j : ℕ) → slice_get es n ≡ Some e → j < length (children_in (green_of e)) → HasChild es n e j
 has_child es t n e j at h =
     let f = t.filling in
     let m = e.first_child + j in
@@ -143,8 +224,8 @@ has_child es t n e j at h =
     let above = slice_get-some es c.parent (omega arith) in
     let p = above.0 in
     let is : IsChildOf p m c = f.parents m c p found.1 behind above.1 in
-    let inside : c.index < p.child_count = omega (arith, slice_get_within (term_children p.green) c.index c.green is.child, f.counted c.parent p above.1) in
-    let place : m ≡ p.first_child + c.index = is.place in
+    let inside : m - p.first_child < length (children_in (green_of p)) = kept_within (children_in (green_of p)) (m - p.first_child) (green_of c) is.child in
+    let place : p.first_child ≤ m = is.place in
     let same : c.parent ≡ n =
     same_parent c.parent n (λ before. omega (arith, rows_apart es f c.parent n p e above.1 at before)) (λ before. omega (arith, rows_apart es f n c.parent e p at above.1 before)) in
     let entry : p ≡ e = same_entry es c.parent n p e above.1 at same in
@@ -152,18 +233,18 @@ has_child es t n e j at h =
       child = c;
       at = found.1;
       parent = same;
-      index = same_index m p.first_child e.first_child c.index j place refl (same_first p e entry);
+      index = same_index m p.first_child e.first_child (index_of es m c) j (index_above es m c p above.1) refl (same_first p e entry);
     }
 
-pub path_at-row : (es : List Entry) → IsTable es → (n : ℕ) (e : Entry) (j : ℕ) → slice_get es n ≡ Some e → j < e.child_count → path_at es (e.first_child + j) ≡ path_at es n ++ j ∷ []
+pub path_at-row : (es : List Entry) → IsTable es → (n : ℕ) (e : Entry) (j : ℕ) → slice_get es n ≡ Some e → j < length (children_in (green_of e)) → path_at es (e.first_child + j) ≡ path_at es n ++ j ∷ []
 path_at-row es t n e j at h =
     let c : HasChild es n e j = has_child es t n e j at h in
     let behind : 0 < e.first_child + j = omega (arith, t.filling.firsts n e at) in
     path_at-child es t.filling (e.first_child + j) c.child c.at behind
-    ∙ ap (λ k. path_at es k ++ c.child.index ∷ []) c.parent ∙ ap (λ i. path_at es n ++ i ∷ []) c.index
+    ∙ ap (λ k. path_at es k ++ index_of es (e.first_child + j) c.child ∷ []) c.parent ∙ ap (λ i. path_at es n ++ i ∷ []) c.index
 
 -- a part of the children of an entry
-pub row_below : (es : List Entry) → IsTable es → (n : ℕ) (e : Entry) → slice_get es n ≡ Some e → (c a : ℕ) → a + c ≤ e.child_count
+pub row_below : (es : List Entry) → IsTable es → (n : ℕ) (e : Entry) → slice_get es n ≡ Some e → (c a : ℕ) → a + c ≤ length (children_in (green_of e))
     → map (path_at es) (numbers (e.first_child + a) c) ≡ below (path_at es n) (numbers a c)
 row_below es t n e at zero a h = refl
 row_below es t n e at (suc c) a h =
@@ -173,23 +254,39 @@ row_below es t n e at (suc c) a h =
     ap (λ p. p ∷ map (path_at es) (numbers (e.first_child + a + 1) c)) (path_at-row es t n e a at (omega arith))
     ∙ ap (λ ps. (path_at es n ++ a ∷ []) ∷ ps) rest
 
-child_count-entry : (es : List Entry) → IsFilling es → (n : ℕ) (e : Entry) → slice_get es n ≡ Some e → child_count (root_of es) (path_at es n) ≡ e.child_count
+child_count-entry : (es : List Entry) → IsFilling es → (n : ℕ) (e : Entry) → slice_get es n ≡ Some e → child_count (root_of es) (path_at es n) ≡ length (children_in (green_of e))
 child_count-entry es t n e at =
-    ap (λ o. length (children_of o)) (stands es t n e at).green ∙ sym (t.counted n e at)
+    ap length (kept-children (subterm (Node (root_of es)) (path_at es n)) (green_of e) (stands es t n e at).green)
 
 -- some of the children of an entry, where their numbers are known in another form
-part : (es : List Entry) → IsTable es → (n : ℕ) (e : Entry) → slice_get es n ≡ Some e → (start a c : ℕ) → start ≡ e.first_child + a → a + c ≤ e.child_count
+part : (es : List Entry) → IsTable es → (n : ℕ) (e : Entry) → slice_get es n ≡ Some e → (start a c : ℕ) → start ≡ e.first_child + a → a + c ≤ length (children_in (green_of e))
     → map (path_at es) (numbers start c) ≡ below (path_at es n) (numbers a c)
 part es t n e at start a c from h =
     ap (λ k. map (path_at es) (numbers k c)) from ∙ row_below es t n e at c a h
 
-children_row : (es : List Entry) → IsTable es → (n : ℕ) (e : Entry) → slice_get es n ≡ Some e → IsRow es e.first_child (e.first_child + e.child_count) (child_paths (root_of es) (path_at es n))
+pub counts-more : (es : List Entry) (n : ℕ) (e : Entry) → slice_get es n ≡ Some e → counts (take (n + 1) es) ≡ counts (take n es) + length (children_in (green_of e))
+counts-more [] n e at = absurd cc
+counts-more (x ∷ es) zero e at = omega (arith, ap (λ (c : Entry). length (children_in (green_of c))) (same_Some x e at))
+counts-more (x ∷ es) (suc n) e at =
+    let next : suc n + 1 ≡ suc (n + 1) = omega arith in
+    omega (arith, ap (λ k. counts (take k (x ∷ es))) next, counts-more es n e at)
+
+-- the children of an entry end where those of the next begin, and those of the last with the table
+pub row_end-next : (es : List Entry) → IsTable es → (n : ℕ) (e d : Entry) → slice_get es n ≡ Some e → slice_get es (n + 1) ≡ Some d → d.first_child ≡ e.first_child + length (children_in (green_of e))
+row_end-next es t n e d at next =
+    omega (arith, t.filling.firsts (n + 1) d next, t.filling.firsts n e at, counts-more es n e at)
+
+pub row_end-last : (es : List Entry) → IsTable es → (n : ℕ) (e : Entry) → slice_get es n ≡ Some e → n + 1 ≡ length es → length es ≡ e.first_child + length (children_in (green_of e))
+row_end-last es t n e at h =
+    omega (arith, t.whole, t.filling.firsts n e at, counts-more es n e at, ap counts (take_all (n + 1) es (omega arith)))
+
+children_row : (es : List Entry) → IsTable es → (n : ℕ) (e : Entry) → slice_get es n ≡ Some e → IsRow es e.first_child (e.first_child + length (children_in (green_of e))) (child_paths (root_of es) (path_at es n))
 children_row es t n e at =
-    let left : e.first_child + e.child_count - e.first_child ≡ e.child_count = omega arith in
+    let left : e.first_child + length (children_in (green_of e)) - e.first_child ≡ length (children_in (green_of e)) = omega arith in
     record {
       order = omega arith;
       within = row_within es t n e at;
-      row = ap (λ c. map (path_at es) (numbers e.first_child c)) left ∙ part es t n e at e.first_child 0 e.child_count (omega arith) (omega arith) ∙ ap (λ c. below (path_at es n) (numbers 0 c)) (sym (child_count-entry es t.filling n e at));
+      row = ap (λ c. map (path_at es) (numbers e.first_child c)) left ∙ part es t n e at e.first_child 0 (length (children_in (green_of e))) (omega arith) (omega arith) ∙ ap (λ c. below (path_at es n) (numbers 0 c)) (sym (child_count-entry es t.filling n e at));
     }
 
 -- all that stands at a number
@@ -200,9 +297,8 @@ is_entry es t n e at =
       at = at;
       green = s.green;
       start = s.start;
-      end = t.filling.ends n e at;
+      end = ends_within es t.filling n e at;
       index = last_place-index es t.filling n e at;
-      count = t.filling.counted n e at;
       below = λ h. record {
         earlier = t.filling.earlier n e at h;
         path = path_at-child es t.filling n e at h;
@@ -217,44 +313,44 @@ pub record HasAbove (es : List Entry) (n : ℕ) (e p : Entry) : Type 0 where
   pub behind : 0 < n
   pub above : slice_get es e.parent ≡ Some p
 
-place : (es : List Entry) (n : ℕ) (e p : Entry) → IsTable es → HasAbove es n e p → n ≡ p.first_child + e.index
-place es n e p t h = (t.filling.parents n e p h.at h.behind h.above).place
+place : (es : List Entry) (n : ℕ) (e p : Entry) → IsTable es → HasAbove es n e p → n ≡ p.first_child + (n - p.first_child)
+place es n e p t h = omega (arith, (t.filling.parents n e p h.at h.behind h.above).place)
 
-index_below : (es : List Entry) (n : ℕ) (e p : Entry) → IsTable es → HasAbove es n e p → e.index < p.child_count
+index_below : (es : List Entry) (n : ℕ) (e p : Entry) → IsTable es → HasAbove es n e p → (n - p.first_child) < length (children_in (green_of p))
 index_below es n e p t h =
-    omega (arith, slice_get_within (term_children p.green) e.index e.green (t.filling.parents n e p h.at h.behind h.above).child, t.filling.counted e.parent p h.above)
+    kept_within (children_in (green_of p)) (n - p.first_child) (green_of e) (t.filling.parents n e p h.at h.behind h.above).child
 
-pub following_row : (es : List Entry) → IsTable es → (n : ℕ) (e p : Entry) → HasAbove es n e p → IsRow es (n + 1) (p.first_child + p.child_count) (following (root_of es) (path_at es n))
+pub following_row : (es : List Entry) → IsTable es → (n : ℕ) (e p : Entry) → HasAbove es n e p → IsRow es (n + 1) (p.first_child + length (children_in (green_of p))) (following (root_of es) (path_at es n))
 following_row es t n e p h =
     let root = root_of es in
     let q = path_at es e.parent in
-    let at : n ≡ p.first_child + e.index = place es n e p t h in
-    let less : e.index < p.child_count = index_below es n e p t h in
-    let left : p.first_child + p.child_count - (n + 1) ≡ p.child_count - (e.index + 1) = omega arith in
-    let from : n + 1 ≡ p.first_child + (e.index + 1) = omega arith in
+    let at : n ≡ p.first_child + (n - p.first_child) = place es n e p t h in
+    let less : (n - p.first_child) < length (children_in (green_of p)) = index_below es n e p t h in
+    let left : p.first_child + length (children_in (green_of p)) - (n + 1) ≡ length (children_in (green_of p)) - (n - p.first_child + 1) = omega arith in
+    let from : n + 1 ≡ p.first_child + (n - p.first_child + 1) = omega arith in
     record {
       order = omega arith;
       within = row_within es t e.parent p h.above;
       row = ap (λ c. map (path_at es) (numbers (n + 1) c)) left
-          ∙ part es t e.parent p h.above (n + 1) (e.index + 1) (p.child_count - (e.index + 1)) from (omega arith)
-          ∙ ap (λ c. below q (numbers (e.index + 1) (c - (e.index + 1)))) (sym (child_count-entry es t.filling e.parent p h.above))
-          ∙ sym (following-child root q e.index) ∙ ap (following root) (sym (path_at-child es t.filling n e h.at h.behind));
+          ∙ part es t e.parent p h.above (n + 1) (n - p.first_child + 1) (length (children_in (green_of p)) - (n - p.first_child + 1)) from (omega arith)
+          ∙ ap (λ c. below q (numbers (n - p.first_child + 1) (c - (n - p.first_child + 1)))) (sym (child_count-entry es t.filling e.parent p h.above))
+          ∙ sym (following-child root q (n - p.first_child)) ∙ ap (following root) (sym (path_at-below es t.filling n e p h.at h.behind h.above));
     }
 
 pub preceding_row : (es : List Entry) → IsTable es → (n : ℕ) (e p : Entry) → HasAbove es n e p → IsRowBack es p.first_child n (preceding (root_of es) (path_at es n))
 preceding_row es t n e p h =
     let root = root_of es in
     let q = path_at es e.parent in
-    let at : n ≡ p.first_child + e.index = place es n e p t h in
-    let less : e.index < p.child_count = index_below es n e p t h in
-    let left : n - p.first_child ≡ e.index = omega arith in
+    let at : n ≡ p.first_child + (n - p.first_child) = place es n e p t h in
+    let less : (n - p.first_child) < length (children_in (green_of p)) = index_below es n e p t h in
+    let left : n - p.first_child ≡ (n - p.first_child) = omega arith in
     record {
       order = omega arith;
       within = omega (arith, slice_get_within es n e h.at);
       row = ap (λ c. reverse (map (path_at es) (numbers p.first_child c))) left
-          ∙ ap reverse (part es t e.parent p h.above p.first_child 0 e.index (omega arith) (omega arith))
-          ∙ sym (map-reverse (λ i. q ++ i ∷ []) (numbers 0 e.index))
-          ∙ sym (preceding-child root q e.index) ∙ ap (preceding root) (sym (path_at-child es t.filling n e h.at h.behind));
+          ∙ ap reverse (part es t e.parent p h.above p.first_child 0 (n - p.first_child) (omega arith) (omega arith))
+          ∙ sym (map-reverse (λ i. q ++ i ∷ []) (numbers 0 (n - p.first_child)))
+          ∙ sym (preceding-child root q (n - p.first_child)) ∙ ap (preceding root) (sym (path_at-below es t.filling n e p h.at h.behind h.above));
     }
 
 -- the root has no siblings
@@ -276,13 +372,34 @@ above_of es t n e at h =
       },
     )
 
+-- the siblings behind an entry end where the children of its parent do
+pub following_to : (es : List Entry) → IsTable es → (n : ℕ) (e : Entry) (end : ℕ) → slice_get es n ≡ Some e → 0 < n
+    → ((p : Entry) → slice_get es e.parent ≡ Some p → end ≡ p.first_child + length (children_in (green_of p))) → IsRow es (n + 1) end (following (root_of es) (path_at es n))
+following_to es t n e end at h ends =
+    let a = above_of es t n e at h in
+    let row = following_row es t n e a.0 a.1 in
+    subst (λ k. IsRow es (n + 1) k (following (root_of es) (path_at es n))) (sym (ends a.0 a.1.above)) row
+
 -- only a node has children
-node_with_child : (t c : Term) (i : ℕ) → slice_get (term_children t) i ≡ Some c → is_node (Some t) ≡ true
-node_with_child (Node n) c i e = refl
-node_with_child (Token t) c i e = absurd cc
+node_with_child : (o : Option Term) (g k : Option NodeTerm) (i : ℕ) → option_map into_node o ≡ Some g → option_map into_node (slice_get (children_in g) i) ≡ Some k → is_node o ≡ true
+node_with_child None g k i e h = absurd cc
+node_with_child (Some (Node n)) g k i e h = refl
+node_with_child (Some (Token t)) g k i e h = absurd (omega (arith, kept_within (children_in g) i k h, ap (λ l. length (children_in l)) (same_Some None g e)))
 
 pub node_above : (es : List Entry) → IsTable es → (n : ℕ) (e : Entry) → slice_get es n ≡ Some e → 0 < n → IsNodeEntry es e.parent
 node_above es t n e at h =
     let a = above_of es t n e at h in
     let p = a.0 in
-    ap is_node (stands es t.filling e.parent p a.1.above).green ∙ node_with_child p.green e.green e.index (t.filling.parents n e p at h a.1.above).child
+    node_with_child (subterm (Node (root_of es)) (path_at es e.parent)) (green_of p) (green_of e) (n - p.first_child) (stands es t.filling e.parent p a.1.above).green (t.filling.parents n e p at h a.1.above).child
+
+some_none : (r : NodeTerm) → ◌≡◌ {A = Option NodeTerm} (Some r) None → ⊥
+some_none r e = cc e
+
+-- what an entry without a node stands for is a child of the node above
+pub child_of_above : (es : List Entry) → IsTable es → (n : ℕ) (e p : Entry) → slice_get es n ≡ Some e → (green_of e) ≡ None → slice_get es e.parent ≡ Some p
+    → (subterm (Node (root_of es)) (path_at es n) ≡ slice_get (children_in (green_of p)) (n - p.first_child)) × (n - p.first_child < length (children_in (green_of p)))
+child_of_above es t zero e p at bare above = absurd (some_none (root_of es) (sym (t.filling.top e at).green ∙ bare))
+child_of_above es t (suc n) e p at bare above = (
+  child_above es t.filling (suc n) e p at (omega arith) above,
+  kept_within (children_in (green_of p)) (suc n - p.first_child) (green_of e) (t.filling.parents (suc n) e p at (omega arith) above).child,
+)

@@ -11,12 +11,12 @@ use Rattle.rowan_green.specs.Path.{Path, term_children, subterm, begins}
 use Rattle.rowan_cursor.specs.Cursor.{last_place}
 use Rattle.rowan_cursor.specs.Moves.{parent_path, children_of, numbers, below, child_count, child_paths, following, preceding, is_node, is_node_at, first_at, first_leaf_path, last_leaf_path, next_leaf_path, prev_leaf_path}
 use Rattle.rowan_cursor.specs.Pass.{Lists, row, of_some, after, before, entered, rest, reached, upto, leaf_list, element_list, ComesBehind, ComesNext, ComesBefore, ComesBack, first_inside, last_inside}
-use Rattle.rowan_cursor.specs.Table.{IsFilling, IsTable, root_of, path_at}
+use Rattle.rowan_cursor.specs.Table.{IsFilling, IsTable, green_of, index_of, root_of, path_at}
 use Rattle.rowan_cursor.specs.declared.tree.Entry.{Entry}
 use Rattle.rowan_cursor.proofs.PathLemmas.{last-split, parent_path-child, last_place-child, following-child, preceding-child, begins-rest, begins-own, begins-same, subterm-child}
 use Rattle.rowan_cursor.proofs.LeafLemmas.{after-child, rest-child, rest-none, before-child, upto-child, upto-none, upto-all, leaf_list-node, element_list-term, filter_same, filter_row-const, filter-row, not-begins, find-first, find-last, last_at, first_leaf-below, last_leaf-below, next_leaf-rest, prev_leaf-before}
 use Rattle.rowan_cursor.proofs.RowLemmas.{map-reverse, row-last}
-use Rattle.rowan_cursor.proofs.TableLemmas.{slice_get-some, path_at-child, is_entry}
+use Rattle.rowan_cursor.proofs.TableLemmas.{slice_get-some, index_above, path_at-child, is_entry, kept-some}
 
 -- The first of a list of children, and the last.
 below-first : (p : Path) (a d : ℕ) (s : Path) → Some s ≡ first_at (below p (numbers a d)) → (s ≡ p ++ a ∷ []) × (0 < d)
@@ -297,20 +297,20 @@ same_number es f (suc k) m n b i j h =
             let joined = sym (path_at-child es f m d.0 d.1 x) ∙ h ∙ path_at-child es f n e.0 e.1 y in
             let less : d.0.parent < m = f.earlier m d.0 d.1 x in
             let lesser : e.0.parent < n = f.earlier n e.0 e.1 y in
-            let parents : d.0.parent ≡ e.0.parent = same_number es f k d.0.parent e.0.parent (omega arith) (omega arith) (omega arith) (same_parent (path_at es d.0.parent) (path_at es e.0.parent) d.0.index e.0.index joined) in
-            let places : d.0.index ≡ e.0.index = sym (last_place-child (path_at es d.0.parent) d.0.index) ∙ ap last_place joined ∙ last_place-child (path_at es e.0.parent) e.0.index in
+            let parents : d.0.parent ≡ e.0.parent = same_number es f k d.0.parent e.0.parent (omega arith) (omega arith) (omega arith) (same_parent (path_at es d.0.parent) (path_at es e.0.parent) (index_of es m d.0) (index_of es n e.0) joined) in
+            let places : (index_of es m d.0) ≡ (index_of es n e.0) = sym (last_place-child (path_at es d.0.parent) (index_of es m d.0)) ∙ ap last_place joined ∙ last_place-child (path_at es e.0.parent) (index_of es n e.0) in
             let above = slice_get-some es d.0.parent (omega arith) in
             let one = f.parents m d.0 above.0 d.1 x above.1 in
             let other = f.parents n e.0 above.0 e.1 y (ap (slice_get es) (sym parents) ∙ above.1) in
-            omega (arith, one.place, other.place))
+            omega (arith, one.place, other.place, places, index_above es m d.0 above.0 above.1, index_above es n e.0 above.0 (ap (slice_get es) (sym parents) ∙ above.1)))
         | inr y ↦ (
             let zero_n : n ≡ 0 = omega arith in
-            absurd (ends_apart (path_at es d.0.parent) d.0.index (sym (path_at-child es f m d.0 d.1 x) ∙ h ∙ ap (path_at es) zero_n)))
+            absurd (ends_apart (path_at es d.0.parent) (index_of es m d.0) (sym (path_at-child es f m d.0 d.1 x) ∙ h ∙ ap (path_at es) zero_n)))
       ]
       | inr x ↦ elim (cases_lt 0 n) [
         | inl y ↦ (
             let zero_m : m ≡ 0 = omega arith in
-            absurd (ends_apart (path_at es e.0.parent) e.0.index (sym (path_at-child es f n e.0 e.1 y) ∙ sym h ∙ ap (path_at es) zero_m)))
+            absurd (ends_apart (path_at es e.0.parent) (index_of es n e.0) (sym (path_at-child es f n e.0 e.1 y) ∙ sym h ∙ ap (path_at es) zero_m)))
         | inr y ↦ omega arith
       ]
     ]
@@ -320,4 +320,6 @@ apart_paths es t m n i j apart h = apart (same_number es t.filling (suc m) m n (
 
 -- something stands at each path of a table
 pub stands_at : (es : List Entry) → IsTable es → (n : ℕ) → n < length es → (u : Term) × (subterm (Node (root_of es)) (path_at es n) ≡ Some u)
-stands_at es t n i = let e = slice_get-some es n i in (e.0.green, (is_entry es t n e.0 e.1).green)
+stands_at es t n i =
+    let e = slice_get-some es n i in
+    kept-some (subterm (Node (root_of es)) (path_at es n)) (green_of e.0) (is_entry es t n e.0 e.1).green

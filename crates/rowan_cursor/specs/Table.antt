@@ -1,39 +1,71 @@
 -- The table of a tree: an entry for each of its nodes and tokens, level by level, the root first.
 --     The children of a node stand side by side in their order, behind those of the nodes before it. An entry knows the number of
---     its parent and of its first child, its index among its parent's children, how many children it has, and where its text starts.
+--     its parent and of its first child, and where its text starts. It keeps its node, but no token: a token is found among the
+--     children of its parent.
 --     The path of an entry is read off by going up: from parent to parent, to the root.
 -- All facts are local: each speaks of one entry, or of an entry and its parent.
-use Rattle.std.specs.Prelude.{◌≡◌, true, ℕ, zero, suc, ◌+◌, ◌-◌, ◌<◌, ◌≤◌, List, [], ◌∷◌, ◌++◌, map, length, take, reverse, Some, slice_get}
-use Rattle.std.specs.Option.{option_map_or}
-use Rattle.rowan_green.specs.declared.utility_types.NodeOrToken.TheVariants.{Node, Token}
+use Rattle.std.specs.Prelude.{◌≡◌, true, ℕ, zero, suc, ◌+◌, ◌-◌, ◌<◌, ◌≤◌, List, [], ◌∷◌, ◌++◌, map, length, take, reverse, Some, Option, None, slice_get}
+use Rattle.std.specs.Option.{option_map, option_map_or}
+use Rattle.rowan_green.specs.declared.utility_types.NodeOrToken.TheVariants.{Node}
 use Rattle.rowan_green.specs.Fits.{byte_limit}
+use Rattle.rowan_green.specs.Lent.{into_node}
 use Rattle.rowan_green.specs.Search.{child_start}
-use Rattle.rowan_green.specs.Term.{NodeTerm, node, empty, Term, term_len}
-use Rattle.rowan_green.specs.Path.{Path, subterm, offset, term_children}
+use Rattle.rowan_green.specs.Term.{NodeTerm, node, empty, Term, node_children, node_len}
+use Rattle.rowan_green.specs.Path.{Path, subterm, offset, len_of}
 use Rattle.rowan_cursor.specs.Cursor.{last_place}
 use Rattle.rowan_cursor.specs.Moves.{child_paths, is_node_at, numbers}
 use Rattle.rowan_cursor.specs.declared.tree.Entry.{Entry}
+use Rattle.rowan_cursor.specs.declared.tree.Kept.{Kept}
+use Rattle.rowan_cursor.specs.declared.tree.Kept.TheVariants.{OfNode, OfToken}
 
-abbrev pub node_in : Term → NodeTerm
-node_in (Node n) = n
-node_in (Token t) = node 0 empty
+-- what an entry keeps: its node, if it is one, and where its text starts
+abbrev pub green_in : Kept → Option NodeTerm
+green_in (OfNode start n) = Some n
+green_in (OfToken start) = None
+
+abbrev pub offset_in : Kept → ℕ
+offset_in (OfNode start n) = start
+offset_in (OfToken start) = start
+
+abbrev pub green_of : Entry → Option NodeTerm
+green_of e = green_in e.kept
+
+abbrev pub offset_of : Entry → ℕ
+offset_of e = offset_in e.kept
+
+-- the children of a node, and its length
+abbrev pub children_in : Option NodeTerm → List Term
+children_in None = []
+children_in (Some n) = node_children n
+
+abbrev pub len_in : Option NodeTerm → ℕ
+len_in None = 0
+len_in (Some n) = node_len n
+
+abbrev pub node_in : Option NodeTerm → NodeTerm
+node_in None = node 0 empty
+node_in (Some n) = n
 
 -- the node of the first entry
 abbrev pub root_of : List Entry → NodeTerm
 root_of [] = node 0 empty
-root_of (e ∷ es) = node_in e.green
+root_of (e ∷ es) = node_in (green_of e)
 
 -- how many children these entries have together
 abbrev pub counts : List Entry → ℕ
 counts [] = 0
-counts (e ∷ es) = e.child_count + counts es
+counts (e ∷ es) = length (children_in (green_of e)) + counts es
+
+-- an entry's index among its siblings: how far it stands behind the first child of its parent
+abbrev pub index_of : List Entry → ℕ → Entry → ℕ
+index_of es n e = n - option_map_or (λ p. p.first_child) (slice_get es e.parent) 0
 
 -- the path of an entry, found by going up at most so many times
 abbrev pub path_within : ℕ → List Entry → ℕ → Path
 path_within zero es n = []
 path_within (suc steps) es zero = []
 path_within (suc steps) es (suc n) =
-    option_map_or (λ e. path_within steps es e.parent ++ e.index ∷ []) (slice_get es (suc n)) []
+    option_map_or (λ e. path_within steps es e.parent ++ index_of es (suc n) e ∷ []) (slice_get es (suc n)) []
 
 -- the path of the entry with this number; a parent's number is less than its child's
 abbrev pub path_at : List Entry → ℕ → Path
@@ -41,22 +73,20 @@ path_at es n = path_within n es n
 
 -- the first entry is that of a root
 pub record IsTop (es : List Entry) (e : Entry) : Type 0 where
-  pub green : e.green ≡ Node (root_of es)
-  pub start : e.offset ≡ 0
-  pub index : e.index ≡ 0
+  pub green : (green_of e) ≡ Some (root_of es)
+  pub start : (offset_of e) ≡ 0
 
 -- entry e, with the number n, is a child of entry p
 pub record IsChildOf (p : Entry) (n : ℕ) (e : Entry) : Type 0 where
-  pub place : n ≡ p.first_child + e.index
-  pub child : slice_get (term_children p.green) e.index ≡ Some e.green
-  pub start : e.offset ≡ p.offset + child_start (term_children p.green) e.index
+  pub place : p.first_child ≤ n
+  pub child : option_map into_node (slice_get (children_in (green_of p)) (n - p.first_child)) ≡ Some (green_of e)
+  pub start : (offset_of e) ≡ (offset_of p) + child_start (children_in (green_of p)) (n - p.first_child)
 
 -- a table to which entries may still be added
 pub record IsFilling (es : List Entry) : Type 0 where
   pub some : 0 < length es
   pub top : (e : Entry) → slice_get es 0 ≡ Some e → IsTop es e
-  pub counted : (n : ℕ) (e : Entry) → slice_get es n ≡ Some e → e.child_count ≡ length (term_children e.green)
-  pub ends : (n : ℕ) (e : Entry) → slice_get es n ≡ Some e → e.offset + term_len e.green ≤ byte_limit
+  pub ends : (n : ℕ) (e : Entry) → slice_get es n ≡ Some e → (offset_of e) + len_in (green_of e) ≤ byte_limit
   pub firsts : (n : ℕ) (e : Entry) → slice_get es n ≡ Some e → e.first_child ≡ counts (take n es) + 1
   pub earlier : (n : ℕ) (e : Entry) → slice_get es n ≡ Some e → 0 < n → e.parent < n
   pub parents : (n : ℕ) (e p : Entry) → slice_get es n ≡ Some e → 0 < n → slice_get es e.parent ≡ Some p → IsChildOf p n e
@@ -81,18 +111,17 @@ pub record IsRowBack (es : List Entry) (start end : ℕ) (paths : List Path) : T
 -- where an entry's parent stands, if it is not the root
 pub record IsBelow (es : List Entry) (n : ℕ) (e : Entry) : Type 0 where
   pub earlier : e.parent < n
-  pub path : path_at es n ≡ path_at es e.parent ++ e.index ∷ []
+  pub path : path_at es n ≡ path_at es e.parent ++ index_of es n e ∷ []
 
 -- what stands in a table at a number, in terms of the paths in its root
 pub record IsEntry (es : List Entry) (n : ℕ) (e : Entry) : Type 0 where
   pub at : slice_get es n ≡ Some e
-  pub green : subterm (Node (root_of es)) (path_at es n) ≡ Some e.green
-  pub start : offset (Node (root_of es)) (path_at es n) ≡ e.offset
-  pub end : e.offset + term_len e.green ≤ byte_limit
-  pub index : last_place (path_at es n) ≡ e.index
-  pub count : e.child_count ≡ length (term_children e.green)
+  pub green : option_map into_node (subterm (Node (root_of es)) (path_at es n)) ≡ Some (green_of e)
+  pub start : offset (Node (root_of es)) (path_at es n) ≡ (offset_of e)
+  pub end : (offset_of e) + len_of (subterm (Node (root_of es)) (path_at es n)) ≤ byte_limit
+  pub index : last_place (path_at es n) ≡ index_of es n e
   pub below : 0 < n → IsBelow es n e
-  pub children : IsRow es e.first_child (e.first_child + e.child_count) (child_paths (root_of es) (path_at es n))
+  pub children : IsRow es e.first_child (e.first_child + length (children_in (green_of e))) (child_paths (root_of es) (path_at es n))
 
 -- the entry with this number is that of a node
 abbrev pub IsNodeEntry : List Entry → ℕ → Type 0
@@ -102,4 +131,4 @@ IsNodeEntry es n = is_node_at (root_of es) (path_at es n) ≡ true
 pub record GrowsBy (old new : List Entry) (ts : List Term) : Type 0 where
   pub row : List Entry
   pub grown : new ≡ old ++ row
-  pub greens : map (λ e. e.green) row ≡ ts
+  pub greens : map green_of row ≡ map into_node ts

@@ -15,20 +15,23 @@ ghost use Rattle.rowan_cursor.specs.TableProp.{IsTable-prop};
 
 use fill::Draft;
 use rowan_green::fault::Fault;
-use rowan_green::green::{GreenElement, GreenNode};
+use rowan_green::green::GreenNode;
 use rowan_green::text::TextSize;
-use rowan_green::utility_types::NodeOrToken;
 use std::alloc::Global;
+
+/// What an entry keeps of a node or token: where its text starts, and the node. A token is lent by its parent.
+#[derive(Drop)]
+pub(crate) enum Kept {
+    OfNode(TextSize, GreenNode),
+    OfToken(TextSize),
+}
 
 /// A node or token of a tree, and its place there. The root is its own parent.
 #[derive(Drop)]
 pub(crate) struct Entry {
-    pub(crate) green: GreenElement,
+    pub(crate) kept: Kept,
     pub(crate) parent: usize,
     pub(crate) first_child: usize,
-    pub(crate) index: u32,
-    pub(crate) child_count: u32,
-    pub(crate) offset: TextSize,
 }
 
 /// A tree as a table of its nodes and tokens, level by level. Each is known by the number of its entry; the root has 0.
@@ -66,7 +69,7 @@ impl Tree {
         requires { number < length self.now.entries.items }
         ensures { result ≡ is_node_at (root_of self.now.entries.items) (path_at self.now.entries.items number) }
     {
-        matches!(self.entry(number).green, NodeOrToken::Node(_))
+        matches!(self.entry(number).kept, Kept::OfNode(_, _))
     }
 
     /// The parent.

@@ -24,9 +24,10 @@ pub(super) fn at(tree: &Rc<Tree>, entry: usize) -> Result<SyntaxElement, Fault>
     ensures ok { IfOk result (λ e. e ≡ element_of tree.now.value.entries.items entry) }
     ensures err { IfErr result (λ e. e ≡ Fault.Memory) }
 {
-    match &tree.entry(entry).green {
-        NodeOrToken::Node(_) => Ok(NodeOrToken::Node(SyntaxNode::at(tree, entry)?)),
-        NodeOrToken::Token(_) => Ok(NodeOrToken::Token(SyntaxToken::at(tree, entry)?)),
+    if tree.is_node(entry) {
+        Ok(NodeOrToken::Node(SyntaxNode::at(tree, entry)?))
+    } else {
+        Ok(NodeOrToken::Token(SyntaxToken::at(tree, entry)?))
     }
 }
 

@@ -104,7 +104,7 @@ impl SyntaxNode {
     pub fn index(&self) -> usize
         ensures { result ≡ last_place self.now.path }
     {
-        self.tree.entry(self.entry).index as usize
+        self.tree.index(self.entry)
     }
 
     /// The green node at this place.

@@ -84,7 +84,7 @@ impl SyntaxToken {
     pub fn index(&self) -> usize
         ensures { result ≡ last_place self.now.path }
     {
-        self.tree.entry(self.entry).index as usize
+        self.tree.index(self.entry)
     }
 
     /// The text of the token.

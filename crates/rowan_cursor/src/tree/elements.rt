@@ -2,13 +2,15 @@
 ghost use Rattle.std.specs.Prelude.{◌≡◌, ◌<◌, IfSome, length, slice_get, Some};
 ghost use Rattle.std.specs.Option.{option_map};
 ghost use Rattle.rowan_green.specs.declared.utility_types.NodeOrToken.TheVariants.{Node, Token};
+ghost use Rattle.rowan_green.specs.Lent.{pointee};
 ghost use Rattle.rowan_green.specs.Path.{range, subterm};
+ghost use Rattle.rowan_cursor.specs.Cursor.{last_place};
 ghost use Rattle.rowan_cursor.specs.CursorView.{HasNode, HasToken};
 ghost use Rattle.rowan_cursor.specs.Moves.{child_paths};
 ghost use Rattle.rowan_cursor.specs.Table.{root_of, path_at};
 
-use super::Tree;
-use rowan_green::green::{GreenNode, GreenToken};
+use super::{Kept, Tree};
+use rowan_green::green::{GreenElementRef, GreenNode, GreenToken};
 use rowan_green::text::TextRange;
 use rowan_green::utility_types::NodeOrToken;
 use std::alloc::Global;
@@ -24,8 +26,11 @@ impl Tree {
         requires { number < length self.now.entries.items }
         ensures { let es = self.now.entries.items in result ≡ range (Node (root_of es)) (path_at es number) }
     {
-        let entry = self.entry(number);
-        TextRange::at(entry.offset, entry.green.text_len())
+        let offset = match &self.entry(number).kept {
+            Kept::OfNode(offset, _) => *offset,
+            Kept::OfToken(offset) => *offset,
+        };
+        TextRange::at(offset, self.element(number).text_len())
     }
 
     /// The child at an index, tokens counted.
@@ -46,9 +51,9 @@ impl Tree {
         requires { HasNode self.now.entries.items number }
         ensures { let es = self.now.entries.items in subterm (Node (root_of es)) (path_at es number) ≡ Some (Node result.now) }
     {
-        match &self.entry(number).green {
-            NodeOrToken::Node(node) => node,
-            NodeOrToken::Token(_) => unreachable!(),
+        match &self.entry(number).kept {
+            Kept::OfNode(_, node) => node,
+            Kept::OfToken(_) => unreachable!(),
         }
     }
 
@@ -57,9 +62,39 @@ impl Tree {
         requires { HasToken self.now.entries.items number }
         ensures { let es = self.now.entries.items in subterm (Node (root_of es)) (path_at es number) ≡ Some (Token result.now) }
     {
-        match &self.entry(number).green {
+        match self.element(number) {
             NodeOrToken::Node(_) => unreachable!(),
             NodeOrToken::Token(token) => token,
         }
+    }
+
+    /// The node or token.
+    pub(crate) fn element(&self, number: usize) -> GreenElementRef<'_>
+        requires { number < length self.now.entries.items }
+        ensures { let es = self.now.entries.items in subterm (Node (root_of es)) (path_at es number) ≡ Some (pointee result) }
+    {
+        let entry = self.entry(number);
+        if let Kept::OfNode(_, node) = &entry.kept {
+            return NodeOrToken::Node(node);
+        }
+        let above = self.entry(entry.parent);
+        let Kept::OfNode(_, parent) = &above.kept else {
+            unreachable!();
+        };
+        let Some(found) = parent.child_ref(number - above.first_child) else {
+            unreachable!();
+        };
+        found.1
+    }
+
+    /// The index among all children of the parent; 0 of the root.
+    pub(crate) fn index(&self, number: usize) -> usize
+        requires { number < length self.now.entries.items }
+        ensures { result ≡ last_place (path_at self.now.entries.items number) }
+    {
+        if number == 0 {
+            return 0;
+        }
+        number - self.entry(self.entry(number).parent).first_child
     }
 }

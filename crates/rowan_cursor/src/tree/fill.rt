@@ -1,15 +1,15 @@
 //! Filling a table: level by level, in one pass.
 ghost use Rattle.std.specs.Prelude.{◌≡◌, ◌+◌, ◌<◌, ◌≤◌, [], ◌∷◌, IfOk, IfErr, OnOk, Some, length, take, slice_get};
-ghost use Rattle.rowan_green.specs.Fits.{Fits};
-ghost use Rattle.rowan_green.specs.Path.{term_children};
-ghost use Rattle.rowan_green.specs.Term.{Term};
-ghost use Rattle.rowan_cursor.specs.Table.{IsFilling, GrowsBy, counts, root_of};
+ghost use Rattle.rowan_green.specs.Fits.{FitsNode};
+ghost use Rattle.rowan_green.specs.Lent.{into_node, pointee};
+ghost use Rattle.rowan_green.specs.Term.{NodeTerm, Term};
+ghost use Rattle.rowan_cursor.specs.Table.{IsFilling, GrowsBy, children_in, counts, green_in, green_of, offset_in, root_of};
 ghost use Rattle.rowan_cursor.specs.declared.tree.Entry.{Entry};
 ghost use Rattle.rowan_cursor.specs.TableProp.{IsFilling-prop};
 
-use super::{Entry, Tree};
+use super::{Entry, Kept, Tree};
 use rowan_green::fault::Fault;
-use rowan_green::green::{GreenElement, GreenNode};
+use rowan_green::green::{GreenElementRef, GreenNode};
 use rowan_green::text::TextSize;
 use rowan_green::utility_types::NodeOrToken;
 use std::alloc::Global;
@@ -30,17 +30,14 @@ impl Draft {
         ensures one { IfOk result (λ draft. length draft.entries.items ≡ 1) }
         ensures err { IfErr result (λ e. e ≡ Fault.Memory) }
     {
-        let green = NodeOrToken::Node(green);
-        let child_count = child_count(&green);
+        let kept = Kept::OfNode(TextSize::from(0), green);
+        let child_count = child_count(&kept);
         let next_child = child_count as usize + 1;
         let mut entries = Vec::new(alloc);
         entries.push(Entry {
-            green,
+            kept,
             parent: 0,
             first_child: 1,
-            index: 0,
-            child_count,
-            offset: TextSize::from(0),
         })?;
         Ok(Draft {
             entries,
@@ -60,10 +57,10 @@ impl Draft {
         requires within { parent < length self.old.entries.items }
         requires place { length self.old.entries.items ≡ counts (take parent self.old.entries.items) + 1 }
         ensures ok { OnOk result ((e : Entry) → slice_get self.old.entries.items parent ≡ Some e
-            → GrowsBy self.old.entries.items self.new.entries.items (term_children e.green)) }
+            → GrowsBy self.old.entries.items self.new.entries.items (children_in (green_of e))) }
         ensures err { IfErr result (λ e. e ≡ Fault.Memory) }
     {
-        let count = self.entries[parent].child_count;
+        let count = child_count(&self.entries[parent].kept);
         for index in 0..count {
             self.push_child(parent, index)?;
         }
@@ -74,33 +71,29 @@ impl Draft {
     fn push_child(&mut self, parent: usize, index: u32) -> Result<(), Fault>
         requires within { parent < length self.old.entries.items }
         requires place { (e : Entry) → slice_get self.old.entries.items parent ≡ Some e
-            → (index < e.child_count) × (length self.old.entries.items ≡ e.first_child + index) }
+            → (index < length (children_in (green_of e))) × (length self.old.entries.items ≡ e.first_child + index) }
         ensures ok { OnOk result ((e : Entry) (t : Term) → slice_get self.old.entries.items parent ≡ Some e
-            → slice_get (term_children e.green) index ≡ Some t → GrowsBy self.old.entries.items self.new.entries.items (t ∷ [])) }
+            → slice_get (children_in (green_of e)) index ≡ Some t → GrowsBy self.old.entries.items self.new.entries.items (t ∷ [])) }
         ensures err { IfErr result (λ e. e ≡ Fault.Memory) }
     {
         let above = &self.entries[parent];
-        let NodeOrToken::Node(node) = &above.green else {
+        let Kept::OfNode(offset, node) = &above.kept else {
             unreachable!();
         };
         let Some(found) = node.child_ref(index as usize) else {
             unreachable!();
         };
         let (start, child) = found;
-        let green = child.to_owned()?;
-        let offset = TextSize::from(u32::from(above.offset) + u32::from(start));
-        let child_count = child_count(&green);
+        let kept = kept(TextSize::from(u32::from(*offset) + u32::from(start)), child)?;
+        let child_count = child_count(&kept);
         let first_child = self.next_child;
         let Some(next_child) = first_child.checked_add(child_count as usize) else {
             return Err(Fault::Memory);
         };
         self.entries.push(Entry {
-            green,
+            kept,
             parent,
             first_child,
-            index,
-            child_count,
-            offset,
         })?;
         self.next_child = next_child;
         Ok(())
@@ -120,14 +113,28 @@ impl Draft {
 }
 
 // How many children a node has; a token has none.
-fn child_count(green: &GreenElement) -> u32
-    ensures count { result ≡ length (term_children green.now) }
-    ensures fits { Fits green.now }
+fn child_count(kept: &Kept) -> u32
+    ensures count { result ≡ length (children_in (green_in kept.now)) }
+    ensures fits { (n : NodeTerm) → green_in kept.now ≡ Some n → FitsNode n }
 {
-    // What has a length is within the limits.
-    let _len = green.text_len();
-    match green {
-        NodeOrToken::Node(node) => node.children().len() as u32,
-        NodeOrToken::Token(_) => 0,
+    match kept {
+        Kept::OfNode(_, node) => {
+            // What has a length is within the limits.
+            let _len = node.text_len();
+            node.children().len() as u32
+        }
+        Kept::OfToken(_) => 0,
+    }
+}
+
+// What an entry keeps of an element whose text starts there: a node is shared.
+fn kept(offset: TextSize, child: GreenElementRef<'_>) -> Result<Kept, Fault>
+    ensures start { IfOk result (λ kept. offset_in kept ≡ offset) }
+    ensures green { IfOk result (λ kept. green_in kept ≡ into_node (pointee child.entry)) }
+    ensures err { IfErr result (λ e. e ≡ Fault.Memory) }
+{
+    match child {
+        NodeOrToken::Node(node) => Ok(Kept::OfNode(offset, node.clone()?)),
+        NodeOrToken::Token(_) => Ok(Kept::OfToken(offset)),
     }
 }

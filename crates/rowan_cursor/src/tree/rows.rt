@@ -1,8 +1,9 @@
 //! Rows: entries that stand side by side, as the children of a node do.
-ghost use Rattle.std.specs.Prelude.{◌≡◌, ◌-◌, ◌<◌, ◌≤◌, IfSome, length, map, reverse};
+ghost use Rattle.std.specs.Prelude.{◌≡◌, ◌+◌, ◌-◌, ◌<◌, ◌≤◌, IfSome, Some, length, map, reverse, slice_get};
 ghost use Rattle.std.specs.Option.{option_map};
 ghost use Rattle.rowan_cursor.specs.Moves.{numbers, first_at, first_node_at, child_paths, following, preceding};
-ghost use Rattle.rowan_cursor.specs.Table.{IsNodeEntry, IsRow, IsRowBack, root_of, path_at};
+ghost use Rattle.rowan_cursor.specs.Table.{IsNodeEntry, IsRow, IsRowBack, children_in, green_of, root_of, path_at};
+ghost use Rattle.rowan_cursor.specs.declared.tree.Entry.{Entry};
 
 use super::Tree;
 use std::ops::Range;
@@ -13,8 +14,7 @@ impl Tree {
         requires { number < length self.now.entries.items }
         ensures { let es = self.now.entries.items in IsRow es result.start result.end (child_paths (root_of es) (path_at es number)) }
     {
-        let entry = self.entry(number);
-        entry.first_child..entry.first_child + entry.child_count as usize
+        self.entry(number).first_child..self.children_end(number)
     }
 
     /// The numbers of the siblings behind this one.
@@ -25,8 +25,7 @@ impl Tree {
         if number == 0 {
             return 0..0;
         }
-        let parent = self.entry(self.entry(number).parent);
-        number + 1..parent.first_child + parent.child_count as usize
+        number + 1..self.children_end(self.entry(number).parent)
     }
 
     /// The numbers of the siblings before this one.
@@ -39,6 +38,18 @@ impl Tree {
         }
         let parent = self.entry(self.entry(number).parent);
         parent.first_child..number
+    }
+
+    // Where the children end: where those of the next entry begin.
+    fn children_end(&self, number: usize) -> usize
+        requires { number < length self.now.entries.items }
+        ensures { (e : Entry) → slice_get self.now.entries.items number ≡ Some e → result ≡ e.first_child + length (children_in (green_of e)) }
+    {
+        let len = self.entries.len();
+        if number + 1 == len {
+            return len;
+        }
+        self.entries[number + 1].first_child
     }
 
     /// The first of a row.

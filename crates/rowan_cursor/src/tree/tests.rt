@@ -12,7 +12,7 @@ const CALLS: [&str; 29] = [
 ];
 
 // Some entries: number, parent, index, offset, first child and number of children.
-const ENTRIES: [(usize, usize, u32, u32, usize, u32); 6] = [
+const ENTRIES: [(usize, usize, usize, u32, usize, usize); 6] = [
     (0, 0, 0, 0, 1, 1),
     (1, 0, 0, 0, 2, 7),
     (5, 1, 3, 3, 10, 7),
@@ -40,13 +40,12 @@ fn table_of_sum(rt: HostRuntime) -> Result<(), Fail> {
     for (number, parent, index, offset, first_child, child_count) in ENTRIES {
         assert!(rt; number < tree.entries.len());
         let entry = tree.entry(number);
-        let place = (entry.parent, entry.index, u32::from(entry.offset));
+        let start = u32::from(tree.text_range(number).start());
+        let place = (entry.parent, tree.index(number), start);
         assert_eq!(rt; place, (parent, index, offset), "{number}");
-        assert_eq!(rt;
-            (entry.first_child, entry.child_count),
-            (first_child, child_count),
-            "{number}"
-        );
+        let children = tree.child_numbers(number);
+        assert_eq!(rt; children.start, first_child, "{number}");
+        assert_eq!(rt; children.end, first_child + child_count, "{number}");
     }
     Ok(())
 }

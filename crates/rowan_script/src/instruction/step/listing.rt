@@ -1,10 +1,9 @@
 //! The lists of elements around a cursor.
-ghost use Rattle.std.specs.Prelude.{◌≡◌, ◌⊎◌, IfOk, IfErr, List, Ok, map};
+ghost use Rattle.std.specs.Prelude.{◌≡◌, ◌⊎◌, IfOk, IfErr};
 ghost use Rattle.std.specs.Option.{option_map};
-ghost use Rattle.std.specs.Iterator.{Drains, IsFinite};
-ghost use Rattle.rowan_cursor.specs.Cursor.{Cursor};
-ghost use Rattle.rowan_script.specs.Gives.{GivesRefusal};
-ghost use Rattle.rowan_script.specs.Moves.{listed, listed_from_node, listed_from_token, node_list};
+ghost use Rattle.std.specs.Iterator.{IsFinite};
+ghost use Rattle.rowan_script.specs.Gives.{GivesElements, GivesNodes, GivesRefusal};
+ghost use Rattle.rowan_script.specs.Moves.{listed, listed_from_node, listed_from_token};
 
 use crate::operand;
 use anyhow::Result;
@@ -90,7 +89,7 @@ where
     I: Iterator<Item = Result<SyntaxElement, Fault>> + Drop,
     requires can { I.can_next items }
     requires ends { IsFinite (I.remaining items) }
-    ensures ok { IfOk result (λ es. Drains I.next_gives items (map (λ e. Ok e) es.items)) }
+    ensures ok { IfOk result (λ es. GivesElements I.next_gives items es.items) }
     ensures err { IfErr result (λ e. (e ≡ Fault.Memory) ⊎ GivesRefusal I.next_gives items e) }
 {
     let mut elements = Vec::new(alloc);
@@ -105,7 +104,7 @@ where
     I: Iterator<Item = Result<SyntaxNode, Fault>> + Drop,
     requires can { I.can_next items }
     requires ends { IsFinite (I.remaining items) }
-    ensures ok { IfOk result (λ es. (cs : List Cursor) × Drains I.next_gives items (map (λ c. Ok c) cs) × (es.items ≡ node_list cs)) }
+    ensures ok { IfOk result (λ es. GivesNodes I.next_gives items es.items) }
     ensures err { IfErr result (λ e. (e ≡ Fault.Memory) ⊎ GivesRefusal I.next_gives items e) }
 {
     let mut nodes = Vec::new(alloc);

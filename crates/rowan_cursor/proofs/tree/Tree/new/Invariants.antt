@@ -1,6 +1,6 @@
-use Rattle.std.proofs.Common.{◌≡◌, ◌+◌, ◌≤◌, length, map, take, drop}
-use Rattle.rowan_green.specs.Sizes.{terms_size}
+use Rattle.std.proofs.Common.{◌≡◌, ◌+◌, ◌≤◌, length, take}
 use Rattle.rowan_cursor.specs.Table.{root_of, counts}
+use Rattle.rowan_cursor.proofs.FillLemmas.{left_from}
 use Rattle.rowan_cursor.proofs.tree.Tree.new.Given as goal
 
 abbrev pub invariant-loop-done : goal.invariant-loop-done
@@ -9,4 +9,4 @@ invariant-loop-done l =
     (l.done ≤ length es) × (length es ≡ counts (take l.done es) + 1) × (root_of es ≡ l.fn.green)
 
 abbrev pub decreases-loop-done : goal.decreases-loop-done
-decreases-loop-done l = terms_size (map (λ e. e.green) (drop l.done l.draft.entries.items))
+decreases-loop-done l = left_from l.done l.draft.entries.items

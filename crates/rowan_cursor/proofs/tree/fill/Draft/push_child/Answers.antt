@@ -1,10 +1,10 @@
 use Rattle.std.proofs.Common.{◌≡◌, ◌+◌, [], ◌∷◌, ◌++◌, length, Some, refl, sym, ◌∙◌, ap, subst, arith}
 use Rattle.std.specs.Prelude.{slice_get}
 use Rattle.std.proofs.lemmas.Option.{slice_get_read}
+use Rattle.rowan_green.specs.Lent.{pointee}
 use Rattle.rowan_green.specs.Search.{child_start}
 use Rattle.rowan_green.specs.Term.{node_children}
-use Rattle.rowan_green.specs.Path.{term_children}
-use Rattle.rowan_cursor.specs.Table.{counts, IsFilling}
+use Rattle.rowan_cursor.specs.Table.{children_in, counts, green_in, offset_in, offset_of, IsFilling}
 use Rattle.rowan_cursor.specs.declared.tree.Entry.{Entry}
 use Rattle.rowan_cursor.proofs.FillLemmas.{IsNextChild, IsFilling-push, next_child, GrowsBy-next, start_within, counts-push}
 use Rattle.rowan_cursor.proofs.tree.fill.Draft.push_child.Goals as goal
@@ -14,45 +14,41 @@ unreachable-requires c =
     let s = c.args.self.now in
     let above = c.index-above.result.now in
     let at : slice_get s.entries.items c.args.parent ≡ Some above = slice_get_read s.entries.items _ c.args.parent above refl c.requires.within c.index-above.ensures in
-    omega (arith, (c.requires.place above at).0, s.filling.counted c.args.parent above at, ap (λ t. length (term_children t)) c.in_default.is)
+    omega (arith, (c.requires.place above at).0, ap (λ k. length (children_in (green_in k))) c.in_default.is)
 
 pub unreachable-requires-in_default-child_ref : goal.unreachable-requires-in_default-child_ref
 unreachable-requires-in_default-child_ref c =
     let s = c.args.self.now in
     let above = c.index-above.result.now in
     let at : slice_get s.entries.items c.args.parent ≡ Some above = slice_get_read s.entries.items _ c.args.parent above refl c.requires.within c.index-above.ensures in
-    omega (arith, (c.requires.place above at).0, s.filling.counted c.args.parent above at, ap (λ t. length (term_children t)) c.in-Node.is, c.in_default-child_ref.ensures.none.0 refl)
+    omega (arith, (c.requires.place above at).0, ap (λ k. length (children_in (green_in k))) c.in-OfNode.is, c.in_default-child_ref.ensures.none.0 refl)
 
 pub overflow_add-from : goal.overflow_add-from
 overflow_add-from c =
     let s = c.args.self.now in
     let above = c.index-above.result.now in
     let at : slice_get s.entries.items c.args.parent ≡ Some above = slice_get_read s.entries.items _ c.args.parent above refl c.requires.within c.index-above.ensures in
-    let limit = start_within s.entries.items s.filling c.args.parent above c.in-Node.node at c.in-Node.is c.args.index in
-    omega (arith, c.from.ensures, c.from-2.ensures, c.in-Some.ensures.some.0, limit)
+    let limit = start_within s.entries.items s.filling c.args.parent above c.in-OfNode.node at (ap green_in c.in-OfNode.is) c.args.index in
+    omega (arith, c.from.ensures, c.from-2.ensures, c.in-Some.ensures.some.0, ap offset_in c.in-OfNode.is, limit)
 
 pub invariant_of-self-2 : goal.invariant_of-self-2
 invariant_of-self-2 c =
     let s = c.args.self.now in
     let es = s.entries.items in
     let above = c.index-above.result.now in
-    let node = c.in-Node.node in
+    let node = c.in-OfNode.node in
     let at : slice_get es c.args.parent ≡ Some above = slice_get_read es _ c.args.parent above refl c.requires.within c.index-above.ensures in
     let y : Entry = record {
-      green = c.in_ok-green.green;
+      kept = c.in_ok-kept.kept;
       parent = c.args.parent;
       first_child = s.next_child;
-      index = c.args.index;
-      child_count = c.child_count-child_count.result;
-      offset = c.from-offset.result;
     } in
-    let start : y.offset ≡ above.offset + child_start (node_children node) c.args.index = omega (arith, c.from-offset.ensures, c.from.ensures, c.from-2.ensures, c.in-Some.ensures.some.0) in
-    let child : slice_get (node_children node) c.args.index ≡ Some y.green = c.in-Some.ensures.some.1 ∙ ap (λ t. Some t) (sym c.in_ok-green.ensures.ok) in
-    let next : IsNextChild es above y = next_child es s.filling above y node at c.in-Node.is (c.requires.place above at).1 child start c.child_count-child_count.ensures.count s.next in
+    let start : offset_of y ≡ offset_of above + child_start (node_children node) c.args.index = omega (arith, c.in_ok-kept.ensures.start, ap offset_in c.in-OfNode.is, c.from.ensures, c.from-2.ensures, c.from-3.ensures, c.in-Some.ensures.some.0) in
+    let next : IsNextChild es above y = next_child es s.filling above y node c.args.index (pointee c.in-Some.found.1) at (ap green_in c.in-OfNode.is) (c.requires.place above at).1 c.in-Some.ensures.some.1 c.in_ok-kept.ensures.green start s.next in
     let items : c.push.new.self.items ≡ es ++ y ∷ [] = c.in_ok-push.ensures.items in
     record {
       filling = subst IsFilling (sym items) (IsFilling-push es above y s.filling next);
-      next = omega (arith, c.in-Some-checked_add.ensures.1, s.next, ap counts items, counts-push es y);
+      next = omega (arith, c.in-Some-checked_add.ensures.1, s.next, ap counts items, counts-push es y, c.child_count-child_count.ensures.count);
     }
 
 pub returns-clause-ok : goal.returns-clause-ok
@@ -62,13 +58,9 @@ returns-clause-ok c =
     let above = c.index-above.result.now in
     let at : slice_get es c.args.parent ≡ Some above = slice_get_read es _ c.args.parent above refl c.requires.within c.index-above.ensures in
     let y : Entry = record {
-      green = c.in_ok-green.green;
+      kept = c.in_ok-kept.kept;
       parent = c.args.parent;
       first_child = s.next_child;
-      index = c.args.index;
-      child_count = c.child_count-child_count.result;
-      offset = c.from-offset.result;
     } in
-    let child : slice_get (node_children c.in-Node.node) c.args.index ≡ Some y.green = c.in-Some.ensures.some.1 ∙ ap (λ t. Some t) (sym c.in_ok-green.ensures.ok) in
     let items : c.push.new.self.items ≡ es ++ y ∷ [] = c.in_ok-push.ensures.items in
-    GrowsBy-next es c.push.new.self.items above y items at (ap (λ t. slice_get (term_children t) c.args.index) c.in-Node.is ∙ child)
+    GrowsBy-next es c.push.new.self.items above y c.args.index (pointee c.in-Some.found.1) items at c.in_ok-kept.ensures.green (ap (λ k. slice_get (children_in (green_in k)) c.args.index) c.in-OfNode.is ∙ c.in-Some.ensures.some.1)

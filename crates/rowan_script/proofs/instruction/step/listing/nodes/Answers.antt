@@ -16,4 +16,4 @@ pub returns-clause-ok : goal.returns-clause-ok
 returns-clause-ok g c =
     let all = c.loop-node.invariant in
     let gave = drained_by_loop g.I.Iterator.next_gives _ _ _ _ _ _ c.into_iter-node-iterator.ensures.into_iter_gives all.1 c.loop-node.yielded_by c.in-None.ensures.steps in
-    (all.0, gave, all.2)
+    record { cursors = all.0; given = gave; nodes = all.2 }

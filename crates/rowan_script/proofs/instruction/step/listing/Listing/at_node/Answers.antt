@@ -6,7 +6,7 @@ use Rattle.rowan_script.proofs.instruction.step.listing.Listing.at_node.Goals as
 
 pub returns-in-Children-clause-ok : goal.returns-in-Children-clause-ok
 returns-in-Children-clause-ok c =
-    rw c.in-Children.is (IfOk-weaker c.nodes.result _ _ (λ es h. h.2 ∙ ap node_list (all_left _ _ _ h.1 c.children.ensures.ok)) c.nodes.ensures.ok)
+    rw c.in-Children.is (IfOk-weaker c.nodes.result _ _ (λ es h. h.nodes ∙ ap node_list (all_left _ _ _ h.given c.children.ensures.ok)) c.nodes.ensures.ok)
 
 pub returns-in-Children-clause-err : goal.returns-in-Children-clause-err
 returns-in-Children-clause-err c =
@@ -23,7 +23,7 @@ returns-in-ChildrenWithTokens-clause-err c =
 pub returns-in-Ancestors-clause-ok : goal.returns-in-Ancestors-clause-ok
 returns-in-Ancestors-clause-ok c =
     rw c.in-Ancestors.is
-    (IfOk-weaker c.nodes-in-Ancestors.result _ _ (λ es h. h.2 ∙ ap node_list (all_left _ _ _ h.1 c.ancestors.ensures.ok)) c.nodes-in-Ancestors.ensures.ok)
+    (IfOk-weaker c.nodes-in-Ancestors.result _ _ (λ es h. h.nodes ∙ ap node_list (all_left _ _ _ h.given c.ancestors.ensures.ok)) c.nodes-in-Ancestors.ensures.ok)
 
 pub returns-in-Ancestors-clause-err : goal.returns-in-Ancestors-clause-err
 returns-in-Ancestors-clause-err c =
@@ -32,7 +32,7 @@ returns-in-Ancestors-clause-err c =
 pub returns-in-Siblings-clause-ok : goal.returns-in-Siblings-clause-ok
 returns-in-Siblings-clause-ok c =
     rw c.in-Siblings.is
-    (IfOk-weaker c.nodes-in-Siblings.result _ _ (λ es h. h.2 ∙ ap node_list (all_left _ _ _ h.1 c.siblings.ensures.ok)) c.nodes-in-Siblings.ensures.ok)
+    (IfOk-weaker c.nodes-in-Siblings.result _ _ (λ es h. h.nodes ∙ ap node_list (all_left _ _ _ h.given c.siblings.ensures.ok)) c.nodes-in-Siblings.ensures.ok)
 
 pub returns-in-Siblings-clause-err : goal.returns-in-Siblings-clause-err
 returns-in-Siblings-clause-err c =

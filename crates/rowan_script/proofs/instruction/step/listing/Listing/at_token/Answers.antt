@@ -7,7 +7,7 @@ use Rattle.rowan_script.proofs.instruction.step.listing.Listing.at_token.Goals a
 pub returns-in_ok-nodes-in-Ancestors-clause-ok : goal.returns-in_ok-nodes-in-Ancestors-clause-ok
 returns-in_ok-nodes-in-Ancestors-clause-ok c =
     let h = c.in_ok-nodes-in-Ancestors.ensures.ok in
-    rw c.in-Ancestors.is (ap (λ es. Some es) (h.2 ∙ ap node_list (all_left _ _ _ h.1 c.ancestors.ensures.ok)))
+    rw c.in-Ancestors.is (ap (λ es. Some es) (h.nodes ∙ ap node_list (all_left _ _ _ h.given c.ancestors.ensures.ok)))
 
 pub returns-in_err-nodes-in-Ancestors-clause-err : goal.returns-in_err-nodes-in-Ancestors-clause-err
 returns-in_err-nodes-in-Ancestors-clause-err c =
