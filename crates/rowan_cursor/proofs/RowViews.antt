@@ -1,16 +1,15 @@
 -- What a row's numbers stand for, by their paths.
-use Rattle.std.proofs.Common.{◌≡◌, ℕ, suc, ◌+◌, ◌-◌, ◌<◌, Bool, true, false, cond, List, [], ◌∷◌, ◌++◌, map, refl, sym, ◌∙◌, ap, Ok, Err, IfOk, arith}
+use Rattle.std.proofs.Common.{◌≡◌, ℕ, suc, ◌+◌, ◌-◌, ◌<◌, Bool, true, false, cond, List, [], ◌∷◌, ◌++◌, map, refl, ◌∙◌, ap, Ok, Err, IfOk, arith}
 use Rattle.std.specs.Prelude.{reverse, Option, Some, None}
 use Rattle.std.specs.List.{filter}
 use Rattle.std.proofs.lemmas.List.{reverse-append}
 use Rattle.rowan_green.specs.Path.{Path}
-use Rattle.rowan_green.specs.Term.{NodeTerm}
 use Rattle.rowan_green.specs.declared.utility_types.Direction.{Direction}
 use Rattle.rowan_green.specs.declared.utility_types.Direction.TheVariants.{Next, Prev}
 use Rattle.rowan_cursor.specs.declared.tree.Entry.{Entry}
 use Rattle.rowan_cursor.specs.Cursor.{Cursor}
 use Rattle.rowan_cursor.specs.CursorView.{cursor_of, element_of}
-use Rattle.rowan_cursor.specs.Moves.{numbers, cursor_at, element_at, Element, nodes_at, is_node_at, following, preceding, sibling_paths}
+use Rattle.rowan_cursor.specs.Moves.{numbers, cursor_at, element_at, Element, nodes_at, following, preceding, sibling_paths}
 use Rattle.rowan_cursor.specs.Rows.{has_node, option_list, in_order}
 use Rattle.rowan_cursor.specs.Table.{root_of, path_at, IsRow, IsRowBack}
 use Rattle.rowan_cursor.specs.Yields.{Rest}

@@ -1,8 +1,8 @@
 -- What is in a term is smaller.
-use Rattle.std.proofs.Common.{◌≡◌, ℕ, zero, suc, ◌+◌, ◌<◌, ◌≤◌, Bool, true, false, List, [], ◌∷◌, ◌++◌, refl, sym, ◌∙◌, ap, arith}
+use Rattle.std.proofs.Common.{◌≡◌, ℕ, zero, suc, ◌<◌, ◌≤◌, List, [], ◌∷◌, ◌++◌, refl, sym, ◌∙◌, ap, arith}
 use Rattle.std.specs.Prelude.{Option, Some, None, slice_get}
 use Rattle.rowan_green.specs.declared.utility_types.NodeOrToken.TheVariants.{Node, Token}
-use Rattle.rowan_green.specs.Term.{NodeTerm, Term, node_children}
+use Rattle.rowan_green.specs.Term.{Term, node_children}
 use Rattle.rowan_green.specs.Path.{Path, subterm_of, term_children}
 use Rattle.rowan_green.specs.Sizes.{term_size, terms_size}
 use Rattle.rowan_green.proofs.Drops.{terms_size-node_children}

@@ -1,10 +1,10 @@
 -- Equality of cursors: what stands there, and where its text starts. Neither the tree nor the path to it counts.
-use Rattle.std.specs.Prelude.{◌≡◌, ℕ, Bool, true, false, ◌==◌, ◌&&◌, nat_eq, List, [], ◌++◌, Option, Some, None, refl}
+use Rattle.std.specs.Prelude.{◌≡◌, ℕ, Bool, true, false, ◌==◌, ◌&&◌, List, [], ◌++◌, Option, Some, None, refl}
 use Rattle.std.proofs.Common.{ap}
 use Rattle.std.specs.Bool.{Decides}
 use Rattle.std.specs.Cmp.{IsEquivalence, decided, on_equiv, and_equiv, nat_eq_equiv}
 use Rattle.std.specs.Hash as fed
-use Rattle.std.specs.Hash.{Alike, same_Alike, on_Alike, and-Alike}
+use Rattle.std.specs.Hash.{same_Alike, on_Alike, and-Alike}
 use Rattle.std.proofs.lemmas.Bool.{false≢true}
 use Rattle.std.proofs.lemmas.Bool.Decides.{Decides-eqb}
 use Rattle.rowan_green.specs.declared.utility_types.NodeOrToken.TheVariants.{Node, Token}

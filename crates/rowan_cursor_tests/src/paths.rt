@@ -1,7 +1,6 @@
 //! Ways up and down, in the tree `ROOT["a" LIST["b"] " " ATOM["c"]]`.
 use crate::fixture::{ATOM, LIST, ROOT, WORD, element, node, nodes, root_of, token_at};
 use crate::siblings::MIXED;
-use rowan::cursor::ElementCalls;
 use rowan::script::element_at;
 use std::test::Fail;
 

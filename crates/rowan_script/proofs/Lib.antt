@@ -1,3 +1,4 @@
 pub mod Counts
 pub mod Frames
+pub mod Lists
 pub mod SpliceLemmas

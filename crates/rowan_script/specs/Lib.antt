@@ -1,3 +1,5 @@
 pub mod Comparison
 pub mod Edits
+pub mod Gives
+pub mod Moves
 pub mod Steps

@@ -2,7 +2,8 @@
 ghost use Rattle.std.specs.Prelude.{◌≢◌, ◌↔◌, IsTrue};
 ghost use Rattle.rowan_script.specs.declared.answer.Answer.TheVariants.{Unsupported};
 
-use crate::tree;
+use crate::{cursor, tree};
+use rowan::cursor::SyntaxElement;
 use rowan::{Fault, GreenElement, GreenNode, NodeCache, TextSize};
 use std::alloc::{AllocError, Global};
 
@@ -22,6 +23,15 @@ pub enum Answer<'a> {
     Child(usize, TextSize, GreenElement),
     /// The green node that an edit made.
     Green(GreenNode),
+    /// The element where a step went.
+    Moved(SyntaxElement),
+    /// The elements that a step lists.
+    Elements(Vec<SyntaxElement>),
+    /// The current cursor is kept.
+    Saved,
+    /// The current and the kept cursor are equal.
+    Equal,
+    Different,
     /// A step found nothing, or names what is not there.
     Nowhere,
     /// A step before a tree is finished.
@@ -83,6 +93,22 @@ impl<'a> Answer<'a> {
                 tree::push_node(alloc, &mut text, node)?;
                 Ok(text)
             }
+            Answer::Moved(element) => {
+                let mut text = String::from_str(alloc, "Moved ")?;
+                cursor::push_element(alloc, &mut text, element)?;
+                Ok(text)
+            }
+            Answer::Elements(elements) => {
+                let mut text = String::from_str(alloc, "List")?;
+                for element in elements {
+                    text.push_str("; ")?;
+                    cursor::push_element(alloc, &mut text, element)?;
+                }
+                Ok(text)
+            }
+            Answer::Saved => String::from_str(alloc, "Saved"),
+            Answer::Equal => String::from_str(alloc, "Equal"),
+            Answer::Different => String::from_str(alloc, "Different"),
             Answer::Nowhere => String::from_str(alloc, "Nowhere"),
             Answer::NoTree => String::from_str(alloc, "NoTree"),
             Answer::NoBuilder => String::from_str(alloc, "NoBuilder"),

@@ -3,8 +3,8 @@
 use crate::answer::{Answer, Answered};
 use crate::building::{Built, build};
 use crate::instruction::Instruction;
-use crate::place::Place;
 use crate::script::{CacheLine, Line, Script};
+use crate::standing::Standing;
 use rowan::{Fault, GreenNode, GreenNodeBuilder, NodeCache};
 use rowan_tool::sexp;
 use std::alloc::Global;
@@ -79,9 +79,12 @@ fn answer_lines<'s>(
         Built::Parse(line, text, rest) => (parse(alloc, cache, line, text, answers)?, rest),
         Built::Open => return Ok(()),
     };
-    let mut place = tree.map(Place::Root);
+    let mut standing = match tree {
+        Some(tree) => Some(Standing::new(alloc, tree)?),
+        None => None,
+    };
     for line in rest {
-        let answer = step(&mut place, cache, &line.instruction)?;
+        let answer = step(alloc, &mut standing, cache, &line.instruction)?;
         answers.push(line.answered(answer))?;
     }
     Ok(())
@@ -106,9 +109,10 @@ fn parse<'s>(
     Ok(tree)
 }
 
-/// Answers an instruction behind the building part. There is no place where a text was refused, and so no tree.
+/// Answers an instruction behind the building part. A case stands nowhere where a text was refused, and so there is no tree.
 fn step<'s>(
-    place: &mut Option<Place>,
+    alloc: Global,
+    standing: &mut Option<Standing>,
     cache: &NodeCache,
     instruction: &Instruction,
 ) -> Result<Answer<'s>, Fault> {
@@ -117,8 +121,8 @@ fn step<'s>(
         Instruction::Call(_) | Instruction::Finish | Instruction::Parse(_) => {
             Ok(Answer::NoBuilder)
         }
-        Instruction::Step(step) => match place {
-            Some(place) => place.answer(step),
+        Instruction::Step(step) => match standing {
+            Some(standing) => standing.answer(alloc, step),
             None => Ok(Answer::NoTree),
         },
     }

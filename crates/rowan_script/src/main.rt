@@ -10,10 +10,12 @@ mod building;
 mod case;
 mod checkpoint;
 mod compare;
+mod cursor;
 mod instruction;
 mod operand;
 mod place;
 mod script;
+mod standing;
 mod tree;
 
 use anyhow::{Context, Result};

@@ -1,7 +1,7 @@
 //! The operands of instructions: words, numbers, kinds and texts.
 
 use anyhow::{Context, Result, bail, ensure};
-use rowan::{SyntaxKind, TextRange, TextSize};
+use rowan::{Direction, SyntaxKind, TextRange, TextSize};
 use serde_json::Value;
 use std::alloc::{AllocError, Global};
 
@@ -29,6 +29,26 @@ pub fn range(word: &str) -> Result<TextRange> {
     let (start, end) = bounds(word)?;
     ensure!(start <= end, "`{word}` ends before it starts");
     Ok(TextRange::new(TextSize::from(start), TextSize::from(end)))
+}
+
+/// Indexes of children with points between; `-` is the empty path.
+pub fn path(alloc: Global, word: &str) -> Result<Vec<usize>> {
+    let mut path = Vec::new(alloc);
+    if word != "-" {
+        for index in word.split('.') {
+            path.push(number(index)? as usize)?;
+        }
+    }
+    Ok(path)
+}
+
+/// The way along siblings.
+pub fn direction(word: &str) -> Result<Direction> {
+    match word {
+        "next" => Ok(Direction::Next),
+        "prev" => Ok(Direction::Prev),
+        _ => bail!("`{word}` is no direction"),
+    }
 }
 
 /// A raw kind, a number up to 65535.

@@ -1,44 +1,63 @@
-//! The steps of a case, behind its building part.
-ghost use Rattle.std.specs.Prelude.{◌≡◌, IfOk, IfErr, OnOk};
+//! What is asked of an element and leaves the cursor there.
+ghost use Rattle.std.specs.Prelude.{◌≡◌, IfOk, IfErr};
 ghost use Rattle.rowan_green.specs.Term.{node_children};
-ghost use Rattle.rowan_script.specs.Steps.{Answers, AnswersEdit, AnswersSearch, place_behind};
+ghost use Rattle.rowan_script.specs.Moves.{listed};
+ghost use Rattle.rowan_script.specs.Steps.{AnswersAt, AnswersEdit, AnswersGreen, AnswersListing, AnswersSearch};
 
 use crate::answer::Answer;
-use crate::instruction::{Edit, Step};
-use rowan::{Fault, GreenNode, Steps, TextRange};
+use crate::instruction::{Edit, Listing};
+use rowan::cursor::SyntaxElement;
+use rowan::{Fault, GreenNode, NodeOrToken, Steps, TextRange};
+use std::alloc::Global;
 
-/// Where a case stands.
-#[derive(Drop)]
+/// Where a cursor stands.
+#[derive(Clone, Drop)]
 pub enum Place {
-    /// At the root of this tree.
-    Root(GreenNode),
+    At(SyntaxElement),
     /// Nobody knows where, behind a step that has no call yet.
     Unknown,
 }
 
 impl Place {
-    /// Answers a step, and goes where it leads. Refused only for want of memory.
-    pub fn answer<'a>(&mut self, step: &Step) -> Result<Answer<'a>, Fault>
-        ensures answers { IfOk result (Answers self.old step.now) }
+    /// Searches the children of the green node.
+    pub fn search<'a>(&self, range: TextRange) -> Result<Answer<'a>, Fault>
+        ensures ok { IfOk result (AnswersAt (AnswersGreen (λ n. AnswersSearch (node_children n) range)) self.now) }
         ensures err { IfErr result (λ e. e ≡ Fault.Memory) }
-        ensures place { OnOk result (self.new ≡ place_behind self.old step.now) }
     {
-        let answer = match (&*self, step) {
-            (Place::Root(node), Step::GreenChildAt(range)) => answer_search(node, *range)?,
-            (Place::Root(node), Step::GreenEdit(edit)) => answer_edit(node, edit),
-            _ => Answer::Unsupported,
-        };
-        match step {
-            Step::UnreadMove | Step::ReplaceNode(_) | Step::ReplaceToken(_) => {
-                *self = Place::Unknown;
-            }
-            _ => {}
+        match self {
+            Place::At(NodeOrToken::Node(node)) => search(node.green(), range),
+            Place::At(NodeOrToken::Token(_)) => Ok(Answer::Nowhere),
+            Place::Unknown => Ok(Answer::Unsupported),
         }
-        Ok(answer)
+    }
+
+    /// Edits the green node.
+    pub fn edit<'a>(&self, edit: &Edit) -> Answer<'a>
+        ensures { AnswersAt (AnswersGreen (λ n. AnswersEdit n edit.now)) self.now result }
+    {
+        match self {
+            Place::At(NodeOrToken::Node(node)) => edited(node.green(), edit),
+            Place::At(NodeOrToken::Token(_)) => Answer::Nowhere,
+            Place::Unknown => Answer::Unsupported,
+        }
+    }
+
+    /// Lists elements around the cursor.
+    pub fn list<'a>(&self, alloc: Global, listing: Listing) -> Result<Answer<'a>, Fault>
+        ensures ok { IfOk result (AnswersAt (λ e. AnswersListing (listed listing e)) self.now) }
+        ensures err { IfErr result (λ e. e ≡ Fault.Memory) }
+    {
+        let Place::At(element) = self else {
+            return Ok(Answer::Unsupported);
+        };
+        match listing.make(alloc, element)? {
+            Some(elements) => Ok(Answer::Elements(elements)),
+            None => Ok(Answer::Nowhere),
+        }
     }
 }
 
-fn answer_search<'a>(node: &GreenNode, range: TextRange) -> Result<Answer<'a>, Fault>
+fn search<'a>(node: &GreenNode, range: TextRange) -> Result<Answer<'a>, Fault>
     ensures ok { IfOk result (AnswersSearch (node_children node.now) range) }
     ensures err { IfErr result (λ e. e ≡ Fault.Memory) }
 {
@@ -48,7 +67,7 @@ fn answer_search<'a>(node: &GreenNode, range: TextRange) -> Result<Answer<'a>, F
     }
 }
 
-fn answer_edit<'a>(node: &GreenNode, edit: &Edit) -> Answer<'a>
+fn edited<'a>(node: &GreenNode, edit: &Edit) -> Answer<'a>
     ensures { AnswersEdit node.now edit.now result }
 {
     match edit.make(node) {

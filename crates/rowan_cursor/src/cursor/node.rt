@@ -1,5 +1,5 @@
 ghost use Rattle.std.specs.Prelude.{◌≡◌, [], IfOk, IfErr, IfSome, Some, map, reverse, slice_get};
-ghost use Rattle.std.specs.Option.{option_map, option_map_or};
+ghost use Rattle.std.specs.Option.{option_map};
 ghost use Rattle.rowan_green.specs.declared.utility_types.NodeOrToken.TheVariants.{Node};
 ghost use Rattle.rowan_green.specs.Term.{NodeTerm, Term, term_kind};
 ghost use Rattle.rowan_green.specs.Path.{range};

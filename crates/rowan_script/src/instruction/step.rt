@@ -1,9 +1,13 @@
 //! The steps from a tree.
 mod edit;
+mod listing;
+mod moves;
 
 use crate::{operand, tree};
 use anyhow::Result;
 pub use edit::Edit;
+pub use listing::Listing;
+pub use moves::Move;
 use rowan::{GreenNode, GreenToken, TextRange};
 use std::alloc::Global;
 
@@ -12,6 +16,14 @@ use std::alloc::Global;
 pub enum Step {
     GreenChildAt(TextRange),
     GreenEdit(Edit),
+    Move(Move),
+    Listing(Listing),
+    /// Keeps the current cursor in this slot.
+    Save(u32),
+    /// Makes the cursor in this slot current.
+    Load(u32),
+    /// Compares the current cursor with the one in this slot.
+    Same(u32),
     ReplaceNode(GreenNode),
     ReplaceToken(GreenToken),
     /// A step of which only the name is read, and which may move the cursor.
@@ -21,44 +33,20 @@ pub enum Step {
 }
 
 /// The names of the steps that may move the cursor and whose operands are not read.
-const UNREAD_MOVES: [&str; 23] = [
-    "Parent",
-    "TreeTop",
-    "FirstChild",
-    "LastChild",
-    "FirstChildOrToken",
-    "LastChildOrToken",
-    "NextSibling",
-    "PrevSibling",
-    "NextSiblingOrToken",
-    "PrevSiblingOrToken",
-    "FirstToken",
-    "LastToken",
-    "NextToken",
-    "PrevToken",
+const UNREAD_MOVES: [&str; 6] = [
     "ChildAtRange",
     "Covering",
     "LeftTokenAt",
     "RightTokenAt",
-    "ElementAt",
-    "CloneSubtree",
-    "Load",
     "ReparseList",
     "EditList",
 ];
 
 /// The names of the other steps whose operands are not read.
-const UNREAD: [&str; 39] = [
-    "Save",
-    "Same",
+const UNREAD: [&str; 32] = [
     "TokenAt",
-    "Children",
-    "ChildrenWithTokens",
     "Descendants",
     "DescendantsWithTokens",
-    "Ancestors",
-    "Siblings",
-    "SiblingsWithTokens",
     "Walk",
     "WalkWithTokens",
     "Text",
@@ -96,8 +84,17 @@ impl Step {
         if let Some(edit) = Edit::parse(alloc, name, operands)? {
             return Ok(Some(Step::GreenEdit(edit)));
         }
+        if let Some(way) = Move::parse(alloc, name, operands)? {
+            return Ok(Some(Step::Move(way)));
+        }
+        if let Some(listing) = Listing::parse(name, operands)? {
+            return Ok(Some(Step::Listing(listing)));
+        }
         Ok(Some(match name {
             "GreenChildAt" => Step::GreenChildAt(operand::range(operands)?),
+            "Save" => Step::Save(operand::number(operands)?),
+            "Load" => Step::Load(operand::number(operands)?),
+            "Same" => Step::Same(operand::number(operands)?),
             "ReplaceNode" => Step::ReplaceNode(tree::node(alloc, operands)?),
             "ReplaceToken" => Step::ReplaceToken(tree::token(alloc, operands)?),
             _ if UNREAD_MOVES.iter().any(|unread| *unread == name) => Step::UnreadMove,

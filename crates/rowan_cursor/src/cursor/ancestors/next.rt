@@ -41,7 +41,7 @@ impl Climb {
         Some(Ok(Climb { tree, next }))
     }
 
-    // The same again.
+    // An equal one, which goes on by itself.
     pub(in crate::cursor) fn clone_left(left: &ClimbLeft) -> Result<ClimbLeft, AllocError>
         ensures { IfOk result (λ copy. rest_of climbed copy ≡ rest_of climbed left.now) }
     {

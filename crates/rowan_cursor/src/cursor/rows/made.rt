@@ -1,5 +1,5 @@
 //! The rows of children and of siblings.
-ghost use Rattle.std.specs.Prelude.{◌≡◌, ◌-◌, ◌<◌, ◌≤◌, ◌++◌, map, length, IfOk, IfErr};
+ghost use Rattle.std.specs.Prelude.{◌≡◌, ◌-◌, ◌<◌, ◌≤◌, ◌++◌, map, length, IfOk};
 ghost use Rattle.std.specs.List.{filter};
 ghost use Rattle.std.specs.Option.{ForSome};
 ghost use Rattle.rowan_cursor.specs.CursorView.{cursor_of, element_of};
@@ -9,13 +9,13 @@ ghost use Rattle.rowan_cursor.specs.Table.{root_of, path_at};
 
 use super::{Row, RowLeft};
 use crate::tree::Tree;
-use rowan_green::fault::Fault;
 use rowan_green::utility_types::Direction;
 use std::alloc::AllocError;
 use std::ops::Range;
 use std::rc::Rc;
 
 impl Row {
+    // A row that shares the tree once more, or the refusal to.
     fn shared(
         tree: &Rc<Tree>,
         first: Option<usize>,
@@ -85,7 +85,7 @@ impl Row {
         }
     }
 
-    // The same again.
+    // An equal one, which goes on by itself.
     pub(in crate::cursor) fn clone_left(left: &RowLeft) -> Result<RowLeft, AllocError>
         ensures elements { IfOk result (λ copy. rest_of row_elements copy ≡ rest_of row_elements left.now) }
         ensures nodes { IfOk result (λ copy. rest_of row_nodes copy ≡ rest_of row_nodes left.now) }

@@ -1,5 +1,5 @@
 //! What a row gives.
-ghost use Rattle.std.specs.Prelude.{◌≡◌, ◌<◌, ◌≤◌, true, [], ◌∷◌, map, length, IfNone, IfSome, IfOk};
+ghost use Rattle.std.specs.Prelude.{◌≡◌, ◌<◌, [], ◌∷◌, length, IfNone, IfSome};
 ghost use Rattle.std.specs.List.{filter};
 ghost use Rattle.rowan_cursor.specs.CursorView.{HasNode};
 ghost use Rattle.rowan_cursor.specs.Rows.{row_numbers, row_elements, row_nodes, entries_of, rest_of, has_node};
@@ -8,7 +8,7 @@ ghost use Rattle.rowan_cursor.specs.Yields.{YieldsOrRefuses};
 use super::{Row, RowLeft};
 use crate::cursor::{SyntaxElement, SyntaxNode, element};
 use rowan_green::fault::Fault;
-use rowan_green::utility_types::{Direction, NodeOrToken};
+use rowan_green::utility_types::Direction;
 
 impl Row {
     // The number of the next entry.
