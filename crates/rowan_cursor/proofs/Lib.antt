@@ -1,4 +1,5 @@
 pub mod ClimbLemmas
+pub mod EndLemmas
 pub mod FillLemmas
 pub mod LeafLemmas
 pub mod PathLemmas

@@ -13,10 +13,10 @@ use Rattle.rowan_green.specs.Path.{Path, subterm, offset, len_of, term_children}
 use Rattle.rowan_green.proofs.Paths.{offset-empty}
 use Rattle.rowan_green.proofs.Terms.{forest-terms, node_len-node_of}
 use Rattle.rowan_cursor.specs.Cursor.{last_place}
-use Rattle.rowan_cursor.specs.Moves.{numbers, below, child_count, children_of, is_node, child_paths, following, preceding}
+use Rattle.rowan_cursor.specs.Moves.{numbers, below, child_count, children_of, is_node, child_paths, first_at, following, preceding}
 use Rattle.rowan_cursor.specs.Table.{root_of, green_of, offset_of, index_of, children_in, len_in, counts, path_within, path_at, IsTop, IsChildOf, IsFilling, IsTable, IsRow, IsRowBack, IsEntry, IsNodeEntry}
 use Rattle.rowan_cursor.specs.declared.tree.Entry.{Entry}
-use Rattle.rowan_cursor.proofs.RowLemmas.{map-reverse}
+use Rattle.rowan_cursor.proofs.RowLemmas.{map-reverse, first_split, empty_row}
 use Rattle.rowan_cursor.proofs.PathLemmas.{subterm-child, offset-child, last_place-child, following-child, preceding-child}
 
 -- ---- lists
@@ -379,6 +379,41 @@ following_to es t n e end at h ends =
     let a = above_of es t n e at h in
     let row = following_row es t n e a.0 a.1 in
     subst (λ k. IsRow es (n + 1) k (following (root_of es) (path_at es n))) (sym (ends a.0 a.1.above)) row
+
+-- the next sibling is the next entry, where that has the same parent
+no_next : (es : List Entry) (a b : ℕ) (ps : List Path) → IsRow es a b ps → a ≡ b → None ≡ first_at ps
+no_next es a b ps row h = ap first_at (sym (empty_row (path_at es) a b h) ∙ row.row)
+
+pub next_past : (es : List Entry) → IsTable es → (n : ℕ) (e : Entry) → slice_get es n ≡ Some e → 0 < n → n + 1 ≡ length es → None ≡ first_at (following (root_of es) (path_at es n))
+next_past es t n e at h last =
+    let a = above_of es t n e at h in
+    let row = following_row es t n e a.0 a.1 in
+    no_next es (n + 1) (a.0.first_child + length (children_in (green_of a.0))) (following (root_of es) (path_at es n)) row (omega (arith, row.order, row.within))
+
+pub next_beside : (es : List Entry) → IsTable es → (n : ℕ) (e d : Entry) → slice_get es n ≡ Some e → 0 < n → slice_get es (n + 1) ≡ Some d → d.parent ≡ e.parent
+    → Some (path_at es (n + 1)) ≡ first_at (following (root_of es) (path_at es n))
+next_beside es t n e d at h next same =
+    let a = above_of es t n e at h in
+    let p = a.0 in
+    let row = following_row es t n e p a.1 in
+    let is : IsChildOf p (n + 1) d = t.filling.parents (n + 1) d p next (omega arith) (ap (λ k. slice_get es k) same ∙ a.1.above) in
+    let less : n + 1 < p.first_child + length (children_in (green_of p)) = omega (arith, is.place, kept_within (children_in (green_of p)) (n + 1 - p.first_child) (green_of d) is.child) in
+    sym (ap first_at (first_split (path_at es) (n + 1) (p.first_child + length (children_in (green_of p))) less)) ∙ ap first_at row.row
+
+pub next_apart : (es : List Entry) → IsTable es → (n : ℕ) (e d : Entry) → slice_get es n ≡ Some e → 0 < n → slice_get es (n + 1) ≡ Some d → (d.parent ≡ e.parent → ⊥)
+    → None ≡ first_at (following (root_of es) (path_at es n))
+next_apart es t n e d at h next apart =
+    let a = above_of es t n e at h in
+    let p = a.0 in
+    let end = p.first_child + length (children_in (green_of p)) in
+    let row = following_row es t n e p a.1 in
+    let from : p.first_child ≤ n = (t.filling.parents n e p at h a.1.above).place in
+    let here : n + 1 ≡ p.first_child + (n + 1 - p.first_child) = omega arith in
+    let inside : n + 1 < end → ⊥ = λ less. (
+    let c = has_child es t e.parent p (n + 1 - p.first_child) a.1.above (omega arith) in
+    apart (ap (λ (x : Entry). x.parent) (same_entry es (n + 1) (p.first_child + (n + 1 - p.first_child)) d c.child next c.at here) ∙ c.parent)) in
+    let past : end < n + 1 → ⊥ = λ more. omega (arith, row.order) in
+    no_next es (n + 1) end (following (root_of es) (path_at es n)) row (same_parent (n + 1) end inside past)
 
 -- only a node has children
 node_with_child : (o : Option Term) (g k : Option NodeTerm) (i : ℕ) → option_map into_node o ≡ Some g → option_map into_node (slice_get (children_in g) i) ≡ Some k → is_node o ≡ true

@@ -109,7 +109,18 @@ impl Tree {
         ensures path { let es = self.now.entries.items in option_map (path_at es) result ≡ first_at (following (root_of es) (path_at es number)) }
         ensures within { IfSome result (λ n. n < length self.now.entries.items) }
     {
-        self.first_in(self.following_numbers(number))
+        if number == 0 {
+            return None;
+        }
+        let len = self.entries.len();
+        if number + 1 == len {
+            return None;
+        }
+        // Siblings stand side by side.
+        if self.entries[number + 1].parent != self.entry(number).parent {
+            return None;
+        }
+        Some(number + 1)
     }
 
     /// The sibling before this one, tokens too.

@@ -3,7 +3,7 @@ ghost use Rattle.std.specs.Prelude.{◌≡◌, ◌<◌, IfSome, length, slice_ge
 ghost use Rattle.std.specs.Option.{option_map};
 ghost use Rattle.rowan_green.specs.declared.utility_types.NodeOrToken.TheVariants.{Node, Token};
 ghost use Rattle.rowan_green.specs.Lent.{pointee};
-ghost use Rattle.rowan_green.specs.Path.{range, subterm};
+ghost use Rattle.rowan_green.specs.Path.{offset, range, subterm};
 ghost use Rattle.rowan_cursor.specs.Cursor.{last_place};
 ghost use Rattle.rowan_cursor.specs.CursorView.{HasNode, HasToken};
 ghost use Rattle.rowan_cursor.specs.Moves.{child_paths};
@@ -11,7 +11,7 @@ ghost use Rattle.rowan_cursor.specs.Table.{root_of, path_at};
 
 use super::{Kept, Tree};
 use rowan_green::green::{GreenElementRef, GreenNode, GreenToken};
-use rowan_green::text::TextRange;
+use rowan_green::text::{TextRange, TextSize};
 use rowan_green::utility_types::NodeOrToken;
 use std::alloc::Global;
 
@@ -26,11 +26,40 @@ impl Tree {
         requires { number < length self.now.entries.items }
         ensures { let es = self.now.entries.items in result ≡ range (Node (root_of es)) (path_at es number) }
     {
-        let offset = match &self.entry(number).kept {
-            Kept::OfNode(offset, _) => *offset,
-            Kept::OfToken(offset) => *offset,
-        };
-        TextRange::at(offset, self.element(number).text_len())
+        match &self.entry(number).kept {
+            Kept::OfNode(start, node) => TextRange::at(*start, node.text_len()),
+            Kept::OfToken(start) => TextRange::new(*start, self.end_of_token(number)),
+        }
+    }
+
+    // Where the text starts.
+    fn start(&self, number: usize) -> TextSize
+        requires { number < length self.now.entries.items }
+        ensures { let es = self.now.entries.items in result ≡ offset (Node (root_of es)) (path_at es number) }
+    {
+        match &self.entry(number).kept {
+            Kept::OfNode(start, _) => *start,
+            Kept::OfToken(start) => *start,
+        }
+    }
+
+    // Where the text of a node ends.
+    fn end_of_node(&self, number: usize) -> TextSize
+        requires { HasNode self.now.entries.items number }
+        ensures { let es = self.now.entries.items in result ≡ (range (Node (root_of es)) (path_at es number)).end }
+    {
+        TextRange::at(self.start(number), self.node(number).text_len()).end()
+    }
+
+    // Where the text of a token ends: where the next sibling starts, or else where the parent ends.
+    fn end_of_token(&self, number: usize) -> TextSize
+        requires { HasToken self.now.entries.items number }
+        ensures { let es = self.now.entries.items in result ≡ (range (Node (root_of es)) (path_at es number)).end }
+    {
+        if let Some(next) = self.next_sibling_or_token(number) {
+            return self.start(next);
+        }
+        self.end_of_node(self.entry(number).parent)
     }
 
     /// The child at an index, tokens counted.
