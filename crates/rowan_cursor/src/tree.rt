@@ -30,8 +30,8 @@ pub(crate) enum Kept {
 #[derive(Drop)]
 pub(crate) struct Entry {
     pub(crate) kept: Kept,
-    pub(crate) parent: usize,
-    pub(crate) first_child: usize,
+    pub(crate) parent: u32,
+    pub(crate) first_child: u32,
 }
 
 /// A tree as a table of its nodes and tokens, level by level. Each is known by the number of its entry; the root has 0.
@@ -48,8 +48,8 @@ impl Tree {
         ensures err { IfErr result (λ e. e ≡ Fault.Memory) }
     {
         let mut draft = Draft::new(alloc, green)?;
-        let mut done = 0;
-        while done < draft.len() {
+        let mut done: u32 = 0;
+        while (done as usize) < draft.len() {
             draft.push_children(done)?;
             done += 1;
         }
@@ -82,7 +82,7 @@ impl Tree {
         if number == 0 {
             return None;
         }
-        Some(self.entry(number).parent)
+        Some(self.entry(number).parent as usize)
     }
 
     /// The first child, tokens too.

@@ -59,7 +59,7 @@ impl Tree {
         if let Some(next) = self.next_sibling_or_token(number) {
             return self.start(next);
         }
-        self.end_of_node(self.entry(number).parent)
+        self.end_of_node(self.entry(number).parent as usize)
     }
 
     /// The child at an index, tokens counted.
@@ -106,11 +106,11 @@ impl Tree {
         if let Kept::OfNode(_, node) = &entry.kept {
             return NodeOrToken::Node(node);
         }
-        let above = self.entry(entry.parent);
+        let above = self.entry(entry.parent as usize);
         let Kept::OfNode(_, parent) = &above.kept else {
             unreachable!();
         };
-        let Some(found) = parent.child_ref(number - above.first_child) else {
+        let Some(found) = parent.child_ref(number - above.first_child as usize) else {
             unreachable!();
         };
         found.1
@@ -124,6 +124,7 @@ impl Tree {
         if number == 0 {
             return 0;
         }
-        number - self.entry(self.entry(number).parent).first_child
+        let parent = self.entry(self.entry(number).parent as usize);
+        number - parent.first_child as usize
     }
 }

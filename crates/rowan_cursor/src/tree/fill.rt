@@ -18,9 +18,10 @@ use std::alloc::Global;
 #[derive(Drop)]
 pub(super) struct Draft {
     entries: Vec<Entry>,
-    next_child: usize,
+    next_child: u32,
     ghost filling: { IsFilling entries.items } by { IsFilling-prop entries.items },
     ghost next: { next_child ≡ counts entries.items + 1 },
+    ghost bits: { next_child < 4294967296 },
 }
 
 impl Draft {
@@ -32,7 +33,9 @@ impl Draft {
     {
         let kept = Kept::OfNode(TextSize::from(0), green);
         let child_count = child_count(&kept);
-        let next_child = child_count as usize + 1;
+        let Some(next_child) = child_count.checked_add(1) else {
+            return Err(Fault::Memory);
+        };
         let mut entries = Vec::new(alloc);
         entries.push(Entry {
             kept,
@@ -53,14 +56,14 @@ impl Draft {
     }
 
     /// Adds the children of the first entry that has none in the table yet.
-    pub(super) fn push_children(&mut self, parent: usize) -> Result<(), Fault>
+    pub(super) fn push_children(&mut self, parent: u32) -> Result<(), Fault>
         requires within { parent < length self.old.entries.items }
         requires place { length self.old.entries.items ≡ counts (take parent self.old.entries.items) + 1 }
         ensures ok { OnOk result ((e : Entry) → slice_get self.old.entries.items parent ≡ Some e
             → GrowsBy self.old.entries.items self.new.entries.items (children_in (green_of e))) }
         ensures err { IfErr result (λ e. e ≡ Fault.Memory) }
     {
-        let count = child_count(&self.entries[parent].kept);
+        let count = child_count(&self.entries[parent as usize].kept);
         for index in 0..count {
             self.push_child(parent, index)?;
         }
@@ -68,7 +71,7 @@ impl Draft {
     }
 
     // Adds the child at an index, whose number is the next.
-    fn push_child(&mut self, parent: usize, index: u32) -> Result<(), Fault>
+    fn push_child(&mut self, parent: u32, index: u32) -> Result<(), Fault>
         requires within { parent < length self.old.entries.items }
         requires place { (e : Entry) → slice_get self.old.entries.items parent ≡ Some e
             → (index < length (children_in (green_of e))) × (length self.old.entries.items ≡ e.first_child + index) }
@@ -76,7 +79,7 @@ impl Draft {
             → slice_get (children_in (green_of e)) index ≡ Some t → GrowsBy self.old.entries.items self.new.entries.items (t ∷ [])) }
         ensures err { IfErr result (λ e. e ≡ Fault.Memory) }
     {
-        let above = &self.entries[parent];
+        let above = &self.entries[parent as usize];
         let Kept::OfNode(offset, node) = &above.kept else {
             unreachable!();
         };
@@ -87,7 +90,7 @@ impl Draft {
         let kept = kept(TextSize::from(u32::from(*offset) + u32::from(start)), child)?;
         let child_count = child_count(&kept);
         let first_child = self.next_child;
-        let Some(next_child) = first_child.checked_add(child_count as usize) else {
+        let Some(next_child) = first_child.checked_add(child_count) else {
             return Err(Fault::Memory);
         };
         self.entries.push(Entry {

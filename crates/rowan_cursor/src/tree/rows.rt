@@ -14,7 +14,7 @@ impl Tree {
         requires { number < length self.now.entries.items }
         ensures { let es = self.now.entries.items in IsRow es result.start result.end (child_paths (root_of es) (path_at es number)) }
     {
-        self.entry(number).first_child..self.children_end(number)
+        self.entry(number).first_child as usize..self.children_end(number)
     }
 
     /// The numbers of the siblings behind this one.
@@ -25,7 +25,7 @@ impl Tree {
         if number == 0 {
             return 0..0;
         }
-        number + 1..self.children_end(self.entry(number).parent)
+        number + 1..self.children_end(self.entry(number).parent as usize)
     }
 
     /// The numbers of the siblings before this one.
@@ -36,8 +36,8 @@ impl Tree {
         if number == 0 {
             return 0..0;
         }
-        let parent = self.entry(self.entry(number).parent);
-        parent.first_child..number
+        let parent = self.entry(self.entry(number).parent as usize);
+        parent.first_child as usize..number
     }
 
     // Where the children end: where those of the next entry begin.
@@ -49,7 +49,7 @@ impl Tree {
         if number + 1 == len {
             return len;
         }
-        self.entries[number + 1].first_child
+        self.entries[number + 1].first_child as usize
     }
 
     /// The first of a row.

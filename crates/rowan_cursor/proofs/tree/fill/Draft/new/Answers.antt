@@ -22,5 +22,6 @@ invariant_of-result c =
             first = refl;
             fits = c.child_count-child_count.ensures.fits c.args.green refl;
           }));
-      next = omega (arith, ap counts items, c.child_count-child_count.ensures.count);
+      next = omega (arith, ap counts items, c.child_count-child_count.ensures.count, c.in-Some.ensures.1);
+      bits = omega (arith, c.in-Some.ensures.0);
     }

@@ -49,6 +49,7 @@ invariant_of-self-2 c =
     record {
       filling = subst IsFilling (sym items) (IsFilling-push es above y s.filling next);
       next = omega (arith, c.in-Some-checked_add.ensures.1, s.next, ap counts items, counts-push es y, c.child_count-child_count.ensures.count);
+      bits = omega (arith, c.in-Some-checked_add.ensures.0);
     }
 
 pub returns-clause-ok : goal.returns-clause-ok
