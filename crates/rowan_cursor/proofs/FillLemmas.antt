@@ -264,9 +264,3 @@ pub less_left : (es ds : List Entry) (done : ℕ) (e : Entry) → slice_get es d
 less_left es ds done e at g =
     let next : suc done ≡ done + 1 = omega arith in
     omega (arith, ap (λ n. left_from n es) next, ap (left_from (done + 1)) g.grown, left_from-grown es g.row (done + 1) (omega (arith, slice_get_within es done e at)), ap sizes g.greens, sizes-kept (children_in (green_of e)), left_from-first es done e at)
-
--- the first entries have no more children than all of them
-pub counts-take : (n : ℕ) (es : List Entry) → counts (take n es) ≤ counts es
-counts-take zero es = omega arith
-counts-take (suc n) [] = omega arith
-counts-take (suc n) (e ∷ es) = omega (arith, counts-take n es)

@@ -16,7 +16,7 @@ use Rattle.rowan_cursor.specs.Cursor.{last_place}
 use Rattle.rowan_cursor.specs.Moves.{numbers, below, child_count, children_of, is_node, child_paths, first_at, following, preceding}
 use Rattle.rowan_cursor.specs.Table.{root_of, green_of, offset_of, index_of, children_in, len_in, counts, path_within, path_at, IsTop, IsChildOf, IsFilling, IsTable, IsRow, IsRowBack, IsEntry, IsNodeEntry}
 use Rattle.rowan_cursor.specs.declared.tree.Entry.{Entry}
-use Rattle.rowan_cursor.proofs.RowLemmas.{map-reverse, first_split, empty_row}
+use Rattle.rowan_cursor.proofs.RowLemmas.{map-reverse, first_split, last_split, empty_row}
 use Rattle.rowan_cursor.proofs.PathLemmas.{subterm-child, offset-child, last_place-child, following-child, preceding-child}
 
 -- ---- lists
@@ -414,6 +414,34 @@ next_apart es t n e d at h next apart =
     apart (ap (λ (x : Entry). x.parent) (same_entry es (n + 1) (p.first_child + (n + 1 - p.first_child)) d c.child next c.at here) ∙ c.parent)) in
     let past : end < n + 1 → ⊥ = λ more. omega (arith, row.order) in
     no_next es (n + 1) end (following (root_of es) (path_at es n)) row (same_parent (n + 1) end inside past)
+
+-- the sibling before is the entry before, where that has the same parent
+no_prev : (es : List Entry) (a b : ℕ) (ps : List Path) → IsRowBack es a b ps → a ≡ b → None ≡ first_at ps
+no_prev es a b ps row h = ap first_at (sym (ap reverse (empty_row (path_at es) a b h)) ∙ row.row)
+
+pub prev_beside : (es : List Entry) → IsTable es → (n : ℕ) (e d : Entry) → slice_get es n ≡ Some e → 1 < n → slice_get es (n - 1) ≡ Some d → d.parent ≡ e.parent
+    → Some (path_at es (n - 1)) ≡ first_at (preceding (root_of es) (path_at es n))
+prev_beside es t n e d at h before same =
+    let a = above_of es t n e at (omega arith) in
+    let p = a.0 in
+    let row = preceding_row es t n e p a.1 in
+    let is : IsChildOf p (n - 1) d = t.filling.parents (n - 1) d p before (omega arith) (ap (λ k. slice_get es k) same ∙ a.1.above) in
+    sym (ap first_at (last_split (path_at es) p.first_child n (n - 1) (omega (arith, is.place)) (omega arith))) ∙ ap first_at row.row
+
+pub prev_apart : (es : List Entry) → IsTable es → (n : ℕ) (e d : Entry) → slice_get es n ≡ Some e → 1 < n → slice_get es (n - 1) ≡ Some d → (d.parent ≡ e.parent → ⊥)
+    → None ≡ first_at (preceding (root_of es) (path_at es n))
+prev_apart es t n e d at h before apart =
+    let a = above_of es t n e at (omega arith) in
+    let p = a.0 in
+    let row = preceding_row es t n e p a.1 in
+    let inside : p.first_child < n → ⊥ = λ less. (
+    let here : n - 1 ≡ p.first_child + (n - 1 - p.first_child) = omega arith in
+    let c = has_child es t e.parent p (n - 1 - p.first_child) a.1.above (omega (arith, index_below es n e p t a.1)) in
+    let same : d ≡ c.child = same_entry es (n - 1) (p.first_child + (n - 1 - p.first_child)) d c.child before c.at here in
+    let up : d.parent ≡ c.child.parent = ap (λ (x : Entry). x.parent) same in
+    apart (up ∙ c.parent)) in
+    let past : n < p.first_child → ⊥ = λ more. omega (arith, row.order) in
+    no_prev es p.first_child n (preceding (root_of es) (path_at es n)) row (same_parent p.first_child n inside past)
 
 -- only a node has children
 node_with_child : (o : Option Term) (g k : Option NodeTerm) (i : ℕ) → option_map into_node o ≡ Some g → option_map into_node (slice_get (children_in g) i) ≡ Some k → is_node o ≡ true

@@ -129,7 +129,14 @@ impl Tree {
         ensures path { let es = self.now.entries.items in option_map (path_at es) result ≡ first_at (preceding (root_of es) (path_at es number)) }
         ensures within { IfSome result (λ n. n < length self.now.entries.items) }
     {
-        self.last_in(self.preceding_numbers(number))
+        // The root stands alone, and before its first child.
+        if number <= 1 {
+            return None;
+        }
+        if self.entries[number - 1].parent != self.entry(number).parent {
+            return None;
+        }
+        Some(number - 1)
     }
 
     /// The first child that is a node.

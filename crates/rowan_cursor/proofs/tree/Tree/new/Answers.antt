@@ -1,13 +1,15 @@
 use Rattle.std.proofs.Common.{◌<◌, ◌∙◌, length, arith}
-use Rattle.rowan_cursor.proofs.TableLemmas.{slice_get-some}
-use Rattle.rowan_cursor.proofs.FillLemmas.{counts-take, next_done, less_left}
+use Rattle.rowan_cursor.proofs.TableLemmas.{slice_get-some, counts-within}
+use Rattle.rowan_cursor.proofs.FillLemmas.{next_done, less_left}
 use Rattle.rowan_cursor.proofs.tree.Tree.new.Goals as goal
 
 pub overflow_add-done : goal.overflow_add-done
 overflow_add-done c =
     let draft = c.loop-done.draft in
     let es = draft.entries.items in
-    omega (arith, c.loop-done-test.true, c.len.ensures, c.loop-done.invariant.1, counts-take c.loop-done.done es, draft.next, draft.bits)
+    let within : c.loop-done.done < length es = omega (arith, c.loop-done-test.true, c.len.ensures) in
+    let e = slice_get-some es c.loop-done.done within in
+    omega (arith, within, c.loop-done.invariant.1, counts-within es c.loop-done.done e.0 e.1, draft.next, draft.bits)
 
 pub loop-done-smaller : goal.loop-done-smaller
 loop-done-smaller c =
