@@ -3,7 +3,7 @@
 use crate::draws::Draws;
 use anyhow::Result;
 use rowan::cursor::{ElementCalls, SyntaxElement, SyntaxNode};
-use rowan::{Fault, GreenNode, NodeOrToken};
+use rowan::{Fault, GreenNode, NodeOrToken, TextSize};
 use std::alloc::{AllocError, Global};
 use std::time::{Duration, Instant};
 
@@ -19,8 +19,10 @@ pub enum Operation {
     Whole,
     /// A walk goes from a root that is there.
     Walk,
-    /// Moves are made from a root that is there.
+    /// Moves are made from a root that is there, between nodes and tokens.
     Move,
+    /// Moves are made from a root that is there, between nodes.
+    Nodes,
 }
 
 impl Operation {
@@ -31,31 +33,17 @@ impl Operation {
             "whole" => Some(Operation::Whole),
             "walk" => Some(Operation::Walk),
             "move" => Some(Operation::Move),
+            "nodes" => Some(Operation::Nodes),
             _ => None,
         }
     }
 }
 
-/// Places that were visited: how many, and the sum of the offsets where they start.
+/// What a turn went through: how many places, and where the text of the last one starts.
 #[derive(Clone, Copy, PartialEq, Eq, Debug)]
 pub struct Visited {
     pub places: u64,
-    pub starts: u64,
-}
-
-impl Visited {
-    const fn none() -> Visited {
-        Visited {
-            places: 0,
-            starts: 0,
-        }
-    }
-
-    fn count(&mut self, place: &SyntaxElement) {
-        let start = u64::from(u32::from(place.text_range().start()));
-        self.places = self.places.wrapping_add(1);
-        self.starts = self.starts.wrapping_add(start);
-    }
+    pub last: TextSize,
 }
 
 /// One of the moves that are drawn.
@@ -105,29 +93,83 @@ fn drawn_moves(alloc: Global) -> Result<Vec<Move>, AllocError> {
 
 /// Makes the moves one after the other. Where one leads nowhere the cursor stays.
 fn make_moves(root: &SyntaxNode, moves: &[Move]) -> Result<Visited, Fault> {
-    let mut visited = Visited::none();
+    let mut places: u64 = 1;
     let mut place = SyntaxElement::from(root.clone()?);
     for to in moves {
         if let Some(next) = to.from_place(&place)? {
             place = next;
+            places = places.wrapping_add(1);
         }
-        visited.count(&place);
     }
-    Ok(visited)
+    let last = place.text_range().start();
+    Ok(Visited { places, last })
+}
+
+/// One of the moves between nodes that are drawn.
+#[derive(Clone, Copy)]
+enum NodeMove {
+    Parent,
+    NextSibling,
+    FirstChild,
+}
+
+impl NodeMove {
+    /// The move of a draw below 3.
+    fn from_draw(draw: usize) -> NodeMove {
+        match draw {
+            0 => NodeMove::Parent,
+            1 => NodeMove::NextSibling,
+            _ => NodeMove::FirstChild,
+        }
+    }
+
+    /// Where it leads, if anywhere.
+    fn from_node(self, node: &SyntaxNode) -> Result<Option<SyntaxNode>, Fault> {
+        match self {
+            NodeMove::Parent => node.parent(),
+            NodeMove::NextSibling => node.next_sibling(),
+            NodeMove::FirstChild => node.first_child(),
+        }
+    }
+}
+
+/// The moves of a turn between nodes.
+fn drawn_node_moves(alloc: Global) -> Result<Vec<NodeMove>, AllocError> {
+    let mut draws = Draws::new();
+    let mut moves = Vec::with_capacity(alloc, MOVES)?;
+    for _ in 0..MOVES {
+        moves.push(NodeMove::from_draw(draws.below(3)))?;
+    }
+    Ok(moves)
+}
+
+/// Makes the moves between nodes one after the other. Where one leads nowhere the cursor stays.
+fn make_node_moves(root: &SyntaxNode, moves: &[NodeMove]) -> Result<Visited, Fault> {
+    let mut places: u64 = 1;
+    let mut node = root.clone()?;
+    for to in moves {
+        if let Some(next) = to.from_node(&node)? {
+            node = next;
+            places = places.wrapping_add(1);
+        }
+    }
+    let last = node.text_range().start();
+    Ok(Visited { places, last })
 }
 
 /// Walks from a root to each node and token, from parent to first child, and from sibling to sibling.
 fn walk(root: &SyntaxNode) -> Result<Visited, Fault> {
-    let mut visited = Visited::none();
+    let mut places: u64 = 0;
     let mut place = SyntaxElement::from(root.clone()?);
     for _ in 0..u64::MAX {
-        visited.count(&place);
+        places = places.wrapping_add(1);
         match next_of(&place)? {
             Some(next) => place = next,
-            None => return Ok(visited),
+            None => break,
         }
     }
-    Ok(visited)
+    let last = place.text_range().start();
+    Ok(Visited { places, last })
 }
 
 /// The place behind another one in the order of the text, where a node stands before its children.
@@ -199,6 +241,11 @@ pub fn time(
             let root = SyntaxNode::new_root(alloc, green.clone()?)?;
             let moves = drawn_moves(alloc)?;
             timed(rt, turns, || make_moves(&root, moves.as_slice()))
+        }
+        Operation::Nodes => {
+            let root = SyntaxNode::new_root(alloc, green.clone()?)?;
+            let moves = drawn_node_moves(alloc)?;
+            timed(rt, turns, || make_node_moves(&root, moves.as_slice()))
         }
     }
 }

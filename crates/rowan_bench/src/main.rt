@@ -23,7 +23,7 @@ usage: rowan_bench depth parse|compare|show LEVELS
        rowan_bench intern tokens|nodes COUNT
        rowan_bench search shared|own CHILDREN TIMES
        rowan_bench edit shared|own CHILDREN TIMES
-       rowan_bench cursors fill|whole|walk|move TURNS
+       rowan_bench cursors fill|whole|walk|move|nodes TURNS
 
 depth   parses that many lists, one in the other, and then
           parse    drops the tree
@@ -42,7 +42,8 @@ cursors parses the s-expressions of standard input, and then in each turn
           fill     makes a cursor at the root
           whole    makes one, walks through the tree, and drops it
           walk     walks through the tree from a cursor that is there
-          move     makes 1,000,000 moves from it, drawn from five";
+          move     makes 1,000,000 moves from it between nodes and tokens, drawn from five
+          nodes    makes 1,000,000 moves from it between nodes, drawn from three";
 
 fn main(rt: HostRuntime) -> ExitCode {
     match run(&rt) {
@@ -167,14 +168,14 @@ fn move_cursors(rt: &HostRuntime, words: &[String]) -> Result<()> {
     let word = words.get(1).map(|word| word.as_str());
     let operation = word
         .and_then(cursors::Operation::from_word)
-        .context("fill, whole, walk or move is missing")?;
+        .context("fill, whole, walk, move or nodes is missing")?;
     let turns = number_at(words, 2)?;
     let text = io::read_to_string(rt.alloc(), rt.reader())?;
     let parsed = sexp::parse(rt.alloc(), text.as_str())?;
     let (total, visited) = cursors::time(rt, parsed.green(), operation, turns)?;
     let nanos = total.as_nanos();
     match visited {
-        Some(it) => println!(rt; "{nanos} ns, {} places, {} starts", it.places, it.starts)?,
+        Some(it) => println!(rt; "{nanos} ns, {} places, last at {:?}", it.places, it.last)?,
         None => println!(rt; "{nanos} ns")?,
     }
     Ok(())
