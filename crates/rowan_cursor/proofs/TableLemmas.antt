@@ -380,6 +380,10 @@ following_to es t n e end at h ends =
     let row = following_row es t n e a.0 a.1 in
     subst (λ k. IsRow es (n + 1) k (following (root_of es) (path_at es n))) (sym (ends a.0 a.1.above)) row
 
+-- two entries with one number have one parent
+parent_at : (es : List Entry) (m k : ℕ) (d c : Entry) (parent : ℕ) → slice_get es m ≡ Some d → slice_get es k ≡ Some c → m ≡ k → c.parent ≡ parent → d.parent ≡ parent
+parent_at es m k d c parent at there same above = ap (λ (x : Entry). x.parent) (same_entry es m k d c at there same) ∙ above
+
 -- the next sibling is the next entry, where that has the same parent
 no_next : (es : List Entry) (a b : ℕ) (ps : List Path) → IsRow es a b ps → a ≡ b → None ≡ first_at ps
 no_next es a b ps row h = ap first_at (sym (empty_row (path_at es) a b h) ∙ row.row)
@@ -411,7 +415,7 @@ next_apart es t n e d at h next apart =
     let here : n + 1 ≡ p.first_child + (n + 1 - p.first_child) = omega arith in
     let inside : n + 1 < end → ⊥ = λ less. (
     let c = has_child es t e.parent p (n + 1 - p.first_child) a.1.above (omega arith) in
-    apart (ap (λ (x : Entry). x.parent) (same_entry es (n + 1) (p.first_child + (n + 1 - p.first_child)) d c.child next c.at here) ∙ c.parent)) in
+    apart (parent_at es (n + 1) (p.first_child + (n + 1 - p.first_child)) d c.child e.parent next c.at here c.parent)) in
     let past : end < n + 1 → ⊥ = λ more. omega (arith, row.order) in
     no_next es (n + 1) end (following (root_of es) (path_at es n)) row (same_parent (n + 1) end inside past)
 
@@ -437,9 +441,7 @@ prev_apart es t n e d at h before apart =
     let inside : p.first_child < n → ⊥ = λ less. (
     let here : n - 1 ≡ p.first_child + (n - 1 - p.first_child) = omega arith in
     let c = has_child es t e.parent p (n - 1 - p.first_child) a.1.above (omega (arith, index_below es n e p t a.1)) in
-    let same : d ≡ c.child = same_entry es (n - 1) (p.first_child + (n - 1 - p.first_child)) d c.child before c.at here in
-    let up : d.parent ≡ c.child.parent = ap (λ (x : Entry). x.parent) same in
-    apart (up ∙ c.parent)) in
+    apart (parent_at es (n - 1) (p.first_child + (n - 1 - p.first_child)) d c.child e.parent before c.at here c.parent)) in
     let past : n < p.first_child → ⊥ = λ more. omega (arith, row.order) in
     no_prev es p.first_child n (preceding (root_of es) (path_at es n)) row (same_parent p.first_child n inside past)
 

@@ -9,7 +9,7 @@ returns-then-index-entry-clause-path c =
     let es = s.entries.items in
     let d = c.index.result.now in
     let before = slice_get_read es _ (c.args.number - 1) d refl (omega (arith, c.requires)) c.index.ensures in
-    prev_apart es s.table c.args.number c.entry.result.now d c.entry.ensures.at c.if-number-le1.false before c.if-index-entry.true
+    prev_apart es s.table c.args.number c.entry.result.now d c.entry.ensures.at (omega arith) before c.if-index-entry.true
 
 pub returns-clause-path : goal.returns-clause-path
 returns-clause-path c =
@@ -17,4 +17,4 @@ returns-clause-path c =
     let es = s.entries.items in
     let d = c.index.result.now in
     let before = slice_get_read es _ (c.args.number - 1) d refl (omega (arith, c.requires)) c.index.ensures in
-    prev_beside es s.table c.args.number c.entry.result.now d c.entry.ensures.at c.if-number-le1.false before c.if-index-entry.false
+    prev_beside es s.table c.args.number c.entry.result.now d c.entry.ensures.at (omega arith) before c.if-index-entry.false
