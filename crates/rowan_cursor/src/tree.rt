@@ -26,7 +26,7 @@ pub(crate) enum Kept {
     OfToken(TextSize),
 }
 
-/// A node or token of a tree, and its place there. The root is its own parent.
+/// A node or token of a tree, and its place there, by the numbers of its parent and of its first child. The root is its own parent.
 #[derive(Drop)]
 pub(crate) struct Entry {
     pub(crate) kept: Kept,
@@ -42,7 +42,7 @@ pub(crate) struct Tree {
 }
 
 impl Tree {
-    /// The table of a green tree. Refused only for want of memory.
+    /// The table of a green tree. Refused only for want of memory, or of numbers: they have 32 bits.
     pub(crate) fn new(alloc: Global, green: GreenNode) -> Result<Tree, Fault>
         ensures ok { IfOk result (λ tree. root_of tree.entries.items ≡ green) }
         ensures err { IfErr result (λ e. e ≡ Fault.Memory) }

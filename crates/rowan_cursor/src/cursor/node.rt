@@ -69,7 +69,8 @@ impl SyntaxNode {
         }
     }
 
-    /// The cursor at the root of a green tree. Refused only for want of memory.
+    /// The cursor at the root of a green tree. Refused only for want of memory, and where the tree has more than 4,294,967,295 nodes
+    /// and tokens, whose table would take 100 GB.
     pub fn new_root(alloc: Global, green: GreenNode) -> Result<SyntaxNode, Fault>
         ensures ok { IfOk result (λ n. n ≡ record { root = green; path = [] }) }
         ensures err { IfErr result (λ e. e ≡ Fault.Memory) }
@@ -78,7 +79,7 @@ impl SyntaxNode {
         Ok(SyntaxNode { tree, entry: 0 })
     }
 
-    /// The root of a new tree, which has the green node of this one.
+    /// The root of a new tree, which has the green node of this one. Refused as `new_root` is.
     pub fn clone_subtree(&self) -> Result<SyntaxNode, Fault>
         ensures ok { IfOk result (λ n. (green : NodeTerm) → StandsAt self.now green → n ≡ record { root = green; path = [] }) }
         ensures err { IfErr result (λ e. e ≡ Fault.Memory) }

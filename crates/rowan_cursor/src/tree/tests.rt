@@ -41,7 +41,7 @@ fn table_of_sum(rt: HostRuntime) -> Result<(), Fail> {
         assert!(rt; number < tree.entries.len());
         let entry = tree.entry(number);
         let start = u32::from(tree.text_range(number).start());
-        let place = (entry.parent, tree.index(number), start);
+        let place = (entry.parent as usize, tree.index(number), start);
         assert_eq!(rt; place, (parent, index, offset), "{number}");
         let children = tree.child_numbers(number);
         assert_eq!(rt; children.start, first_child, "{number}");
