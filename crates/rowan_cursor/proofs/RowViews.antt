@@ -1,6 +1,6 @@
 -- What a row's numbers stand for, by their paths.
-use Rattle.std.proofs.Common.{◌≡◌, ℕ, suc, ◌+◌, ◌-◌, ◌<◌, Bool, true, false, cond, List, [], ◌∷◌, ◌++◌, map, refl, ◌∙◌, ap, Ok, Err, IfOk, arith}
-use Rattle.std.specs.Prelude.{reverse, Option, Some, None}
+use Rattle.std.proofs.Common.{◌≡◌, ℕ, suc, ◌+◌, ◌-◌, ◌<◌, Bool, true, false, cond, List, [], ◌∷◌, map, refl, ◌∙◌, ap, Ok, Err, IfOk, arith}
+use Rattle.std.specs.Prelude.{reverse}
 use Rattle.std.specs.List.{filter}
 use Rattle.std.proofs.lemmas.List.{reverse-append}
 use Rattle.rowan_green.specs.Path.{Path}
@@ -10,10 +10,10 @@ use Rattle.rowan_cursor.specs.declared.tree.Entry.{Entry}
 use Rattle.rowan_cursor.specs.Cursor.{Cursor}
 use Rattle.rowan_cursor.specs.CursorView.{cursor_of, element_of}
 use Rattle.rowan_cursor.specs.Moves.{numbers, cursor_at, element_at, Element, nodes_at, following, preceding, sibling_paths}
-use Rattle.rowan_cursor.specs.Rows.{has_node, option_list, in_order}
+use Rattle.rowan_cursor.specs.Rows.{has_node, in_order}
 use Rattle.rowan_cursor.specs.Table.{root_of, path_at, IsRow, IsRowBack}
 use Rattle.rowan_cursor.specs.Yields.{Rest}
-use Rattle.rowan_cursor.proofs.RowLemmas.{numbers-last, map-reverse}
+use Rattle.rowan_cursor.proofs.RowLemmas.{numbers-last, map-reverse, first_split, last_split}
 
 elements-at : (es : List Entry) (ns : List ℕ) → map (element_of es) ns ≡ map (element_at (root_of es)) (map (path_at es) ns)
 elements-at es [] = refl
@@ -44,13 +44,15 @@ reverse-numbers a b h =
     ∙ reverse-append (numbers a (b - 1 - a)) ((a + (b - 1 - a)) ∷ [])
     ∙ ap (λ x. x ∷ reverse (numbers a (b - 1 - a))) f
 
--- the next from the back, where no entry stands first
-pub row-from-back : (first left : Option ℕ) (direction : Direction) (a b : ℕ) → first ≡ None → left ≡ None → direction ≡ Prev → a < b → option_list first ++ in_order direction (numbers a (b - a)) ≡ (b - 1) ∷ (option_list left ++ in_order direction (numbers a (b - 1 - a)))
-row-from-back first left direction a b e f g h = rw (e, f, g) (reverse-numbers a b h)
+-- the next from the back
+pub row-from-back : (direction : Direction) (a b : ℕ) → direction ≡ Prev → a < b → in_order direction (numbers a (b - a)) ≡ (b - 1) ∷ in_order direction (numbers a (b - 1 - a))
+row-from-back direction a b e h = rw e (reverse-numbers a b h)
 
-pub siblings-next : (es : List Entry) (n a b : ℕ) (d : Direction) → d ≡ Next → IsRow es a b (following (root_of es) (path_at es n)) → map (path_at es) (option_list (Some n) ++ in_order d (numbers a (b - a))) ≡ sibling_paths d (root_of es) (path_at es n)
-siblings-next es n a b d e row = rw e (ap (λ ps. path_at es n ∷ ps) row.row)
+pub siblings-next : (es : List Entry) (n a b : ℕ) (d : Direction) → d ≡ Next → a ≡ n + 1 → IsRow es a b (following (root_of es) (path_at es n)) → map (path_at es) (in_order d (numbers n (b - n))) ≡ sibling_paths d (root_of es) (path_at es n)
+siblings-next es n a b d e from row =
+    rw e (first_split (path_at es) n b (omega (arith, row.order)) ∙ ap (λ ps. path_at es n ∷ ps) (rw from at row.row))
 
-pub siblings-prev : (es : List Entry) (n a b : ℕ) (d : Direction) → d ≡ Prev → IsRowBack es a b (preceding (root_of es) (path_at es n)) → map (path_at es) (option_list (Some n) ++ in_order d (numbers a (b - a))) ≡ sibling_paths d (root_of es) (path_at es n)
-siblings-prev es n a b d e row =
-    rw e (ap (λ ps. path_at es n ∷ ps) (map-reverse (path_at es) (numbers a (b - a)) ∙ row.row))
+pub siblings-prev : (es : List Entry) (n a b : ℕ) (d : Direction) → d ≡ Prev → b ≡ n → IsRowBack es a b (preceding (root_of es) (path_at es n)) → map (path_at es) (in_order d (numbers a (n + 1 - a))) ≡ sibling_paths d (root_of es) (path_at es n)
+siblings-prev es n a b d e to row =
+    rw e (map-reverse (path_at es) (numbers a (n + 1 - a))
+    ∙ last_split (path_at es) a (n + 1) n (omega (arith, row.order)) refl ∙ ap (λ ps. path_at es n ∷ ps) (rw to at row.row))

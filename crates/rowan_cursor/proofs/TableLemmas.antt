@@ -354,8 +354,8 @@ preceding_row es t n e p h =
     }
 
 -- the root has no siblings
-pub following_none : (es : List Entry) → IsTable es → IsRow es 0 0 (following (root_of es) [])
-following_none es t = record { order = omega arith; within = omega arith; row = refl }
+pub following_none : (es : List Entry) → IsTable es → IsRow es 1 1 (following (root_of es) [])
+following_none es t = record { order = omega arith; within = omega (arith, t.filling.some); row = refl }
 
 pub preceding_none : (es : List Entry) → IsTable es → IsRowBack es 0 0 (preceding (root_of es) [])
 preceding_none es t = record { order = omega arith; within = omega arith; row = refl }

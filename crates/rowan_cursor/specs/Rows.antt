@@ -1,5 +1,5 @@
 -- Entries side by side in a table, and what an iterator over them still gives.
-use Rattle.std.specs.Prelude.{ℕ, ◌-◌, Bool, List, [], ◌∷◌, ◌++◌, map, reverse, Option, Some, None, Result, Ok, Err}
+use Rattle.std.specs.Prelude.{ℕ, ◌-◌, Bool, List, [], map, reverse, Option, Some, None, Result, Ok, Err}
 use Rattle.std.specs.List.{filter}
 use Rattle.std.specs.declared.alloc.AllocError.{AllocError}
 use Rattle.rowan_green.specs.declared.utility_types.Direction.{Direction}
@@ -18,16 +18,12 @@ abbrev pub in_order : {A : Type 0} → Direction → List A → List A
 in_order Next xs = xs
 in_order Prev xs = reverse xs
 
-abbrev pub option_list : {A : Type 0} → Option A → List A
-option_list None = []
-option_list (Some x) = x ∷ []
-
 abbrev pub entries_of : Row → List Entry
 entries_of row = row.tree.value.entries.items
 
 -- the numbers of the entries that are left, in the order in which they come
 abbrev pub row_numbers : Row → List ℕ
-row_numbers row = option_list row.first ++ in_order row.direction (numbers row.start (row.end - row.start))
+row_numbers row = in_order row.direction (numbers row.start (row.end - row.start))
 
 -- whether the entry with this number is that of a node
 abbrev pub has_node : List Entry → ℕ → Bool

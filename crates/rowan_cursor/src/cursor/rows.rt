@@ -2,8 +2,7 @@
 mod made;
 mod next;
 
-ghost use Rattle.std.specs.Prelude.{◌<◌, ◌≤◌, length};
-ghost use Rattle.std.specs.Option.{ForSome};
+ghost use Rattle.std.specs.Prelude.{◌≤◌, length};
 
 use crate::tree::Tree;
 pub(super) use next::{next_element, next_node};
@@ -11,15 +10,13 @@ use rowan_green::utility_types::Direction;
 use std::alloc::AllocError;
 use std::rc::Rc;
 
-// The entry of a number, where there is one, and then the entries from a start to an end, or from the end back to the start.
+// The entries from a start to an end, or from the end back to the start.
 #[derive(Drop)]
 pub(super) struct Row {
     tree: Rc<Tree>,
-    first: Option<usize>,
     start: usize,
     end: usize,
     direction: Direction,
-    ghost has_first: { ForSome first (λ n. n < length tree.value.entries.items) },
     ghost within: { end ≤ length tree.value.entries.items },
 }
 

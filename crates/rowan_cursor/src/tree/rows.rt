@@ -20,10 +20,11 @@ impl Tree {
     /// The numbers of the siblings behind this one.
     pub(crate) fn following_numbers(&self, number: usize) -> Range<usize>
         requires { number < length self.now.entries.items }
-        ensures { let es = self.now.entries.items in IsRow es result.start result.end (following (root_of es) (path_at es number)) }
+        ensures start { result.start ≡ number + 1 }
+        ensures row { let es = self.now.entries.items in IsRow es result.start result.end (following (root_of es) (path_at es number)) }
     {
         if number == 0 {
-            return 0..0;
+            return 1..1;
         }
         number + 1..self.children_end(self.entry(number).parent as usize)
     }
@@ -31,7 +32,8 @@ impl Tree {
     /// The numbers of the siblings before this one.
     pub(crate) fn preceding_numbers(&self, number: usize) -> Range<usize>
         requires { number < length self.now.entries.items }
-        ensures { let es = self.now.entries.items in IsRowBack es result.start result.end (preceding (root_of es) (path_at es number)) }
+        ensures end { result.end ≡ number }
+        ensures row { let es = self.now.entries.items in IsRowBack es result.start result.end (preceding (root_of es) (path_at es number)) }
     {
         if number == 0 {
             return 0..0;

@@ -1,10 +1,9 @@
 //! The rows of children and of siblings.
-ghost use Rattle.std.specs.Prelude.{◌≡◌, ◌-◌, ◌<◌, ◌≤◌, ◌++◌, map, length, IfOk};
+ghost use Rattle.std.specs.Prelude.{◌≡◌, ◌-◌, ◌<◌, ◌≤◌, map, length, IfOk};
 ghost use Rattle.std.specs.List.{filter};
-ghost use Rattle.std.specs.Option.{ForSome};
 ghost use Rattle.rowan_cursor.specs.CursorView.{cursor_of, element_of};
 ghost use Rattle.rowan_cursor.specs.Moves.{cursor_at, element_at, numbers, child_paths, sibling_paths, nodes_at};
-ghost use Rattle.rowan_cursor.specs.Rows.{row_elements, row_nodes, rest_of, has_node, in_order, option_list};
+ghost use Rattle.rowan_cursor.specs.Rows.{row_elements, row_nodes, rest_of, has_node, in_order};
 ghost use Rattle.rowan_cursor.specs.Table.{root_of, path_at};
 
 use super::{Row, RowLeft};
@@ -16,18 +15,12 @@ use std::rc::Rc;
 
 impl Row {
     // A row that shares the tree once more, or the refusal to.
-    fn shared(
-        tree: &Rc<Tree>,
-        first: Option<usize>,
-        row: Range<usize>,
-        direction: Direction,
-    ) -> RowLeft
-        requires has_first { ForSome first (λ n. n < length tree.now.value.entries.items) }
-        requires within { row.end ≤ length tree.now.value.entries.items }
+    fn shared(tree: &Rc<Tree>, row: Range<usize>, direction: Direction) -> RowLeft
+        requires { row.end ≤ length tree.now.value.entries.items }
         ensures elements { let es = tree.now.value.entries.items in IfOk (rest_of row_elements result) (λ left.
-            left ≡ map (element_of es) (option_list first ++ in_order direction (numbers row.start (row.end - row.start)))) }
+            left ≡ map (element_of es) (in_order direction (numbers row.start (row.end - row.start)))) }
         ensures nodes { let es = tree.now.value.entries.items in IfOk (rest_of row_nodes result) (λ left.
-            left ≡ map (cursor_of es) (filter (has_node es) (option_list first ++ in_order direction (numbers row.start (row.end - row.start))))) }
+            left ≡ map (cursor_of es) (filter (has_node es) (in_order direction (numbers row.start (row.end - row.start))))) }
     {
         let tree = match tree.clone() {
             Ok(tree) => tree,
@@ -35,7 +28,6 @@ impl Row {
         };
         Some(Ok(Row {
             tree,
-            first,
             start: row.start,
             end: row.end,
             direction,
@@ -50,7 +42,7 @@ impl Row {
         ensures nodes { let es = tree.now.value.entries.items in IfOk (rest_of row_nodes result) (λ left.
             left ≡ map (cursor_at (root_of es)) (nodes_at (root_of es) (child_paths (root_of es) (path_at es number)))) }
     {
-        Row::shared(tree, None, tree.child_numbers(number), Direction::Next)
+        Row::shared(tree, tree.child_numbers(number), Direction::Next)
     }
 
     // An entry and its siblings in one direction.
@@ -67,18 +59,12 @@ impl Row {
     {
         match direction {
             Direction::Next => {
-                Row::shared(
-                    tree,
-                    Some(number),
-                    tree.following_numbers(number),
-                    direction,
-                )
+                Row::shared(tree, number..tree.following_numbers(number).end, direction)
             }
             Direction::Prev => {
                 Row::shared(
                     tree,
-                    Some(number),
-                    tree.preceding_numbers(number),
+                    tree.preceding_numbers(number).start..number + 1,
                     direction,
                 )
             }
@@ -97,7 +83,6 @@ impl Row {
                 let tree = row.tree.clone()?;
                 Ok(Some(Ok(Row {
                     tree,
-                    first: row.first,
                     start: row.start,
                     end: row.end,
                     direction: row.direction,

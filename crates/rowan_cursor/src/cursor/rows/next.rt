@@ -18,9 +18,6 @@ impl Row {
         ensures within { IfSome result (λ n. n < length (entries_of self.old)) }
         ensures tree { self.new.tree ≡ self.old.tree }
     {
-        if let Some(number) = self.first.take() {
-            return Some(number);
-        }
         if self.start >= self.end {
             return None;
         }

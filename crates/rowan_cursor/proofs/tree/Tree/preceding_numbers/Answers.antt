@@ -2,8 +2,8 @@ use Rattle.std.proofs.Common.{arith}
 use Rattle.rowan_cursor.proofs.TableLemmas.{preceding_row}
 use Rattle.rowan_cursor.proofs.tree.Tree.preceding_numbers.Goals as goal
 
-pub returns : goal.returns
-returns c =
+pub returns-clause-row : goal.returns-clause-row
+returns-clause-row c =
     let s = c.args.self.now in
     preceding_row s.entries.items s.table c.args.number c.entry.result.now c.entry-parent.result.now
     (record {
