@@ -6,6 +6,8 @@ mod clones;
 #[cfg(test)]
 mod elements;
 #[cfg(test)]
+mod example;
+#[cfg(test)]
 mod fixture;
 #[cfg(test)]
 mod paths;
