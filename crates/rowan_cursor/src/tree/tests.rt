@@ -11,14 +11,30 @@ const CALLS: [&str; 29] = [
     ">", ")", ">", " ", "<", "62", ">", ")", ">", ">",
 ];
 
-// Some entries: number, parent, index, offset, first child and number of children.
-const ENTRIES: [(usize, usize, usize, u32, usize, usize); 6] = [
-    (0, 0, 0, 0, 1, 1),
-    (1, 0, 0, 0, 2, 7),
-    (5, 1, 3, 3, 10, 7),
-    (8, 1, 6, 14, 18, 0),
-    (13, 5, 3, 6, 19, 1),
-    (19, 13, 0, 6, 21, 0),
+// The entries in order: parent, index, offset, first child and number of children. One without any has its row where the next
+// one's begins.
+const ENTRIES: [(usize, usize, u32, usize, usize); 21] = [
+    (0, 0, 0, 1, 1),
+    (0, 0, 0, 2, 7),
+    (1, 0, 0, 9, 0),
+    (1, 1, 1, 9, 1),
+    (1, 2, 2, 10, 0),
+    (1, 3, 3, 10, 7),
+    (1, 4, 11, 17, 0),
+    (1, 5, 12, 17, 1),
+    (1, 6, 14, 18, 0),
+    (3, 0, 1, 18, 0),
+    (5, 0, 3, 18, 0),
+    (5, 1, 4, 18, 1),
+    (5, 2, 5, 19, 0),
+    (5, 3, 6, 19, 1),
+    (5, 4, 8, 20, 0),
+    (5, 5, 9, 20, 1),
+    (5, 6, 10, 21, 0),
+    (7, 0, 12, 21, 0),
+    (11, 0, 4, 21, 0),
+    (13, 0, 6, 21, 0),
+    (15, 0, 9, 21, 0),
 ];
 
 fn sum(alloc: Global) -> Result<GreenNode, Fail> {
@@ -36,9 +52,10 @@ fn sum(alloc: Global) -> Result<GreenNode, Fail> {
 #[test]
 fn table_of_sum(rt: HostRuntime) -> Result<(), Fail> {
     let tree = Tree::new(rt.alloc(), sum(rt.alloc())?)?;
-    assert_eq!(rt; tree.entries.len(), 21);
-    for (number, parent, index, offset, first_child, child_count) in ENTRIES {
+    assert_eq!(rt; tree.entries.len(), ENTRIES.len());
+    for (number, shown) in ENTRIES.into_iter().enumerate() {
         assert!(rt; number < tree.entries.len());
+        let (parent, index, offset, first_child, child_count) = shown;
         let entry = tree.entry(number);
         let start = u32::from(tree.text_range(number).start());
         let place = (entry.parent as usize, tree.index(number), start);
