@@ -5,7 +5,7 @@ use Rattle.std.specs.Prelude.{slice_get}
 use Rattle.rowan_green.specs.declared.green.node.NodeData.{NodeData}
 use Rattle.rowan_green.specs.declared.green.node.GreenChild.{GreenChild}
 use Rattle.rowan_green.specs.Term.{NodeTerm, Term, node_children, sum_of_lens, term_len}
-use Rattle.rowan_green.specs.View.{child_term, node_view, HasOffsetsFrom}
+use Rattle.rowan_green.specs.View.{child_term, child_offset, node_view, HasOffsetsFrom}
 use Rattle.rowan_green.proofs.Terms.{terms-forest}
 
 pub children-view : (d : NodeData) (n : NodeTerm) → node_view d ≡ n → map child_term d.children.items ≡ node_children n
@@ -16,12 +16,12 @@ length-children d n e = ap length (sym (children-view d n e)) ∙ length-map d.c
 
 -- the child at an index, in memory and in the term
 pub record IsChildAt (at : ℕ) (ts : List Term) (i : ℕ) (c : GreenChild) : Type 0 where
-  pub offset : c.rel_offset ≡ at + sum_of_lens (take i ts)
+  pub offset : child_offset c ≡ at + sum_of_lens (take i ts)
   pub term : slice_get ts i ≡ Some (child_term c)
 
 pub child-at : (at : ℕ) (cs : List GreenChild) (i : ℕ) (c : GreenChild) → HasOffsetsFrom at cs → i < length cs → c ≡ get_or cs i c → IsChildAt at (map child_term cs) i c
 child-at at [] i c h l e = absurd (omega arith)
-child-at at (d ∷ cs) zero c h l e = record { offset = (let p : c.rel_offset ≡ at = ap (λ x. x.rel_offset) e ∙ h.0 in omega (arith, p)); term = ap (λ x. Some (child_term x)) (sym e) }
+child-at at (d ∷ cs) zero c h l e = record { offset = (let p : child_offset c ≡ at = ap child_offset e ∙ h.0 in omega (arith, p)); term = ap (λ x. Some (child_term x)) (sym e) }
 child-at at (d ∷ cs) (suc i) c h l e =
     let p = child-at (at + term_len (child_term d)) cs i c h.1 (omega arith) e in
     record { offset = omega (arith, p.offset); term = p.term }

@@ -1,8 +1,8 @@
 -- A node is larger than its children together, and a list of children than each of them.
 use Rattle.std.proofs.Common.{◌≡◌, ℕ, ◌+◌, ◌*◌, ◌≤◌, ◌<◌, zero, suc, List, [], ◌∷◌, ◌++◌, length, get_or, refl, ap, arith}
-use Rattle.rowan_green.specs.declared.utility_types.NodeOrToken.TheVariants.{Node, Token}
 use Rattle.rowan_green.specs.declared.green.node.GreenChild.{GreenChild}
-use Rattle.rowan_green.specs.Term.{Term, NodeTerm, node, Forest, empty, node_then, token_then, node_children, node_size, forest_size, terms}
+use Rattle.rowan_green.specs.declared.green.node.GreenChild.TheVariants.{Node, Token}
+use Rattle.rowan_green.specs.Term.{NodeTerm, node, Forest, empty, node_then, token_then, node_children, node_size, forest_size, terms}
 use denote.Param.Weighed.{most, w_this}
 use Rattle.rowan_green.specs.declared.green.node.GreenNode.TheDeep.{size-GreenChild}
 use Rattle.rowan_green.specs.declared.green.node.NodeData.{NodeData}
@@ -22,14 +22,14 @@ pub children_size-append : (cs ds : List GreenChild) → children_size (cs ++ ds
 children_size-append [] ds = omega arith
 children_size-append (c ∷ cs) ds = omega (arith, children_size-append cs ds)
 
-size_le-term : (at : ℕ) (t : Term) → size-GreenChild (record { rel_offset = at; element = t }) ≤ 3 * term_size t + 1
-size_le-term at (Node n) = omega arith
-size_le-term at (Token t) = omega arith
+size_le-term : (c : GreenChild) → size-GreenChild c ≤ 3 * term_size (child_term c) + 1
+size_le-term (Node at n) = omega arith
+size_le-term (Token at t) = omega arith
 
 -- no child in the list is deeper than all of them together
 pub most_le-children_size : (cs : List GreenChild) → most (w_this.weight GreenChild size-GreenChild) cs ≤ 3 * children_size cs + 1
 most_le-children_size [] = omega arith
-most_le-children_size (c ∷ cs) = omega (arith, size_le-term c.rel_offset c.element, most_le-children_size cs)
+most_le-children_size (c ∷ cs) = omega (arith, size_le-term c, most_le-children_size cs)
 
 pub term_size_le-children_size : (cs : List GreenChild) (i : ℕ) (d : GreenChild) → i < length cs → term_size (child_term (get_or cs i d)) ≤ children_size cs
 term_size_le-children_size [] i d h = absurd (omega arith)

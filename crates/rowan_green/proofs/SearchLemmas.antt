@@ -6,7 +6,7 @@ use Rattle.std.proofs.lemmas.Int.Digits.{length-digits_of-le, length-digits_of_s
 use Rattle.std.proofs.Math.Pow.{pow_mono}
 use Rattle.std.specs.Int.Digits.{digits_of}
 use Rattle.rowan_green.specs.declared.green.node.GreenChild.{GreenChild}
-use Rattle.rowan_green.specs.View.{child_term, HasOffsetsFrom}
+use Rattle.rowan_green.specs.View.{child_term, child_offset, HasOffsetsFrom}
 use Rattle.rowan_green.proofs.ChildList.{child-at}
 use Rattle.rowan_green.specs.Term.{Term, sum_of_lens}
 use Rattle.rowan_green.specs.Steps.{count_limit, one_more}
@@ -239,7 +239,7 @@ pub child_end-last : (ts : List Term) (k : ℕ) → k + 1 ≡ length ts → chil
 child_end-last ts k e = omega (arith, child_start-whole ts, child_start-le ts (length ts) (k + 1) (omega arith), child_start-le_all ts (k + 1))
 
 -- a child in memory begins at its place
-pub offset-is : (cs : List GreenChild) (k : ℕ) (c : GreenChild) → HasOffsetsFrom 0 cs → c ≡ get_or cs k c → k < length cs → c.rel_offset ≡ child_start (map child_term cs) k
+pub offset-is : (cs : List GreenChild) (k : ℕ) (c : GreenChild) → HasOffsetsFrom 0 cs → c ≡ get_or cs k c → k < length cs → child_offset c ≡ child_start (map child_term cs) k
 offset-is cs k c h e l = omega (arith, (child-at 0 cs k c h l e).offset)
 
 -- binary digits

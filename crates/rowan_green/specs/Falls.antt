@@ -1,26 +1,27 @@
 -- A node's children are smaller than the node.
-use Rattle.std.specs.Prelude.{◌≤◌, ℕ, ◌+◌, List, [], ◌∷◌, max, map}
+use Rattle.std.specs.Prelude.{◌≤◌, ◌+◌, List, [], ◌∷◌, max, map}
 use Rattle.std.proofs.Common.{arith}
 use denote.Param.Weighed.{most}
-use Rattle.rowan_green.specs.declared.utility_types.NodeOrToken.TheVariants.{Node, Token}
+use Rattle.rowan_green.specs.declared.utility_types.NodeOrToken.TheVariants as element
 use Rattle.rowan_green.specs.declared.green.node.NodeData.{NodeData}
 use Rattle.rowan_green.specs.declared.green.node.GreenChild.{GreenChild}
+use Rattle.rowan_green.specs.declared.green.node.GreenChild.TheVariants.{Node, Token}
 use Rattle.rowan_green.specs.declared.green.node.GreenNode.TheDeep.{deep-NodeData, deep-GreenChild}
 use Rattle.rowan_green.specs.Term.{Term, node_size, forest_size, forest, put_first, empty}
 use Rattle.rowan_green.specs.View.{node_view, child_term}
 
-deep_le-term : (at : ℕ) (t : Term) → deep-GreenChild (record { rel_offset = at; element = t }) ≤ forest_size (put_first t empty) + 1
-deep_le-term at (Node n) = omega arith
-deep_le-term at (Token t) = omega arith
+deep_le-term : (c : GreenChild) → deep-GreenChild c ≤ forest_size (put_first (child_term c) empty) + 1
+deep_le-term (Node at n) = omega arith
+deep_le-term (Token at t) = omega arith
 
 forest_size-put_first : (t : Term) (cs : List GreenChild) → forest_size (put_first t empty) + forest_size (forest (map child_term cs)) ≤ forest_size (put_first t (forest (map child_term cs)))
-forest_size-put_first (Node n) cs = omega arith
-forest_size-put_first (Token t) cs = omega arith
+forest_size-put_first (element.Node n) cs = omega arith
+forest_size-put_first (element.Token t) cs = omega arith
 
 most_le-forest_size : (cs : List GreenChild) → most deep-GreenChild cs ≤ forest_size (forest (map child_term cs)) + 1
 most_le-forest_size [] = omega arith
 most_le-forest_size (c ∷ cs) =
-    omega (arith, deep_le-term c.rel_offset c.element, most_le-forest_size cs, forest_size-put_first c.element cs)
+    omega (arith, deep_le-term c, most_le-forest_size cs, forest_size-put_first (child_term c) cs)
 
 pub deep_le-node_size : (d : NodeData) → max (deep-NodeData d) 0 ≤ node_size (node_view d)
 deep_le-node_size d = omega (arith, most_le-forest_size d.children.items)

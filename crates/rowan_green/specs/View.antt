@@ -2,12 +2,20 @@
 use Rattle.std.specs.Prelude.{◌≡◌, ℕ, ◌+◌, List, [], ◌∷◌, map}
 use Rattle.rowan_green.specs.declared.green.node.NodeData.{NodeData}
 use Rattle.rowan_green.specs.declared.green.node.GreenChild.{GreenChild}
+use Rattle.rowan_green.specs.declared.green.node.GreenChild.TheVariants.{Node, Token}
+use Rattle.rowan_green.specs.declared.utility_types.NodeOrToken.TheVariants as element
 use Rattle.rowan_green.specs.Term.{NodeTerm, Term, node_of, sum_of_lens, term_len}
 use Rattle.rowan_green.specs.Fits.{AreWithin, AllFit}
 
 -- the term of a child
 abbrev pub child_term : GreenChild → Term
-child_term c = c.element
+child_term (Node at n) = element.Node n
+child_term (Token at t) = element.Token t
+
+-- where its text starts in that of its parent
+abbrev pub child_offset : GreenChild → ℕ
+child_offset (Node at n) = at
+child_offset (Token at t) = at
 
 abbrev pub node_view : NodeData → NodeTerm
 node_view d = node_of d.kind.0 (map child_term d.children.items)
@@ -15,7 +23,7 @@ node_view d = node_of d.kind.0 (map child_term d.children.items)
 -- each child's offset is the sum of the lengths before it
 abbrev pub HasOffsetsFrom : ℕ → List GreenChild → Type 0
 HasOffsetsFrom at [] = Unit {0}
-HasOffsetsFrom at (c ∷ cs) = (c.rel_offset ≡ at) × HasOffsetsFrom (at + term_len (child_term c)) cs
+HasOffsetsFrom at (c ∷ cs) = (child_offset c ≡ at) × HasOffsetsFrom (at + term_len (child_term c)) cs
 
 -- a stored length and the stored offsets are those of the children, which are within the limits at every level
 pub record AreSound (len : ℕ) (cs : List GreenChild) : Type 0 where

@@ -3,6 +3,7 @@ use Rattle.std.specs.Result.{is_ok}
 use Rattle.std.specs.Bool.{if◌then◌else◌}
 use Rattle.rowan_green.specs.declared.green.node.GreenChild.{GreenChild}
 use Rattle.rowan_green.specs.Sizes.{children_size, terms_size, term_size}
+use Rattle.rowan_green.specs.View.{child_term}
 use Rattle.rowan_green.proofs.Drops.{children_size-append, most_le-children_size, terms_size-node_children}
 use Rattle.rowan_green.proofs.+drop.Goals as goal
 
@@ -34,8 +35,8 @@ pub green::node::GreenChild::drop_into-drop-children-requires : goal.green::node
 green::node::GreenChild::drop_into-drop-children-requires t c κs =
     let left : children_size c.append.new.other.items ≤ children_size c.in-Some.children.items =
     size_le-if (is_ok c.append.result) c.in-Some.children.items c.append.new.other.items c.append.ensures.other_items in
-    (((omega (arith, c.decreases, left, most_le-children_size c.append.new.other.items, ap terms_size c.in-Some.ensures, terms_size-node_children c.in-Node.node, ap term_size c.in-Node.is), tt), tt), (search rules, search rules))
+    (((omega (arith, c.decreases, left, most_le-children_size c.append.new.other.items, ap terms_size c.in-Some.ensures, terms_size-node_children c.in-Node.node, ap (λ x. term_size (child_term x)) c.in-Node.is), tt), tt), (search rules, search rules))
 
 pub green::node::GreenChild::drop_into-returns : goal.green::node::GreenChild::drop_into-returns
 green::node::GreenChild::drop_into-returns t c =
-    omega (arith, size_le-append (is_ok c.append.result) c.in-Some.children.items c.args.rest.now.items c.append.new.self.items c.append.ensures.items, ap terms_size c.in-Some.ensures, terms_size-node_children c.in-Node.node, ap term_size c.in-Node.is)
+    omega (arith, size_le-append (is_ok c.append.result) c.in-Some.children.items c.args.rest.now.items c.append.new.self.items c.append.ensures.items, ap terms_size c.in-Some.ensures, terms_size-node_children c.in-Node.node, ap (λ x. term_size (child_term x)) c.in-Node.is)

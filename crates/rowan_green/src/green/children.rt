@@ -63,7 +63,7 @@ impl<'a> Iterator for Children<'a> {
 
     fn next(&mut self) -> Option<Result<GreenElement, Fault>> {
         let (first, rest) = self.rest.split_first()?;
-        match first.element.clone() {
+        match first.as_ref().to_owned() {
             Ok(element) => {
                 self.rest = rest;
                 Some(Ok(element))
@@ -88,7 +88,7 @@ impl<'a> DoubleEndedIterator for Children<'a> {
 
     fn next_back(&mut self) -> Option<Result<GreenElement, Fault>> {
         let (last, rest) = self.rest.split_last()?;
-        match last.element.clone() {
+        match last.as_ref().to_owned() {
             Ok(element) => {
                 self.rest = rest;
                 Some(Ok(element))

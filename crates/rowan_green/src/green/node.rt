@@ -10,7 +10,7 @@ ghost use Rattle.rowan_green.specs.Search.{IsChildAt, child_start, digits};
 ghost use Rattle.rowan_green.specs.Steps.{count_limit};
 
 use crate::fault::Fault;
-use crate::green::{Children, GreenElement, GreenElementRef, SyntaxKind};
+use crate::green::{Children, GreenElement, GreenElementRef, GreenToken, SyntaxKind};
 use crate::node_cache::Interned;
 use crate::steps::Steps;
 use crate::text::{TextRange, TextSize};
@@ -19,6 +19,7 @@ use std::alloc::{AllocError, Global};
 use std::fmt::{self, Display};
 use std::hash::{Hash, Hasher};
 use std::marker::Model;
+use std::mem;
 use std::rc::Rc;
 
 /// An inner part of a tree: a kind and a list of children. A clone shares them.
@@ -35,11 +36,54 @@ struct NodeData {
     children: Vec<GreenChild>,
 }
 
+/// A child, and where its text starts in that of its parent.
 #[cycle(green)]
 #[derive(Drop)]
-pub(super) struct GreenChild {
-    pub(super) rel_offset: TextSize,
-    pub(super) element: GreenElement,
+pub(super) enum GreenChild {
+    Node {
+        rel_offset: TextSize,
+        node: GreenNode,
+    },
+    Token {
+        rel_offset: TextSize,
+        token: GreenToken,
+    },
+}
+
+// A search reads the list of children, so each takes little room in it.
+const _: () = prove!(mem::size_of::<GreenChild>() == 16);
+
+impl GreenChild {
+    ghost use Rattle.rowan_green.specs.View.{child_term, child_offset};
+
+    fn new(rel_offset: TextSize, element: GreenElement) -> GreenChild
+        ensures offset { child_offset result ≡ rel_offset }
+        ensures term { child_term result ≡ element }
+    {
+        match element {
+            NodeOrToken::Node(node) => GreenChild::Node { rel_offset, node },
+            NodeOrToken::Token(token) => GreenChild::Token { rel_offset, token },
+        }
+    }
+
+    pub(super) fn rel_offset(&self) -> TextSize
+        ensures { result ≡ child_offset self.now }
+    {
+        match self {
+            GreenChild::Node { rel_offset, .. } | GreenChild::Token { rel_offset, .. } => {
+                *rel_offset
+            }
+        }
+    }
+
+    pub(super) fn as_ref(&self) -> GreenElementRef<'_>
+        ensures { pointee result ≡ child_term self.now }
+    {
+        match self {
+            GreenChild::Node { node, .. } => NodeOrToken::Node(node),
+            GreenChild::Token { token, .. } => NodeOrToken::Token(token),
+        }
+    }
 }
 
 /// The children of a node that is being made, within the limits so far.
@@ -92,10 +136,7 @@ impl NodeDraft {
         let Some(text_len) = u32::from(rel_offset).checked_add(len) else {
             return Err(Fault::TextTooLong);
         };
-        self.children.push(GreenChild {
-            rel_offset,
-            element,
-        })?;
+        self.children.push(GreenChild::new(rel_offset, element))?;
         self.text_len = TextSize::from(text_len);
         Ok(())
     }
@@ -213,7 +254,7 @@ impl GreenNode {
         ensures none { IsNone result ↔ length (node_children self.now) ≤ index }
     {
         let child = self.data.children.get(index)?;
-        Some((child.rel_offset, child.element.as_ref()))
+        Some((child.rel_offset(), child.as_ref()))
     }
 
     /// The child at a range, with its index and its offset, where all offsets count from the node's own start: the child that has
@@ -242,7 +283,7 @@ impl GreenNode {
         if !GreenChild::rel_range(children, text_len, index).contains_range(range) {
             return None;
         }
-        Some((index, child.rel_offset, child.element.as_ref()))
+        Some((index, child.rel_offset(), child.as_ref()))
     }
 }
 
@@ -284,18 +325,15 @@ impl Drop for GreenNode {
 
 impl GreenChild {
     ghost use Rattle.rowan_green.specs.Sizes.{children_size, term_size};
+    ghost use Rattle.rowan_green.specs.View.{child_term};
 
     // Drops the child, but for the children of its own, which go to the end of the list. Where the memory for that is
     // refused, it drops them too.
     #[cycle(drop)]
     fn drop_into(self, rest: &mut Vec<GreenChild>)
-        ensures { children_size rest.new.items < children_size rest.old.items + term_size self.element }
+        ensures { children_size rest.new.items < children_size rest.old.items + term_size (child_term self) }
     {
-        let GreenChild {
-            rel_offset: _,
-            element,
-        } = self;
-        let NodeOrToken::Node(node) = element else {
+        let GreenChild::Node { node, .. } = self else {
             return;
         };
         let Some(mut children) = node.into_children() else {
@@ -353,7 +391,7 @@ impl GreenChild {
     fn is_same(&self, other: &GreenChild) -> bool
         ensures { result ≡ same_term (child_term self.now) (child_term other.now) }
     {
-        match (&self.element, &other.element) {
+        match (self.as_ref(), other.as_ref()) {
             (NodeOrToken::Node(node), NodeOrToken::Node(other)) => *node == *other,
             (NodeOrToken::Token(token), NodeOrToken::Token(other)) => *token == *other,
             _ => false,
@@ -403,7 +441,7 @@ impl GreenChild {
     fn hash<H: Hasher>(&self, state: &mut H)
         ensures { state.new ≡ fold H.write state.old (fed_term (child_term self.now)) }
     {
-        match &self.element {
+        match self.as_ref() {
             NodeOrToken::Node(node) => {
                 state.write_u8(0);
                 node.hash(state);
@@ -450,7 +488,7 @@ impl GreenChild {
     fn display<W: fmt::Write>(&self, f: &mut fmt::Formatter<W>) -> fmt::Result
         ensures { DisplaysOnOk W.write_str_gives f.old result (Some (term_text (child_term self.now))) f.new }
     {
-        match &self.element {
+        match self.as_ref() {
             NodeOrToken::Node(node) => node.fmt(f),
             NodeOrToken::Token(token) => token.fmt(f),
         }

@@ -20,9 +20,9 @@ impl GreenChild {
         ensures start { result.start ≡ child_start (map child_term children.now) index }
         ensures end { result.end ≡ child_end (map child_term children.now) index }
     {
-        let start = children[index].rel_offset;
+        let start = children[index].rel_offset();
         let end = match children.get(index + 1) {
-            Some(next) => next.rel_offset,
+            Some(next) => next.rel_offset(),
             None => text_len,
         };
         TextRange::new(start, end)

@@ -20,7 +20,7 @@ impl NodeDraft {
         ensures err { IfErr result (λ e. e ≢ Fault.Memory → PassesLimit (self.old ++ map child_term children.now) e) }
     {
         for child in children {
-            self.push(child.element.as_ref().to_owned()?)?;
+            self.push(child.as_ref().to_owned()?)?;
         }
         Ok(())
     }

@@ -10,7 +10,7 @@ abbrev pub decreases-GreenNodePartialEq::eq : goal.decreases-GreenNodePartialEq:
 decreases-GreenNodePartialEq::eq l = 3 * node_size l.self.now
 
 abbrev pub decreases-GreenChild::is_same : goal.decreases-GreenChild::is_same
-decreases-GreenChild::is_same l = 3 * term_size l.self.now.element + 1
+decreases-GreenChild::is_same l = 3 * term_size (child_term l.self.now) + 1
 
 abbrev pub decreases-GreenChild::are_same : goal.decreases-GreenChild::are_same
 decreases-GreenChild::are_same l = 3 * children_size l.children.now + 2

@@ -9,7 +9,7 @@ abbrev pub decreases-GreenNodeHash::hash : goal.decreases-GreenNodeHash::hash
 decreases-GreenNodeHash::hash g l = 3 * node_size l.self.now
 
 abbrev pub decreases-GreenChild::hash : goal.decreases-GreenChild::hash
-decreases-GreenChild::hash g l = 3 * term_size l.self.now.element + 1
+decreases-GreenChild::hash g l = 3 * term_size (child_term l.self.now) + 1
 
 abbrev pub decreases-GreenChild::hash_all : goal.decreases-GreenChild::hash_all
 decreases-GreenChild::hash_all g l = 3 * children_size l.children.now + 2

@@ -12,9 +12,9 @@ new-requires c =
     let ts = map child_term cs in
     let k = c.args.index in
     let child = c.index-children-index in
-    let start = ap (λ x. x.rel_offset) (sym child.is) ∙ offset-is cs k child.result c.requires.placed child.is c.requires.place in
+    let start = c.rel_offset-start.ensures ∙ offset-is cs k child.result c.requires.placed child.is c.requires.place in
     let end : c.match-get.end ≡ child_end ts k = elim c.match-get.branch [
-      | in-Some w ↦ w.end-is ∙ offset-is cs (k + 1) w.in-Some.next.now c.requires.placed w.in-Some.ensures.lookup.1 w.in-Some.ensures.lookup.3.0
+      | in-Some w ↦ w.end-is ∙ w.rel_offset-end.ensures ∙ offset-is cs (k + 1) w.in-Some.next.now c.requires.placed w.in-Some.ensures.lookup.1 w.in-Some.ensures.lookup.3.0
       | in-None w ↦ w.end-is ∙ c.requires.sum ∙ sym (child_end-last ts k (omega (arith, c.requires.place, length-map cs child_term, w.in-None.ensures.lookup.3)))
     ] in
     omega (arith, start, end, child_start-le ts k (k + 1) (omega arith))
@@ -22,7 +22,7 @@ new-requires c =
 pub returns-clause-start : goal.returns-clause-start
 returns-clause-start c =
     let child = c.index-children-index in
-    ap (λ s. s.start) c.new.ensures ∙ ap (λ x. x.rel_offset) (sym child.is) ∙ offset-is c.args.children.now c.args.index child.result c.requires.placed child.is c.requires.place
+    ap (λ s. s.start) c.new.ensures ∙ c.rel_offset-start.ensures ∙ offset-is c.args.children.now c.args.index child.result c.requires.placed child.is c.requires.place
 
 pub returns-clause-end : goal.returns-clause-end
 returns-clause-end c =
@@ -30,7 +30,7 @@ returns-clause-end c =
     let ts = map child_term cs in
     let k = c.args.index in
     let end : c.match-get.end ≡ child_end ts k = elim c.match-get.branch [
-      | in-Some w ↦ w.end-is ∙ offset-is cs (k + 1) w.in-Some.next.now c.requires.placed w.in-Some.ensures.lookup.1 w.in-Some.ensures.lookup.3.0
+      | in-Some w ↦ w.end-is ∙ w.rel_offset-end.ensures ∙ offset-is cs (k + 1) w.in-Some.next.now c.requires.placed w.in-Some.ensures.lookup.1 w.in-Some.ensures.lookup.3.0
       | in-None w ↦ w.end-is ∙ c.requires.sum ∙ sym (child_end-last ts k (omega (arith, c.requires.place, length-map cs child_term, w.in-None.ensures.lookup.3)))
     ] in
     ap (λ s. s.end) c.new.ensures ∙ end

@@ -16,7 +16,7 @@ returns-in_err-push-clause-err c =
     let child : GreenChild = c.child-item.result in
     let x : Term = c.in_ok-to_owned.field-0 in
     let here : i < length cs = omega (arith, c.loop-child-test.true) in
-    let is : x ≡ child.element = c.in_ok-to_owned.ensures.ok ∙ c.as_ref.ensures in
+    let is : x ≡ child_term child = c.in_ok-to_owned.ensures.ok ∙ c.as_ref.ensures in
     let at : drop i cs ≡ child ∷ drop (i + 1) cs = rw (add-one, drop-cons cs i child) (ap (λ y. y ∷ drop (suc i) cs) (sym c.child-item.is)) in
     let before = ts ++ map child_term (take i cs) in
     let after = map child_term (drop (i + 1) cs) in
@@ -25,7 +25,7 @@ returns-in_err-push-clause-err c =
       before = before;
       child = x;
       after = after;
-      parts = ap (λ us. ts ++ us) terms ∙ sym (append_assoc ts (map child_term (take i cs)) (child.element ∷ after)) ∙ ap (λ y. before ++ y ∷ after) (sym is);
+      parts = ap (λ us. ts ++ us) terms ∙ sym (append_assoc ts (map child_term (take i cs)) (child_term child ∷ after)) ∙ ap (λ y. before ++ y ∷ after) (sym is);
       within = subst AreWithin c.loop-child.invariant c.push.ensures.within_before;
       passes = subst (λ us. ChildPasses us x c.in_err-push.field-0.0) c.loop-child.invariant (c.in_err-push.ensures.err not_memory);
     })
