@@ -1,35 +1,24 @@
 -- Laws of filling a table: what one more entry leaves true, and what is left to be done.
-use Rattle.std.proofs.Common.{◌≡◌, ℕ, zero, suc, ◌+◌, ◌-◌, ◌<◌, ◌≤◌, ◌⊎◌, inl, inr, List, [], ◌∷◌, ◌++◌, map, length, take, drop, Some, refl, sym, ◌∙◌, ap, subst, arith, length-append, append_assoc}
+use Rattle.std.proofs.Common.{◌≡◌, ℕ, zero, suc, ◌+◌, ◌-◌, ◌<◌, ◌≤◌, inl, inr, List, [], ◌∷◌, ◌++◌, map, length, take, drop, Some, refl, sym, ◌∙◌, ap, subst, arith, length-append, append_assoc}
 use Rattle.std.specs.Prelude.{Option, slice_get}
 use Rattle.std.specs.Option.{option_map}
-use Rattle.std.proofs.lemmas.List.{take-append-le, take_all, length-take-le, append-nil, map-append, length-map, take_more, drop-append-le}
+use Rattle.std.proofs.lemmas.List.{take-append-le, take_all, length-take-le, map-append, length-map, take_more, drop-append-le}
 use Rattle.std.proofs.lemmas.Option.{slice_get_within, same_Some, get_or_from_slice_get}
 use Rattle.rowan_green.specs.declared.utility_types.NodeOrToken.TheVariants.{Node, Token}
 use Rattle.rowan_green.specs.Fits.{byte_limit, Fits, FitsNode}
 use Rattle.rowan_green.specs.Lent.{into_node}
 use Rattle.rowan_green.specs.Search.{child_start}
 use Rattle.rowan_green.specs.Sizes.{term_size, terms_size}
-use Rattle.rowan_green.specs.Term.{NodeTerm, node, Term, terms, node_children, node_len, term_len, sum_of_lens}
+use Rattle.rowan_green.specs.Term.{NodeTerm, node, Term, node_children, term_len, sum_of_lens}
+use Rattle.rowan_green.proofs.CacheLemmas.{slice_get-grown, slice_get-cases}
 use Rattle.rowan_green.proofs.Drops.{terms_size-node_children}
-use Rattle.rowan_green.proofs.Terms.{forest-terms, node_len-node_of}
+use Rattle.rowan_green.proofs.SearchLemmas.{child_start-le_all}
 use Rattle.rowan_cursor.specs.Table.{node_in, root_of, green_of, offset_of, children_in, len_in, counts, IsTop, IsChildOf, IsFilling, GrowsBy}
 use Rattle.rowan_cursor.specs.declared.tree.Entry.{Entry}
+use Rattle.rowan_cursor.proofs.PathLemmas.{node_len-children}
 use Rattle.rowan_cursor.proofs.TableLemmas.{counts-more, child_end, sum_of_lens-children}
 
 -- ---- lists
-
-slice_get-grown : {A : Type 0} (xs ys : List A) (n : ℕ) (x : A) → slice_get xs n ≡ Some x → slice_get (xs ++ ys) n ≡ Some x
-slice_get-grown [] ys n x e = absurd cc
-slice_get-grown (y ∷ xs) ys zero x e = e
-slice_get-grown (y ∷ xs) ys (suc n) x e = slice_get-grown xs ys n x e
-
-push_cases : {A : Type 0} (xs : List A) (y x : A) (n : ℕ) → slice_get (xs ++ y ∷ []) n ≡ Some x
-    → ((n < length xs) × (slice_get xs n ≡ Some x)) ⊎ ((n ≡ length xs) × (y ≡ x))
-push_cases [] y x zero e = inr (refl, same_Some y x e)
-push_cases [] y x (suc n) e = absurd cc
-push_cases (z ∷ xs) y x zero e = inl (omega arith, e)
-push_cases (z ∷ xs) y x (suc n) e =
-    elim (push_cases xs y x n e) [ inl h ↦ inl (omega (arith, h.0), h.1) | inr h ↦ inr (ap suc h.0, h.1) ]
 
 root_of-grown : (es ys : List Entry) → 0 < length es → root_of (es ++ ys) ≡ root_of es
 root_of-grown [] ys h = absurd (omega arith)
@@ -42,8 +31,7 @@ counts-append (e ∷ es) ds = omega (arith, counts-append es ds)
 -- ---- lengths
 
 pub Fits-len : (t : Term) → Fits t → term_len t ≤ byte_limit
-Fits-len (Node (node k f)) h =
-    omega (arith, h.0.text, ap (λ g. node_len (node k g)) (forest-terms f), node_len-node_of k (terms f))
+Fits-len (Node (node k f)) h = omega (arith, h.0.text, node_len-children (node k f))
 Fits-len (Token t) h = h
 
 -- ---- one more entry
@@ -67,23 +55,23 @@ IsChildOf-at p m n d e c h k =
 pub IsFilling-push : (es : List Entry) (p y : Entry) → IsFilling es → IsNextChild es p y → IsFilling (es ++ y ∷ [])
 IsFilling-push es p y t next = record {
   some = omega (arith, length-append es (y ∷ []), t.some);
-  top = λ e at. elim (push_cases es y e 0 at) [ inl h ↦ IsTop-push es y e t.some (t.top e h.1) | inr h ↦ absurd (omega (arith, h.0, t.some)) ];
-  ends = λ n e at. elim (push_cases es y e n at) [ inl h ↦ t.ends n e h.1 | inr h ↦ subst (λ (x : Entry). (offset_of x) + len_in (green_of x) ≤ byte_limit) h.1 next.end ];
-  firsts = λ n e at. elim (push_cases es y e n at) [
-    | inl h ↦ t.firsts n e h.1 ∙ ap (λ ds. counts ds + 1) (sym (take-append-le n es (y ∷ []) (omega (arith, h.0))))
+  top = λ e at. elim (slice_get-cases es y 0 e at) [ inl h ↦ IsTop-push es y e t.some (t.top e h) | inr h ↦ absurd (omega (arith, h.0, t.some)) ];
+  ends = λ n e at. elim (slice_get-cases es y n e at) [ inl h ↦ t.ends n e h | inr h ↦ subst (λ (x : Entry). (offset_of x) + len_in (green_of x) ≤ byte_limit) h.1 next.end ];
+  firsts = λ n e at. elim (slice_get-cases es y n e at) [
+    | inl h ↦ t.firsts n e h ∙ ap (λ ds. counts ds + 1) (sym (take-append-le n es (y ∷ []) (omega (arith, slice_get_within es n e h))))
     | inr h ↦
         subst (λ (x : Entry). x.first_child ≡ counts (take n (es ++ y ∷ [])) + 1) h.1
         (next.first ∙ ap (λ ds. counts ds + 1) (sym (take-append-le n es (y ∷ []) (omega (arith, h.0)) ∙ take_all n es (omega (arith, h.0)))))
   ];
-  earlier = λ n e at behind. elim (push_cases es y e n at) [
-    | inl h ↦ t.earlier n e h.1 behind
+  earlier = λ n e at behind. elim (slice_get-cases es y n e at) [
+    | inl h ↦ t.earlier n e h behind
     | inr h ↦ subst (λ (x : Entry). x.parent < n) h.1 (omega (arith, h.0, slice_get_within es y.parent p next.above))
   ];
-  parents = λ n e q at behind above. elim (push_cases es y e n at) [
+  parents = λ n e q at behind above. elim (slice_get-cases es y n e at) [
     | inl h ↦
-        elim (push_cases es y q e.parent above) [
-          | inl k ↦ t.parents n e q h.1 behind k.1
-          | inr k ↦ absurd (omega (arith, h.0, k.0, t.earlier n e h.1 behind))
+        elim (slice_get-cases es y e.parent q above) [
+          | inl k ↦ t.parents n e q h behind k
+          | inr k ↦ absurd (omega (arith, slice_get_within es n e h, k.0, t.earlier n e h behind))
         ]
     | inr h ↦
         let same : slice_get (es ++ y ∷ []) y.parent ≡ Some p = slice_get-grown es (y ∷ []) y.parent p next.above in
@@ -130,13 +118,6 @@ pub GrowsBy-next : (old new : List Entry) (p y : Entry) (i : ℕ) (u : Term) →
 GrowsBy-next old new p y i u grown above kept is e t at child =
     GrowsBy-child old new p y i u grown kept is t (subst (λ (x : Entry). slice_get (children_in (green_of x)) i ≡ Some t) (same_Some e p (sym at ∙ above)) child)
 
-pub GrowsBy-none : (es : List Entry) → GrowsBy es es []
-GrowsBy-none es = record {
-  row = [];
-  grown = sym (append-nil es);
-  greens = refl;
-}
-
 pub GrowsBy-then : (a b c : List Entry) (ts us : List Term) → GrowsBy a b ts → GrowsBy b c us → GrowsBy a c (ts ++ us)
 GrowsBy-then a b c ts us g h = record {
   row = g.row ++ h.row;
@@ -151,17 +132,11 @@ pub GrowsBy-length : (a b : List Entry) (ts : List Term) → GrowsBy a b ts → 
 GrowsBy-length a b ts g =
     omega (arith, ap length g.grown, length-append a g.row, ap length g.greens, length-map g.row green_of, length-map ts into_node)
 
-sum_of_lens-take : (ts : List Term) (i : ℕ) → sum_of_lens (take i ts) ≤ sum_of_lens ts
-sum_of_lens-take [] zero = omega arith
-sum_of_lens-take [] (suc i) = omega arith
-sum_of_lens-take (t ∷ ts) zero = omega arith
-sum_of_lens-take (t ∷ ts) (suc i) = omega (arith, sum_of_lens-take ts i)
-
 -- a child starts within the limit
 pub start_within : (es : List Entry) → IsFilling es → (parent : ℕ) (p : Entry) (n : NodeTerm) → slice_get es parent ≡ Some p → (green_of p) ≡ Some n → (i : ℕ)
     → (offset_of p) + sum_of_lens (take i (node_children n)) ≤ byte_limit
 start_within es t parent p n at is i =
-    omega (arith, t.ends parent p at, ap len_in is, sum_of_lens-take (node_children n) i, sum_of_lens-children (Node n))
+    omega (arith, t.ends parent p at, ap len_in is, child_start-le_all (node_children n) i, sum_of_lens-children (Node n))
 
 pub counts-push : (es : List Entry) (y : Entry) → counts (es ++ y ∷ []) ≡ counts es + length (children_in (green_of y))
 counts-push es y = omega (arith, counts-append es (y ∷ []))
@@ -189,7 +164,7 @@ child_place es ds t parent i p e at place less g found =
 
 one_case : (y e : Entry) (n : ℕ) → slice_get (y ∷ []) n ≡ Some e → (n ≡ 0) × (y ≡ e)
 one_case y e n at =
-    elim (push_cases [] y e n at) [ inl h ↦ absurd (omega (arith, h.0)) | inr h ↦ h ]
+    elim (slice_get-cases [] y n e at) [ inl h ↦ absurd cc | inr h ↦ h ]
 
 pub record IsRootEntry (y : Entry) (root : NodeTerm) : Type 0 where
   pub green : (green_of y) ≡ Some root

@@ -8,16 +8,16 @@ use Rattle.rowan_green.specs.declared.utility_types.NodeOrToken.TheVariants.{Nod
 use Rattle.rowan_green.specs.Fits.{byte_limit}
 use Rattle.rowan_green.specs.Lent.{into_node}
 use Rattle.rowan_green.specs.Search.{child_start}
-use Rattle.rowan_green.specs.Term.{NodeTerm, Term, node, terms, term_len, node_len, sum_of_lens}
+use Rattle.rowan_green.specs.Term.{NodeTerm, Term, term_len, sum_of_lens}
 use Rattle.rowan_green.specs.Path.{Path, subterm, offset, len_of, term_children}
 use Rattle.rowan_green.proofs.Paths.{offset-empty}
-use Rattle.rowan_green.proofs.Terms.{forest-terms, node_len-node_of}
+use Rattle.rowan_green.proofs.SearchLemmas.{child_start-le_all}
 use Rattle.rowan_cursor.specs.Cursor.{last_place}
 use Rattle.rowan_cursor.specs.Moves.{numbers, below, child_count, children_of, is_node, child_paths, first_at, following, preceding}
 use Rattle.rowan_cursor.specs.Table.{root_of, green_of, offset_of, index_of, children_in, len_in, counts, path_within, path_at, IsTop, IsChildOf, IsFilling, IsTable, IsRow, IsRowBack, IsEntry, IsNodeEntry}
 use Rattle.rowan_cursor.specs.declared.tree.Entry.{Entry}
 use Rattle.rowan_cursor.proofs.RowLemmas.{map-reverse, first_split, last_split, empty_row}
-use Rattle.rowan_cursor.proofs.PathLemmas.{subterm-child, offset-child, last_place-child, following-child, preceding-child}
+use Rattle.rowan_cursor.proofs.PathLemmas.{subterm-child, offset-child, last_place-child, following-child, preceding-child, child_start-next, node_len-children}
 
 -- ---- lists
 
@@ -41,14 +41,12 @@ counts-within es m d e =
 -- ---- lengths
 
 pub sum_of_lens-children : (t : Term) → sum_of_lens (term_children t) ≤ term_len t
-sum_of_lens-children (Node (node k f)) =
-    omega (arith, ap (λ g. node_len (node k g)) (forest-terms f), node_len-node_of k (terms f))
+sum_of_lens-children (Node n) = omega (arith, node_len-children n)
 sum_of_lens-children (Token t) = omega arith
 
 child_end-within : (ts : List Term) (i : ℕ) (t : Term) → slice_get ts i ≡ Some t → child_start ts i + term_len t ≤ sum_of_lens ts
-child_end-within [] i t e = absurd cc
-child_end-within (u ∷ ts) zero t e = omega (arith, ap term_len (same_Some u t e))
-child_end-within (u ∷ ts) (suc i) t e = omega (arith, child_end-within ts i t e)
+child_end-within ts i t e =
+    omega (arith, child_start-next ts i (slice_get_within ts i t e), ap len_of e, child_start-le_all ts (i + 1))
 
 -- where a child ends, its parent has not ended before
 pub child_end : (u : Term) (i : ℕ) (t : Term) → slice_get (term_children u) i ≡ Some t → child_start (term_children u) i + term_len t ≤ term_len u
@@ -70,11 +68,6 @@ pub kept-none : (o : Option Term) → option_map into_node o ≡ Some None → i
 kept-none None e = absurd cc
 kept-none (Some (Node n)) e = absurd cc
 kept-none (Some (Token t)) e = refl
-
-pub kept-node : (o : Option Term) (n : NodeTerm) → option_map into_node o ≡ Some (Some n) → o ≡ Some (Node n)
-kept-node None n e = absurd cc
-kept-node (Some (Node m)) n e = ap (λ k. let t : Term = Node k in Some t) (same_Some m n (same_Some (Some m) (Some n) e))
-kept-node (Some (Token t)) n e = absurd cc
 
 kept_within : (ts : List Term) (i : ℕ) (g : Option NodeTerm) → option_map into_node (slice_get ts i) ≡ Some g → i < length ts
 kept_within [] i g e = absurd cc
@@ -352,13 +345,6 @@ preceding_row es t n e p h =
           ∙ sym (map-reverse (λ i. q ++ i ∷ []) (numbers 0 (n - p.first_child)))
           ∙ sym (preceding-child root q (n - p.first_child)) ∙ ap (preceding root) (sym (path_at-below es t.filling n e p h.at h.behind h.above));
     }
-
--- the root has no siblings
-pub following_none : (es : List Entry) → IsTable es → IsRow es 0 0 (following (root_of es) [])
-following_none es t = record { order = omega arith; within = omega arith; row = refl }
-
-pub preceding_none : (es : List Entry) → IsTable es → IsRowBack es 0 0 (preceding (root_of es) [])
-preceding_none es t = record { order = omega arith; within = omega arith; row = refl }
 
 pub above_of : (es : List Entry) → IsTable es → (n : ℕ) (e : Entry) → slice_get es n ≡ Some e → 0 < n → (p : Entry) × HasAbove es n e p
 above_of es t n e at h =

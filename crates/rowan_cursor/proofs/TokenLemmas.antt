@@ -13,20 +13,12 @@ use Rattle.rowan_cursor.specs.Moves.{parent_path, children_of, numbers, below, c
 use Rattle.rowan_cursor.specs.Pass.{Lists, row, of_some, after, before, entered, rest, reached, upto, leaf_list, element_list, ComesBehind, ComesNext, ComesBefore, ComesBack, first_inside, last_inside}
 use Rattle.rowan_cursor.specs.Table.{IsFilling, IsTable, green_of, index_of, root_of, path_at}
 use Rattle.rowan_cursor.specs.declared.tree.Entry.{Entry}
-use Rattle.rowan_cursor.proofs.PathLemmas.{last-split, parent_path-child, last_place-child, following-child, preceding-child, begins-rest, begins-own, begins-same, subterm-child}
-use Rattle.rowan_cursor.proofs.LeafLemmas.{after-child, rest-child, rest-none, before-child, upto-child, upto-none, upto-all, leaf_list-node, element_list-term, filter_same, filter_row-const, filter-row, not-begins, find-first, find-last, last_at, first_leaf-below, last_leaf-below, next_leaf-rest, prev_leaf-before}
+use Rattle.rowan_cursor.proofs.PathLemmas.{last-split, parent_path-child, last_place-child, following-child, preceding-child, begins-rest, begins-own, begins-same, not-begins, subterm-child, below-first, below-none}
+use Rattle.rowan_cursor.proofs.LeafLemmas.{after-child, rest-child, rest-none, before-child, upto-child, upto-none, upto-all, leaf_list-node, element_list-term, filter_same, filter_row-const, filter-row, find-first, find-last, last_at, first_leaf-below, last_leaf-below, next_leaf-rest, prev_leaf-before}
 use Rattle.rowan_cursor.proofs.RowLemmas.{map-reverse, row-last}
 use Rattle.rowan_cursor.proofs.TableLemmas.{slice_get-some, index_above, path_at-child, is_entry, kept-some}
 
--- The first of a list of children, and the last.
-below-first : (p : Path) (a d : ℕ) (s : Path) → Some s ≡ first_at (below p (numbers a d)) → (s ≡ p ++ a ∷ []) × (0 < d)
-below-first p a zero s h = absurd cc
-below-first p a (suc d) s h = (cc, omega arith)
-
-below-none : (p : Path) (a d : ℕ) → ◌≡◌ {A = Option Path} None (first_at (below p (numbers a d))) → d ≡ 0
-below-none p a zero h = refl
-below-none p a (suc d) h = absurd cc
-
+-- The last of a list of children.
 below-back : (p : Path) (n : ℕ) → reverse (below p (numbers 0 (suc n))) ≡ (p ++ n ∷ []) ∷ reverse (below p (numbers 0 n))
 below-back p n =
     let e : 0 + n ≡ n = omega arith in
