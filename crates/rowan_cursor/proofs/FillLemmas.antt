@@ -40,7 +40,7 @@ pub record IsNextChild (es : List Entry) (p e : Entry) : Type 0 where
   pub above : slice_get es e.parent ≡ Some p
   pub is : IsChildOf p (length es) e
   pub first : e.first_child ≡ counts es + 1
-  pub end : (offset_of e) + len_in (green_of e) ≤ byte_limit
+  pub end : offset_of e + len_in (green_of e) ≤ byte_limit
 
 IsTop-push : (es : List Entry) (y e : Entry) → 0 < length es → IsTop es e → IsTop (es ++ y ∷ []) e
 IsTop-push es y e some t = record {
@@ -56,7 +56,7 @@ pub IsFilling-push : (es : List Entry) (p y : Entry) → IsFilling es → IsNext
 IsFilling-push es p y t next = record {
   some = omega (arith, length-append es (y ∷ []), t.some);
   top = λ e at. elim (slice_get-cases es y 0 e at) [ inl h ↦ IsTop-push es y e t.some (t.top e h) | inr h ↦ absurd (omega (arith, h.0, t.some)) ];
-  ends = λ n e at. elim (slice_get-cases es y n e at) [ inl h ↦ t.ends n e h | inr h ↦ subst (λ (x : Entry). (offset_of x) + len_in (green_of x) ≤ byte_limit) h.1 next.end ];
+  ends = λ n e at. elim (slice_get-cases es y n e at) [ inl h ↦ t.ends n e h | inr h ↦ subst (λ (x : Entry). offset_of x + len_in (green_of x) ≤ byte_limit) h.1 next.end ];
   firsts = λ n e at. elim (slice_get-cases es y n e at) [
     | inl h ↦ t.firsts n e h ∙ ap (λ ds. counts ds + 1) (sym (take-append-le n es (y ∷ []) (omega (arith, slice_get_within es n e h))))
     | inr h ↦
@@ -84,8 +84,8 @@ len_of-kept : (t : Term) → len_in (into_node t) ≤ term_len t
 len_of-kept (Node n) = omega arith
 len_of-kept (Token t) = omega arith
 
-pub next_child : (es : List Entry) → IsFilling es → (p y : Entry) (n : NodeTerm) (i : ℕ) (u : Term) → slice_get es y.parent ≡ Some p → (green_of p) ≡ Some n → length es ≡ p.first_child + i
-    → slice_get (node_children n) i ≡ Some u → (green_of y) ≡ into_node u → (offset_of y) ≡ (offset_of p) + child_start (node_children n) i
+pub next_child : (es : List Entry) → IsFilling es → (p y : Entry) (n : NodeTerm) (i : ℕ) (u : Term) → slice_get es y.parent ≡ Some p → green_of p ≡ Some n → length es ≡ p.first_child + i
+    → slice_get (node_children n) i ≡ Some u → green_of y ≡ into_node u → offset_of y ≡ offset_of p + child_start (node_children n) i
     → y.first_child ≡ counts es + 1 → IsNextChild es p y
 next_child es t p y n i u at is place child kept start first =
     let index : i ≡ length es - p.first_child = omega arith in
@@ -97,7 +97,7 @@ next_child es t p y n i u at is place child kept start first =
       is = record {
         place = omega arith;
         child = ap (λ ts. option_map into_node (slice_get ts (length es - p.first_child))) (sym terms) ∙ ap (λ k. option_map into_node (slice_get (node_children n) k)) (sym index) ∙ here;
-        start = start ∙ ap (λ k. (offset_of p) + child_start (node_children n) k) index ∙ ap (λ ts. (offset_of p) + child_start ts (length es - p.first_child)) terms;
+        start = start ∙ ap (λ k. offset_of p + child_start (node_children n) k) index ∙ ap (λ ts. offset_of p + child_start ts (length es - p.first_child)) terms;
       };
       first = first;
       end = omega (arith, start, child_end (Node n) i u child, ap len_in is, t.ends y.parent p at, ap len_in kept, len_of-kept u);
@@ -105,7 +105,7 @@ next_child es t p y n i u at is place child kept start first =
 
 -- ---- what was added
 
-GrowsBy-child : (old new : List Entry) (p y : Entry) (i : ℕ) (u : Term) → new ≡ old ++ y ∷ [] → (green_of y) ≡ into_node u → slice_get (children_in (green_of p)) i ≡ Some u
+GrowsBy-child : (old new : List Entry) (p y : Entry) (i : ℕ) (u : Term) → new ≡ old ++ y ∷ [] → green_of y ≡ into_node u → slice_get (children_in (green_of p)) i ≡ Some u
     → (t : Term) → slice_get (children_in (green_of p)) i ≡ Some t → GrowsBy old new (t ∷ [])
 GrowsBy-child old new p y i u grown kept is t child = record {
   row = y ∷ [];
@@ -113,7 +113,7 @@ GrowsBy-child old new p y i u grown kept is t child = record {
   greens = ap (λ g. g ∷ []) (kept ∙ ap into_node (same_Some u t (sym is ∙ child)));
 }
 
-pub GrowsBy-next : (old new : List Entry) (p y : Entry) (i : ℕ) (u : Term) → new ≡ old ++ y ∷ [] → slice_get old y.parent ≡ Some p → (green_of y) ≡ into_node u → slice_get (children_in (green_of p)) i ≡ Some u
+pub GrowsBy-next : (old new : List Entry) (p y : Entry) (i : ℕ) (u : Term) → new ≡ old ++ y ∷ [] → slice_get old y.parent ≡ Some p → green_of y ≡ into_node u → slice_get (children_in (green_of p)) i ≡ Some u
     → (e : Entry) (t : Term) → slice_get old y.parent ≡ Some e → slice_get (children_in (green_of e)) i ≡ Some t → GrowsBy old new (t ∷ [])
 GrowsBy-next old new p y i u grown above kept is e t at child =
     GrowsBy-child old new p y i u grown kept is t (subst (λ (x : Entry). slice_get (children_in (green_of x)) i ≡ Some t) (same_Some e p (sym at ∙ above)) child)
@@ -133,8 +133,8 @@ GrowsBy-length a b ts g =
     omega (arith, ap length g.grown, length-append a g.row, ap length g.greens, length-map g.row green_of, length-map ts into_node)
 
 -- a child starts within the limit
-pub start_within : (es : List Entry) → IsFilling es → (parent : ℕ) (p : Entry) (n : NodeTerm) → slice_get es parent ≡ Some p → (green_of p) ≡ Some n → (i : ℕ)
-    → (offset_of p) + sum_of_lens (take i (node_children n)) ≤ byte_limit
+pub start_within : (es : List Entry) → IsFilling es → (parent : ℕ) (p : Entry) (n : NodeTerm) → slice_get es parent ≡ Some p → green_of p ≡ Some n → (i : ℕ)
+    → offset_of p + sum_of_lens (take i (node_children n)) ≤ byte_limit
 start_within es t parent p n at is i =
     omega (arith, t.ends parent p at, ap len_in is, child_start-le_all (node_children n) i, sum_of_lens-children (Node n))
 
@@ -167,8 +167,8 @@ one_case y e n at =
     elim (slice_get-cases [] y n e at) [ inl h ↦ absurd cc | inr h ↦ h ]
 
 pub record IsRootEntry (y : Entry) (root : NodeTerm) : Type 0 where
-  pub green : (green_of y) ≡ Some root
-  pub start : (offset_of y) ≡ 0
+  pub green : green_of y ≡ Some root
+  pub start : offset_of y ≡ 0
   pub first : y.first_child ≡ 1
   pub fits : FitsNode root
 
@@ -182,7 +182,7 @@ pub IsFilling-one : (y : Entry) (root : NodeTerm) → IsRootEntry y root → IsF
 IsFilling-one y root r = record {
   some = omega arith;
   top = λ e at. subst (λ (x : Entry). IsTop (y ∷ []) x) (one_case y e 0 at).1 (IsTop-one y root r);
-  ends = λ n e at. subst (λ (x : Entry). (offset_of x) + len_in (green_of x) ≤ byte_limit) (one_case y e n at).1 (omega (arith, r.start, ap len_in r.green, Fits-len (Node root) r.fits));
+  ends = λ n e at. subst (λ (x : Entry). offset_of x + len_in (green_of x) ≤ byte_limit) (one_case y e n at).1 (omega (arith, r.start, ap len_in r.green, Fits-len (Node root) r.fits));
   firsts = λ n e at.
       let c = one_case y e n at in
       subst (λ (x : Entry). x.first_child ≡ counts (take n (y ∷ [])) + 1) c.1 (omega (arith, r.first, ap (λ m. counts (take m (y ∷ []))) c.0));

@@ -227,13 +227,13 @@ pub find-last : (P : Path → Bool) (qs : List Path) → find P (reverse qs) ≡
 find-last P qs = find-first P (reverse qs) ∙ ap first_at (filter-reverse P qs)
 
 pub first_leaf-below : (root : NodeTerm) (p : Path) → first_leaf_path root p ≡ first_at (map (λ q. p ++ q) (of_some leaf_list (subterm (Node root) p)))
-first_leaf-below root p = find-first (begins p) (leaf_paths root) ∙ ap first_at (leaves-below (Some (Node root)) p)
+first_leaf-below root p = find-first (begins p) (leaf_paths (Node root)) ∙ ap first_at (leaves-below (Some (Node root)) p)
 
 pub last_leaf-below : (root : NodeTerm) (p : Path) → last_leaf_path root p ≡ last_at (map (λ q. p ++ q) (of_some leaf_list (subterm (Node root) p)))
-last_leaf-below root p = find-last (begins p) (leaf_paths root) ∙ ap last_at (leaves-below (Some (Node root)) p)
+last_leaf-below root p = find-last (begins p) (leaf_paths (Node root)) ∙ ap last_at (leaves-below (Some (Node root)) p)
 
 pub next_leaf-rest : (root : NodeTerm) (p : Path) → next_leaf_path root p ≡ first_at (rest leaf_list (Some (Node root)) p 0)
-next_leaf-rest root p = find-first (λ q. stands_before p q) (leaf_paths root) ∙ ap first_at (leaves-behind (Some (Node root)) p)
+next_leaf-rest root p = find-first (λ q. stands_before p q) (leaf_paths (Node root)) ∙ ap first_at (leaves-behind (Some (Node root)) p)
 
 pub prev_leaf-before : (root : NodeTerm) (p : Path) (c : Term) → subterm (Node root) p ≡ Some c → prev_leaf_path root p ≡ last_at (before leaf_list (Some (Node root)) p)
-prev_leaf-before root p c e = find-last (λ q. stands_before q p) (leaf_paths root) ∙ ap last_at (leaves-before (Some (Node root)) p c e)
+prev_leaf-before root p c e = find-last (λ q. stands_before q p) (leaf_paths (Node root)) ∙ ap last_at (leaves-before (Some (Node root)) p c e)

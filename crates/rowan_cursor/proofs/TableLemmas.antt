@@ -112,7 +112,7 @@ path_at-below es t n e p at h above =
 
 pub record Stands (es : List Entry) (n : ℕ) (e : Entry) : Type 0 where
   pub green : option_map into_node (subterm (Node (root_of es)) (path_at es n)) ≡ Some (green_of e)
-  pub start : offset (Node (root_of es)) (path_at es n) ≡ (offset_of e)
+  pub start : offset (Node (root_of es)) (path_at es n) ≡ offset_of e
 
 Stands-top : (es : List Entry) (e : Entry) → IsTop es e → Stands es 0 e
 Stands-top es e top = record {
@@ -132,7 +132,7 @@ Stands-child es t n e p at h above s =
     let inside : i < length (children_of (subterm (Node root) q)) = omega (arith, ap length terms, kept_within (children_in (green_of p)) i (green_of e) c.child) in
     record {
       green = ap (λ r. option_map into_node (subterm (Node root) r)) path ∙ ap (option_map into_node) (subterm-child (Some (Node root)) q i ∙ ap (λ ts. slice_get ts i) terms) ∙ c.child;
-      start = ap (λ r. offset (Node root) r) path ∙ offset-child root q i inside ∙ ap (λ x. x + child_start (children_of (subterm (Node root) q)) i) s.start ∙ ap (λ ts. (offset_of p) + child_start ts i) terms ∙ sym c.start;
+      start = ap (λ r. offset (Node root) r) path ∙ offset-child root q i inside ∙ ap (λ x. x + child_start (children_of (subterm (Node root) q)) i) s.start ∙ ap (λ ts. offset_of p + child_start ts i) terms ∙ sym c.start;
     }
 
 Stands-within : (es : List Entry) → IsFilling es → (steps n : ℕ) → n ≤ steps → (e : Entry) → slice_get es n ≡ Some e → Stands es n e
@@ -151,7 +151,7 @@ end_of-token : (g : Option NodeTerm) (i : ℕ) (t : Term) → slice_get (childre
 end_of-token None i t e = absurd cc
 end_of-token (Some n) i t e = child_end (Node n) i t e
 
-ends_below : (es : List Entry) → IsFilling es → (n : ℕ) (e p : Entry) → slice_get es n ≡ Some e → 0 < n → slice_get es e.parent ≡ Some p → (o : Option Term) → slice_get (children_in (green_of p)) (n - p.first_child) ≡ o → (offset_of e) + len_of o ≤ byte_limit
+ends_below : (es : List Entry) → IsFilling es → (n : ℕ) (e p : Entry) → slice_get es n ≡ Some e → 0 < n → slice_get es e.parent ≡ Some p → (o : Option Term) → slice_get (children_in (green_of p)) (n - p.first_child) ≡ o → offset_of e + len_of o ≤ byte_limit
 ends_below es t n e p at h above None f = omega (arith, t.ends n e at)
 ends_below es t n e p at h above (Some u) f =
     omega (arith, (t.parents n e p at h above).start, end_of-token (green_of p) (n - p.first_child) u f, t.ends e.parent p above)
@@ -164,7 +164,7 @@ child_above es t n e p at h above =
     ap (λ r. subterm (Node root) r) (path_at-below es t n e p at h above) ∙ subterm-child (Some (Node root)) q (n - p.first_child)
     ∙ ap (λ ts. slice_get ts (n - p.first_child)) (kept-children (subterm (Node root) q) (green_of p) (stands es t e.parent p above).green)
 
-ends_within : (es : List Entry) → IsFilling es → (n : ℕ) (e : Entry) → slice_get es n ≡ Some e → (offset_of e) + len_of (subterm (Node (root_of es)) (path_at es n)) ≤ byte_limit
+ends_within : (es : List Entry) → IsFilling es → (n : ℕ) (e : Entry) → slice_get es n ≡ Some e → offset_of e + len_of (subterm (Node (root_of es)) (path_at es n)) ≤ byte_limit
 ends_within es t zero e at = omega (arith, t.ends 0 e at, ap len_in (t.top e at).green)
 ends_within es t (suc n) e at =
     let less : e.parent < suc n = t.earlier (suc n) e at (omega arith) in
@@ -309,7 +309,7 @@ pub record HasAbove (es : List Entry) (n : ℕ) (e p : Entry) : Type 0 where
 place : (es : List Entry) (n : ℕ) (e p : Entry) → IsTable es → HasAbove es n e p → n ≡ p.first_child + (n - p.first_child)
 place es n e p t h = omega (arith, (t.filling.parents n e p h.at h.behind h.above).place)
 
-index_below : (es : List Entry) (n : ℕ) (e p : Entry) → IsTable es → HasAbove es n e p → (n - p.first_child) < length (children_in (green_of p))
+index_below : (es : List Entry) (n : ℕ) (e p : Entry) → IsTable es → HasAbove es n e p → n - p.first_child < length (children_in (green_of p))
 index_below es n e p t h =
     kept_within (children_in (green_of p)) (n - p.first_child) (green_of e) (t.filling.parents n e p h.at h.behind h.above).child
 
@@ -318,7 +318,7 @@ following_row es t n e p h =
     let root = root_of es in
     let q = path_at es e.parent in
     let at : n ≡ p.first_child + (n - p.first_child) = place es n e p t h in
-    let less : (n - p.first_child) < length (children_in (green_of p)) = index_below es n e p t h in
+    let less : n - p.first_child < length (children_in (green_of p)) = index_below es n e p t h in
     let left : p.first_child + length (children_in (green_of p)) - (n + 1) ≡ length (children_in (green_of p)) - (n - p.first_child + 1) = omega arith in
     let from : n + 1 ≡ p.first_child + (n - p.first_child + 1) = omega arith in
     record {
@@ -335,13 +335,11 @@ preceding_row es t n e p h =
     let root = root_of es in
     let q = path_at es e.parent in
     let at : n ≡ p.first_child + (n - p.first_child) = place es n e p t h in
-    let less : (n - p.first_child) < length (children_in (green_of p)) = index_below es n e p t h in
-    let left : n - p.first_child ≡ (n - p.first_child) = omega arith in
+    let less : n - p.first_child < length (children_in (green_of p)) = index_below es n e p t h in
     record {
       order = omega arith;
       within = omega (arith, slice_get_within es n e h.at);
-      row = ap (λ c. reverse (map (path_at es) (numbers p.first_child c))) left
-          ∙ ap reverse (part es t e.parent p h.above p.first_child 0 (n - p.first_child) (omega arith) (omega arith))
+      row = ap reverse (part es t e.parent p h.above p.first_child 0 (n - p.first_child) (omega arith) (omega arith))
           ∙ sym (map-reverse (λ i. q ++ i ∷ []) (numbers 0 (n - p.first_child)))
           ∙ sym (preceding-child root q (n - p.first_child)) ∙ ap (preceding root) (sym (path_at-below es t.filling n e p h.at h.behind h.above));
     }
@@ -447,7 +445,7 @@ some_none : (r : NodeTerm) → ◌≡◌ {A = Option NodeTerm} (Some r) None →
 some_none r e = cc e
 
 -- what an entry without a node stands for is a child of the node above
-pub child_of_above : (es : List Entry) → IsTable es → (n : ℕ) (e p : Entry) → slice_get es n ≡ Some e → (green_of e) ≡ None → slice_get es e.parent ≡ Some p
+pub child_of_above : (es : List Entry) → IsTable es → (n : ℕ) (e p : Entry) → slice_get es n ≡ Some e → green_of e ≡ None → slice_get es e.parent ≡ Some p
     → (subterm (Node (root_of es)) (path_at es n) ≡ slice_get (children_in (green_of p)) (n - p.first_child)) × (n - p.first_child < length (children_in (green_of p)))
 child_of_above es t zero e p at bare above = absurd (some_none (root_of es) (sym (t.filling.top e at).green ∙ bare))
 child_of_above es t (suc n) e p at bare above = (

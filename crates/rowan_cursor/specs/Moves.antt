@@ -58,9 +58,9 @@ abbrev pub sibling_paths : Direction → NodeTerm → Path → List Path
 sibling_paths Next root p = p ∷ following root p
 sibling_paths Prev root p = p ∷ preceding root p
 
--- the paths of all leaves, in order
-abbrev pub leaf_paths : NodeTerm → List Path
-leaf_paths root = map (λ l. l.0) (leaves (Node root))
+-- the paths of all leaves of a term, in order
+abbrev pub leaf_paths : Term → List Path
+leaf_paths t = map (λ l. l.0) (leaves t)
 
 abbrev pub is_node : Option Term → Bool
 is_node (Some (Node n)) = true
@@ -84,16 +84,16 @@ first_at (p ∷ paths) = Some p
 
 -- the first leaf below a path, the last one, the first behind it, and the last before it
 abbrev pub first_leaf_path : NodeTerm → Path → Option Path
-first_leaf_path root p = find (begins p) (leaf_paths root)
+first_leaf_path root p = find (begins p) (leaf_paths (Node root))
 
 abbrev pub last_leaf_path : NodeTerm → Path → Option Path
-last_leaf_path root p = find (begins p) (reverse (leaf_paths root))
+last_leaf_path root p = find (begins p) (reverse (leaf_paths (Node root)))
 
 abbrev pub next_leaf_path : NodeTerm → Path → Option Path
-next_leaf_path root p = find (λ q. stands_before p q) (leaf_paths root)
+next_leaf_path root p = find (λ q. stands_before p q) (leaf_paths (Node root))
 
 abbrev pub prev_leaf_path : NodeTerm → Path → Option Path
-prev_leaf_path root p = find (λ q. stands_before q p) (reverse (leaf_paths root))
+prev_leaf_path root p = find (λ q. stands_before q p) (reverse (leaf_paths (Node root)))
 
 -- the cursor at a path of a root
 abbrev pub cursor_at : NodeTerm → Path → Cursor
