@@ -3,7 +3,7 @@ use Rattle.std.proofs.Common.{◌≡◌, true, false, ℕ, zero, suc, ◌+◌, �
 use Rattle.std.specs.Prelude.{slice_get}
 use Rattle.std.specs.Option.{option_map, option_map_or}
 use Rattle.std.proofs.lemmas.List.{take_all}
-use Rattle.std.proofs.lemmas.Option.{slice_get_within, same_Some}
+use Rattle.std.proofs.lemmas.Option.{slice_get_within, none-some, same_Some}
 use Rattle.rowan_green.specs.declared.utility_types.NodeOrToken.TheVariants.{Node, Token}
 use Rattle.rowan_green.specs.Fits.{byte_limit}
 use Rattle.rowan_green.specs.Lent.{into_node}
@@ -441,13 +441,10 @@ node_above es t n e at h =
     let p = a.0 in
     node_with_child (subterm (Node (root_of es)) (path_at es e.parent)) (green_of p) (green_of e) (n - p.first_child) (stands es t.filling e.parent p a.1.above).green (t.filling.parents n e p at h a.1.above).child
 
-some_none : (r : NodeTerm) → ◌≡◌ {A = Option NodeTerm} (Some r) None → ⊥
-some_none r e = cc e
-
 -- what an entry without a node stands for is a child of the node above
 pub child_of_above : (es : List Entry) → IsTable es → (n : ℕ) (e p : Entry) → slice_get es n ≡ Some e → green_of e ≡ None → slice_get es e.parent ≡ Some p
     → (subterm (Node (root_of es)) (path_at es n) ≡ slice_get (children_in (green_of p)) (n - p.first_child)) × (n - p.first_child < length (children_in (green_of p)))
-child_of_above es t zero e p at bare above = absurd (some_none (root_of es) (sym (t.filling.top e at).green ∙ bare))
+child_of_above es t zero e p at bare above = absurd (none-some (root_of es) (sym bare ∙ (t.filling.top e at).green))
 child_of_above es t (suc n) e p at bare above = (
   child_above es t.filling (suc n) e p at (omega arith) above,
   kept_within (children_in (green_of p)) (suc n - p.first_child) (green_of e) (t.filling.parents (suc n) e p at (omega arith) above).child,

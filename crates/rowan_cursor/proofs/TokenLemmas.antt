@@ -2,18 +2,17 @@
 use Rattle.std.proofs.Common.{◌≡◌, ◌≢◌, ℕ, zero, suc, ◌+◌, ◌-◌, ◌<◌, true, false, cond, List, [], ◌∷◌, ◌++◌, map, length, filter, Option, Some, None, take, drop, reverse, inl, inr, refl, sym, ◌∙◌, ap, arith, length-append, append_assoc}
 use Rattle.std.specs.Prelude.{slice_get}
 use Rattle.std.proofs.lemmas.Bool.{cases_lt, true≢false}
-use Rattle.std.proofs.lemmas.List.{append-nil, length-take, reverse-append}
+use Rattle.std.proofs.lemmas.List.{append-nil, length-take, reverse-append, same_from_push}
 use Rattle.std.proofs.lemmas.List.Elements.{filter-append}
 use Rattle.std.proofs.lemmas.Option.{slice_get_past}
 use Rattle.rowan_green.specs.declared.utility_types.NodeOrToken.TheVariants.{Node, Token}
 use Rattle.rowan_green.specs.Term.{NodeTerm, Term}
 use Rattle.rowan_green.specs.Path.{Path, term_children, subterm, begins}
-use Rattle.rowan_cursor.specs.Cursor.{last_place}
 use Rattle.rowan_cursor.specs.Moves.{parent_path, children_of, numbers, below, child_count, child_paths, following, preceding, is_node, is_node_at, first_at, first_leaf_path, last_leaf_path, next_leaf_path, prev_leaf_path}
 use Rattle.rowan_cursor.specs.Pass.{Lists, row, of_some, after, before, entered, rest, reached, upto, leaf_list, element_list, ComesBehind, ComesNext, ComesBefore, ComesBack, first_inside, last_inside}
 use Rattle.rowan_cursor.specs.Table.{IsFilling, IsTable, green_of, index_of, root_of, path_at}
 use Rattle.rowan_cursor.specs.declared.tree.Entry.{Entry}
-use Rattle.rowan_cursor.proofs.PathLemmas.{last-split, parent_path-child, last_place-child, following-child, preceding-child, begins-rest, begins-own, begins-same, not-begins, subterm-child, below-first, below-none}
+use Rattle.rowan_cursor.proofs.PathLemmas.{last-split, parent_path-child, following-child, preceding-child, begins-rest, begins-own, begins-same, not-begins, subterm-child, below-first, below-none}
 use Rattle.rowan_cursor.proofs.LeafLemmas.{after-child, rest-child, rest-none, before-child, upto-child, upto-none, upto-all, leaf_list-node, element_list-term, filter_same, filter_row-const, filter-row, find-first, find-last, last_at, first_leaf-below, last_leaf-below, next_leaf-rest, prev_leaf-before}
 use Rattle.rowan_cursor.proofs.RowLemmas.{map-reverse, row-last}
 use Rattle.rowan_cursor.proofs.TableLemmas.{slice_get-some, index_above, path_at-child, is_entry, kept-some}
@@ -38,11 +37,6 @@ nearest : (p : Path) (n : ℕ) → first_at (below p (reverse (numbers 0 n))) �
 nearest p n = ap first_at (map-reverse (λ i. p ++ i ∷ []) (numbers 0 n))
 
 -- Inside an element.
-same_parent : (p q : Path) (i j : ℕ) → p ++ i ∷ [] ≡ q ++ j ∷ [] → p ≡ q
-same_parent p q i j e =
-    let x : Some p ≡ Some q = sym (parent_path-child p i) ∙ ap parent_path e ∙ parent_path-child q j in
-    cc
-
 begins-longer : (top p q : Path) → begins top p ≡ true → begins top (p ++ q) ≡ true
 begins-longer top p q h =
     let r = begins-rest top p h in
@@ -56,7 +50,7 @@ inside-parent top p q i h apart e =
     let r = begins-rest top p h in
     elim (last-split r.0) [
       | inl x ↦ absurd (apart (r.1 ∙ ap (λ u. top ++ u) x ∙ append-nil top))
-      | inr x ↦ ap (begins top) (same_parent q (top ++ x.0) i x.1 (sym e ∙ r.1 ∙ ap (λ u. top ++ u) x.2 ∙ sym (append_assoc top x.0 (x.1 ∷ [])))) ∙ begins-own top x.0
+      | inr x ↦ ap (begins top) (same_from_push q (top ++ x.0) i x.1 (sym e ∙ r.1 ∙ ap (λ u. top ++ u) x.2 ∙ sym (append_assoc top x.0 (x.1 ∷ [])))).0 ∙ begins-own top x.0
     ]
 
 -- Where a path has a sibling behind it, or before it.
@@ -286,15 +280,14 @@ same_number es f (suc k) m n b i j h =
     elim (cases_lt 0 m) [
       | inl x ↦ elim (cases_lt 0 n) [
         | inl y ↦ (
-            let joined = sym (path_at-child es f m d.0 d.1 x) ∙ h ∙ path_at-child es f n e.0 e.1 y in
+            let ends = same_from_push (path_at es d.0.parent) (path_at es e.0.parent) (index_of es m d.0) (index_of es n e.0) (sym (path_at-child es f m d.0 d.1 x) ∙ h ∙ path_at-child es f n e.0 e.1 y) in
             let less : d.0.parent < m = f.earlier m d.0 d.1 x in
             let lesser : e.0.parent < n = f.earlier n e.0 e.1 y in
-            let parents : d.0.parent ≡ e.0.parent = same_number es f k d.0.parent e.0.parent (omega arith) (omega arith) (omega arith) (same_parent (path_at es d.0.parent) (path_at es e.0.parent) (index_of es m d.0) (index_of es n e.0) joined) in
-            let places : index_of es m d.0 ≡ index_of es n e.0 = sym (last_place-child (path_at es d.0.parent) (index_of es m d.0)) ∙ ap last_place joined ∙ last_place-child (path_at es e.0.parent) (index_of es n e.0) in
+            let parents : d.0.parent ≡ e.0.parent = same_number es f k d.0.parent e.0.parent (omega arith) (omega arith) (omega arith) ends.0 in
             let above = slice_get-some es d.0.parent (omega arith) in
             let one = f.parents m d.0 above.0 d.1 x above.1 in
             let other = f.parents n e.0 above.0 e.1 y (ap (slice_get es) (sym parents) ∙ above.1) in
-            omega (arith, one.place, other.place, places, index_above es m d.0 above.0 above.1, index_above es n e.0 above.0 (ap (slice_get es) (sym parents) ∙ above.1)))
+            omega (arith, one.place, other.place, ends.1, index_above es m d.0 above.0 above.1, index_above es n e.0 above.0 (ap (slice_get es) (sym parents) ∙ above.1)))
         | inr y ↦ (
             let zero_n : n ≡ 0 = omega arith in
             absurd (ends_apart (path_at es d.0.parent) (index_of es m d.0) (sym (path_at-child es f m d.0 d.1 x) ∙ h ∙ ap (path_at es) zero_n)))
