@@ -24,10 +24,6 @@ root_of-grown : (es ys : List Entry) → 0 < length es → root_of (es ++ ys) �
 root_of-grown [] ys h = absurd (omega arith)
 root_of-grown (e ∷ es) ys h = refl
 
-counts-append : (es ds : List Entry) → counts (es ++ ds) ≡ counts es + counts ds
-counts-append [] ds = omega arith
-counts-append (e ∷ es) ds = omega (arith, counts-append es ds)
-
 -- ---- lengths
 
 pub Fits-len : (t : Term) → Fits t → term_len t ≤ byte_limit
@@ -137,9 +133,6 @@ pub start_within : (es : List Entry) → IsFilling es → (parent : ℕ) (p : En
     → offset_of p + sum_of_lens (take i (node_children n)) ≤ byte_limit
 start_within es t parent p n at is i =
     omega (arith, t.ends parent p at, ap len_in is, child_start-le_all (node_children n) i, sum_of_lens-children (Node n))
-
-pub counts-push : (es : List Entry) (y : Entry) → counts (es ++ y ∷ []) ≡ counts es + length (children_in (green_of y))
-counts-push es y = omega (arith, counts-append es (y ∷ []))
 
 -- ---- all children of an entry, one after the other
 

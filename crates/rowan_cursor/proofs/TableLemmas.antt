@@ -2,8 +2,9 @@
 use Rattle.std.proofs.Common.{◌≡◌, true, false, ℕ, zero, suc, ◌+◌, ◌-◌, ◌<◌, ◌≤◌, List, [], ◌∷◌, ◌++◌, map, reverse, length, take, Option, Some, None, refl, sym, ◌∙◌, ap, subst, arith}
 use Rattle.std.specs.Prelude.{slice_get}
 use Rattle.std.specs.Option.{option_map, option_map_or}
-use Rattle.std.proofs.lemmas.List.{take_all}
-use Rattle.std.proofs.lemmas.Option.{slice_get_within, none-some, same_Some}
+use Rattle.std.proofs.lemmas.List.{take_all, take-take}
+use Rattle.std.proofs.lemmas.List.Sums.{sum_by_more, sum_by-take-le}
+use Rattle.std.proofs.lemmas.Option.{slice_get_within, get_or_from_slice_get, none-some, same_Some}
 use Rattle.rowan_green.specs.declared.utility_types.NodeOrToken.TheVariants.{Node, Token}
 use Rattle.rowan_green.specs.Fits.{byte_limit}
 use Rattle.rowan_green.specs.Lent.{into_node}
@@ -26,17 +27,18 @@ slice_get-some [] i h = absurd (omega arith)
 slice_get-some (x ∷ xs) zero h = (x, refl)
 slice_get-some (x ∷ xs) (suc i) h = slice_get-some xs i (omega arith)
 
-counts-take-less : (es : List Entry) (m n : ℕ) (d : Entry) → slice_get es m ≡ Some d → m < n → counts (take m es) + length (children_in (green_of d)) ≤ counts (take n es)
-counts-take-less [] m n d e h = absurd cc
-counts-take-less (x ∷ es) zero zero d e h = absurd (omega arith)
-counts-take-less (x ∷ es) zero (suc n) d e h =
-    omega (arith, ap (λ (c : Entry). length (children_in (green_of c))) (same_Some x d e))
-counts-take-less (x ∷ es) (suc m) zero d e h = absurd (omega arith)
-counts-take-less (x ∷ es) (suc m) (suc n) d e h = omega (arith, counts-take-less es m n d e (omega arith))
+pub counts-more : (es : List Entry) (n : ℕ) (e : Entry) → slice_get es n ≡ Some e → counts (take (n + 1) es) ≡ counts (take n es) + length (children_in (green_of e))
+counts-more es n e at =
+    sum_by_more (λ (x : Entry). length (children_in (green_of x))) es n e (slice_get_within es n e at)
+    ∙ ap (λ (x : Entry). counts (take n es) + length (children_in (green_of x))) (get_or_from_slice_get es n e e at)
 
-pub counts-within : (es : List Entry) (m : ℕ) (d : Entry) → slice_get es m ≡ Some d → counts (take m es) + length (children_in (green_of d)) ≤ counts es
-counts-within es m d e =
-    omega (arith, counts-take-less es m (length es) d e (slice_get_within es m d e), ap counts (take_all (length es) es (omega arith)))
+pub counts-within : (es : List Entry) (n : ℕ) (e : Entry) → slice_get es n ≡ Some e → counts (take n es) + length (children_in (green_of e)) ≤ counts es
+counts-within es n e at =
+    omega (arith, counts-more es n e at, sum_by-take-le (λ (x : Entry). length (children_in (green_of x))) es (n + 1))
+
+counts-take-less : (es : List Entry) (m n : ℕ) (d : Entry) → slice_get es m ≡ Some d → m < n → counts (take m es) + length (children_in (green_of d)) ≤ counts (take n es)
+counts-take-less es m n d at h =
+    omega (arith, counts-more es m d at, sum_by-take-le (λ (x : Entry). length (children_in (green_of x))) (take n es) (m + 1), ap counts (take-take (m + 1) n es (omega arith)))
 
 -- ---- lengths
 
@@ -256,13 +258,6 @@ part : (es : List Entry) → IsTable es → (n : ℕ) (e : Entry) → slice_get 
     → map (path_at es) (numbers start c) ≡ below (path_at es n) (numbers a c)
 part es t n e at start a c from h =
     ap (λ k. map (path_at es) (numbers k c)) from ∙ row_below es t n e at c a h
-
-pub counts-more : (es : List Entry) (n : ℕ) (e : Entry) → slice_get es n ≡ Some e → counts (take (n + 1) es) ≡ counts (take n es) + length (children_in (green_of e))
-counts-more [] n e at = absurd cc
-counts-more (x ∷ es) zero e at = omega (arith, ap (λ (c : Entry). length (children_in (green_of c))) (same_Some x e at))
-counts-more (x ∷ es) (suc n) e at =
-    let next : suc n + 1 ≡ suc (n + 1) = omega arith in
-    omega (arith, ap (λ k. counts (take k (x ∷ es))) next, counts-more es n e at)
 
 -- the children of an entry end where those of the next begin, and those of the last with the table
 pub row_end-next : (es : List Entry) → IsTable es → (n : ℕ) (e d : Entry) → slice_get es n ≡ Some e → slice_get es (n + 1) ≡ Some d → d.first_child ≡ e.first_child + length (children_in (green_of e))

@@ -5,6 +5,7 @@
 --     The path of an entry is read off by going up: from parent to parent, to the root.
 -- All facts are local: each speaks of one entry, or of an entry and its parent.
 use Rattle.std.specs.Prelude.{◌≡◌, true, ℕ, zero, suc, ◌+◌, ◌-◌, ◌<◌, ◌≤◌, List, [], ◌∷◌, ◌++◌, map, length, take, reverse, Some, Option, None, slice_get}
+use Rattle.std.specs.List.{sum_by}
 use Rattle.std.specs.Option.{option_map, option_map_or}
 use Rattle.rowan_green.specs.declared.utility_types.NodeOrToken.TheVariants.{Node}
 use Rattle.rowan_green.specs.Fits.{byte_limit}
@@ -53,8 +54,7 @@ root_of (e ∷ es) = node_in (green_of e)
 
 -- how many children these entries have together
 abbrev pub counts : List Entry → ℕ
-counts [] = 0
-counts (e ∷ es) = length (children_in (green_of e)) + counts es
+counts es = sum_by (λ e. length (children_in (green_of e))) es
 
 -- an entry's index among its siblings: how far it stands behind the first child of its parent
 abbrev pub index_of : List Entry → ℕ → Entry → ℕ
