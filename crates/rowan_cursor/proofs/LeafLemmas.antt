@@ -2,6 +2,7 @@
 use Rattle.std.proofs.Common.{◌≡◌, ℕ, zero, suc, ◌+◌, ◌<◌, ◌≤◌, Bool, true, false, cond, inl, inr, List, [], ◌∷◌, ◌++◌, map, length, filter, Option, Some, None, take, drop, reverse, refl, sym, ◌∙◌, ap, arith, append_assoc, drop-cons}
 use Rattle.std.specs.Prelude.{slice_get}
 use Rattle.std.specs.List.{find}
+use Rattle.std.proofs.lemmas.Bool.{cond-true, cond-false}
 use Rattle.std.proofs.lemmas.List.{append-nil, map-append, map-id, drop_all, take_all, reverse-append}
 use Rattle.std.proofs.lemmas.List.Elements.{filter-append}
 use Rattle.std.proofs.lemmas.Option.{slice_get_within, get_or_from_slice_get}
@@ -129,8 +130,8 @@ filter_same P Q i (q ∷ qs) h = ap (λ b. cond b ((i ∷ q) ∷ filter P (map (
 filter_const : (P : Path → Bool) (b : Bool) (i : ℕ) (qs : List Path) → ((q : Path) → P (i ∷ q) ≡ b) → filter P (map (λ q. i ∷ q) qs) ≡ cond b (map (λ q. i ∷ q) qs) []
 filter_const P true i [] h = refl
 filter_const P false i [] h = refl
-filter_const P true i (q ∷ qs) h = ap (λ b. cond b ((i ∷ q) ∷ filter P (map (λ q. i ∷ q) qs)) (filter P (map (λ q. i ∷ q) qs))) (h q) ∙ ap (λ us. (i ∷ q) ∷ us) (filter_const P true i qs h)
-filter_const P false i (q ∷ qs) h = ap (λ b. cond b ((i ∷ q) ∷ filter P (map (λ q. i ∷ q) qs)) (filter P (map (λ q. i ∷ q) qs))) (h q) ∙ filter_const P false i qs h
+filter_const P true i (q ∷ qs) h = cond-true (P (i ∷ q)) ((i ∷ q) ∷ filter P (map (λ q. i ∷ q) qs)) (filter P (map (λ q. i ∷ q) qs)) (h q) ∙ ap (λ us. (i ∷ q) ∷ us) (filter_const P true i qs h)
+filter_const P false i (q ∷ qs) h = cond-false (P (i ∷ q)) ((i ∷ q) ∷ filter P (map (λ q. i ∷ q) qs)) (filter P (map (λ q. i ∷ q) qs)) (h q) ∙ filter_const P false i qs h
 
 joined : (b : Bool) (xs ys : List Path) → cond b xs [] ++ cond b ys [] ≡ cond b (xs ++ ys) []
 joined true xs ys = refl
@@ -162,11 +163,11 @@ filter-row g P Q b c m (suc d) i (t ∷ ts) e less same more =
 -- The leaves that a path begins, those that it stands before, and those that stand before it.
 pub filter_all : (P : Path → Bool) (qs : List Path) → ((q : Path) → P q ≡ true) → filter P qs ≡ qs
 filter_all P [] h = refl
-filter_all P (q ∷ qs) h = ap (λ b. cond b (q ∷ filter P qs) (filter P qs)) (h q) ∙ ap (λ us. q ∷ us) (filter_all P qs h)
+filter_all P (q ∷ qs) h = cond-true (P q) (q ∷ filter P qs) (filter P qs) (h q) ∙ ap (λ us. q ∷ us) (filter_all P qs h)
 
 filter_none : (P : Path → Bool) (qs : List Path) → ((q : Path) → P q ≡ false) → filter P qs ≡ []
 filter_none P [] h = refl
-filter_none P (q ∷ qs) h = ap (λ b. cond b (q ∷ filter P qs) (filter P qs)) (h q) ∙ filter_none P qs h
+filter_none P (q ∷ qs) h = cond-false (P q) (q ∷ filter P qs) (filter P qs) (h q) ∙ filter_none P qs h
 
 pub leaves-below : (t : Option Term) (p : Path) → filter (begins p) (of_some leaf_list t) ≡ map (λ q. p ++ q) (of_some leaf_list (subterm_of t p))
 leaves-below None p = refl

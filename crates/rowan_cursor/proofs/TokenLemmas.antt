@@ -1,10 +1,10 @@
 -- From an element to the next one: what the answers of single moves mean for a pass over the elements.
-use Rattle.std.proofs.Common.{◌≡◌, ◌≢◌, ℕ, zero, suc, ◌+◌, ◌-◌, ◌<◌, true, false, cond, List, [], ◌∷◌, ◌++◌, map, length, filter, Option, Some, None, take, drop, reverse, inl, inr, refl, sym, ◌∙◌, ap, arith, length-append, append_assoc}
+use Rattle.std.proofs.Common.{◌≡◌, ◌≢◌, ℕ, zero, suc, ◌+◌, ◌-◌, ◌<◌, true, false, List, [], ◌∷◌, ◌++◌, map, length, filter, Option, Some, None, take, drop, reverse, inl, inr, refl, sym, ◌∙◌, ap, arith, length-append, append_assoc}
 use Rattle.std.specs.Prelude.{slice_get}
-use Rattle.std.proofs.lemmas.Bool.{cases_lt, true≢false}
+use Rattle.std.proofs.lemmas.Bool.{cases_lt, true≢false, cond-true}
 use Rattle.std.proofs.lemmas.List.{append-nil, length-take, reverse-append, same_from_push}
 use Rattle.std.proofs.lemmas.List.Elements.{filter-append}
-use Rattle.std.proofs.lemmas.Option.{slice_get_past}
+use Rattle.std.proofs.lemmas.Option.{none-some, same_Some, slice_get_past}
 use Rattle.rowan_green.specs.declared.utility_types.NodeOrToken.TheVariants.{Node, Token}
 use Rattle.rowan_green.specs.Term.{NodeTerm, Term}
 use Rattle.rowan_green.specs.Path.{Path, term_children, subterm, begins}
@@ -25,13 +25,12 @@ below-back p n =
 
 below-last : (p : Path) (n : ℕ) (s : Path) → Some s ≡ first_at (reverse (below p (numbers 0 n))) → (j : ℕ) × (n ≡ suc j) × (s ≡ p ++ j ∷ [])
 below-last p zero s h = absurd cc
-below-last p (suc j) s h = let x : Some s ≡ Some (p ++ j ∷ []) = h ∙ ap first_at (below-back p j) in (j, refl, cc)
+below-last p (suc j) s h = (j, refl, same_Some s (p ++ j ∷ []) (h ∙ ap first_at (below-back p j)))
 
 below-last_none : (p : Path) (n : ℕ) → ◌≡◌ {A = Option Path} None (first_at (reverse (below p (numbers 0 n)))) → n ≡ 0
 below-last_none p zero h = refl
 below-last_none p (suc j) h =
-    let x : ◌≡◌ {A = Option Path} None (Some (p ++ j ∷ [])) = h ∙ ap first_at (below-back p j) in
-    absurd cc
+    absurd (none-some (p ++ j ∷ []) (h ∙ ap first_at (below-back p j)))
 
 nearest : (p : Path) (n : ℕ) → first_at (below p (reverse (numbers 0 n))) ≡ first_at (reverse (below p (numbers 0 n)))
 nearest p n = ap first_at (map-reverse (λ i. p ++ i ∷ []) (numbers 0 n))
@@ -63,7 +62,7 @@ pub record HasBehind (root : NodeTerm) (p s : Path) : Type 0 where
 
 pub has_behind : (root : NodeTerm) (p s : Path) → Some s ≡ first_at (following root p) → HasBehind root p s
 has_behind root p s h = elim (last-split p) [
-  | inl e ↦ absurd (let x : ◌≡◌ {A = Option Path} (Some s) None = h ∙ ap (λ u. first_at (following root u)) e in cc)
+  | inl e ↦ absurd (none-some s (sym (h ∙ ap (λ u. first_at (following root u)) e)))
   | inr t ↦ (
       let f = below-first t.0 (t.1 + 1) (child_count root t.0 - (t.1 + 1)) s (h ∙ ap (λ u. first_at (following root u)) t.2 ∙ ap first_at (following-child root t.0 t.1)) in
       let e : t.1 + 1 ≡ suc t.1 = omega arith in
@@ -78,7 +77,7 @@ pub record HasBefore (root : NodeTerm) (p s : Path) : Type 0 where
 
 pub has_before : (root : NodeTerm) (p s : Path) → Some s ≡ first_at (preceding root p) → HasBefore root p s
 has_before root p s h = elim (last-split p) [
-  | inl e ↦ absurd (let x : ◌≡◌ {A = Option Path} (Some s) None = h ∙ ap (λ u. first_at (preceding root u)) e in cc)
+  | inl e ↦ absurd (none-some s (sym (h ∙ ap (λ u. first_at (preceding root u)) e)))
   | inr t ↦ (
       let f = below-last t.0 t.1 s (h ∙ ap (λ u. first_at (preceding root u)) t.2 ∙ ap first_at (preceding-child root t.0 t.1) ∙ nearest t.0 t.1) in
       record { parent = t.0; place = f.0; here = t.2 ∙ ap (λ k. t.0 ++ k ∷ []) f.1; there = f.2 })
@@ -98,11 +97,10 @@ before-inside root top p s h apart e =
 -- the parent of what is inside, and not the element itself
 pub split-parent : (p q : Path) → Some q ≡ parent_path p → (i : ℕ) × (p ≡ q ++ i ∷ [])
 split-parent p q h = elim (last-split p) [
-  | inl e ↦ absurd (let x : ◌≡◌ {A = Option Path} (Some q) None = h ∙ ap parent_path e in cc)
+  | inl e ↦ absurd (none-some q (sym (h ∙ ap parent_path e)))
   | inr t ↦ (
-      let x : Some q ≡ Some t.0 = h ∙ ap parent_path t.2 ∙ parent_path-child t.0 t.1 in
-      let e : t.0 ≡ q = cc in
-      (t.1, t.2 ∙ ap (λ u. u ++ t.1 ∷ []) e))
+      let e : q ≡ t.0 = same_Some q t.0 (h ∙ ap parent_path t.2 ∙ parent_path-child t.0 t.1) in
+      (t.1, t.2 ∙ ap (λ u. u ++ t.1 ∷ []) (sym e)))
 ]
 
 pub parent-inside : (top p q : Path) → begins top p ≡ true → p ≢ top → Some q ≡ parent_path p → begins top q ≡ true
@@ -111,7 +109,7 @@ parent-inside top p q h apart e = let t = split-parent p q e in inside-parent to
 pub no_parent : (p : Path) → ◌≡◌ {A = Option Path} None (parent_path p) → p ≡ []
 no_parent p h = elim (last-split p) [
   | inl e ↦ e
-  | inr t ↦ absurd (let x : ◌≡◌ {A = Option Path} None (Some t.0) = h ∙ ap parent_path t.2 ∙ parent_path-child t.0 t.1 in cc)
+  | inr t ↦ absurd (none-some t.0 (h ∙ ap parent_path t.2 ∙ parent_path-child t.0 t.1))
 ]
 
 -- Steps of a pass.
@@ -199,7 +197,7 @@ last_inside-before g t p = find-last (begins p) (before g t p) ∙ ap last_at (b
 
 all_below : (p : Path) (qs : List Path) → filter (begins p) (map (λ q. p ++ q) qs) ≡ map (λ q. p ++ q) qs
 all_below p [] = refl
-all_below p (q ∷ qs) = ap (λ b. cond b ((p ++ q) ∷ filter (begins p) (map (λ q. p ++ q) qs)) (filter (begins p) (map (λ q. p ++ q) qs))) (begins-own p q) ∙ ap (λ us. (p ++ q) ∷ us) (all_below p qs)
+all_below p (q ∷ qs) = cond-true (begins p (p ++ q)) ((p ++ q) ∷ filter (begins p) (map (λ q. p ++ q) qs)) (filter (begins p) (map (λ q. p ++ q) qs)) (begins-own p q) ∙ ap (λ us. (p ++ q) ∷ us) (all_below p qs)
 
 -- The moves to tokens, as what a pass finds.
 pub first_leaf-pass : (root : NodeTerm) (p : Path) → first_inside p (entered leaf_list (Some (Node root)) p) ≡ first_leaf_path root p
@@ -260,12 +258,12 @@ reached-fewer root p h =
 pub token-first : (root : NodeTerm) (top p : Path) (c : Term) → subterm (Node root) p ≡ Some c → is_node_at root p ≡ false → begins top p ≡ true → Some p ≡ first_inside top (entered leaf_list (Some (Node root)) p)
 token-first root top p c e h inside =
     let ls = after leaf_list (Some (Node root)) p in
-    sym (ap (λ us. first_inside top (map (λ q. p ++ q) us ++ ls)) (found_token (subterm (Node root) p) c e h) ∙ ap (λ q. first_inside top (q ∷ ls)) (append-nil p) ∙ ap (λ b. cond b (Some p) (first_inside top ls)) inside)
+    sym (ap (λ us. first_inside top (map (λ q. p ++ q) us ++ ls)) (found_token (subterm (Node root) p) c e h) ∙ ap (λ q. first_inside top (q ∷ ls)) (append-nil p) ∙ cond-true (begins top p) (Some p) (first_inside top ls) inside)
 
 pub token-last : (root : NodeTerm) (top p : Path) (c : Term) → subterm (Node root) p ≡ Some c → is_node_at root p ≡ false → begins top p ≡ true → Some p ≡ last_inside top (reached leaf_list (Some (Node root)) p)
 token-last root top p c e h inside =
     let ls = before leaf_list (Some (Node root)) p in
-    sym (ap (λ us. last_inside top (ls ++ map (λ q. p ++ q) us)) (found_token (subterm (Node root) p) c e h) ∙ ap (λ q. last_inside top (ls ++ q ∷ [])) (append-nil p) ∙ ap (first_inside top) (reverse-append ls (p ∷ [])) ∙ ap (λ b. cond b (Some p) (first_inside top (reverse ls))) inside)
+    sym (ap (λ us. last_inside top (ls ++ map (λ q. p ++ q) us)) (found_token (subterm (Node root) p) c e h) ∙ ap (λ q. last_inside top (ls ++ q ∷ [])) (append-nil p) ∙ ap (first_inside top) (reverse-append ls (p ∷ [])) ∙ cond-true (begins top p) (Some p) (first_inside top (reverse ls)) inside)
 
 -- Entries with one path have one number.
 ends_apart : (p : Path) (i : ℕ) → p ++ i ∷ [] ≡ [] → ⊥
