@@ -4,6 +4,8 @@ use Rattle.std.specs.Prelude.{slice_get}
 use Rattle.std.specs.List.{find}
 use Rattle.std.proofs.lemmas.Bool.{cond-true, cond-false}
 use Rattle.std.proofs.lemmas.List.{reverse-append, map-append}
+use Rattle.std.proofs.lemmas.List.FromFn.{length-map-range_with_len, get_or-map-range_with_len}
+use Rattle.std.proofs.lemmas.Option.{slice_get-get_or, slice_get_past}
 use Rattle.rowan_green.specs.Path.{Path}
 use Rattle.rowan_cursor.specs.Moves.{numbers}
 
@@ -59,13 +61,9 @@ missed_last p f a b c h is e =
 
 -- a row by its places
 pub row-get : (f : ℕ → Path) (a n i : ℕ) → i < n → slice_get (map f (numbers a n)) i ≡ Some (f (a + i))
-row-get f a zero i h = absurd (omega arith)
-row-get f a (suc n) zero h = let e : a ≡ a + 0 = omega arith in ap (λ k. Some (f k)) e
-row-get f a (suc n) (suc i) h =
-    let e : a + 1 + i ≡ a + suc i = omega arith in
-    row-get f (a + 1) n i (omega arith) ∙ ap (λ k. Some (f k)) e
+row-get f a n i h =
+    slice_get-get_or (map f (numbers a n)) i (f a) (omega (arith, length-map-range_with_len f a n))
+    ∙ ap (λ p. Some p) (get_or-map-range_with_len f a n i (a + i) (f a) h refl)
 
 pub row-past : (f : ℕ → Path) (a n i : ℕ) → n ≤ i → slice_get (map f (numbers a n)) i ≡ None
-row-past f a zero i h = refl
-row-past f a (suc n) zero h = absurd (omega arith)
-row-past f a (suc n) (suc i) h = row-past f (a + 1) n i (omega arith)
+row-past f a n i h = slice_get_past (map f (numbers a n)) i (omega (arith, length-map-range_with_len f a n))

@@ -2,8 +2,8 @@
 --     Children stand one place further down. Siblings have the same parent. Each list of them is in the order of the tree, but
 --     what stands before a path is listed from the path on, so nearest first.
 --     Tokens follow one another in the order of the leaves, whatever stands between them.
-use Rattle.std.specs.Prelude.{ℕ, zero, suc, ◌+◌, ◌-◌, Bool, true, false, List, [], ◌∷◌, ◌++◌, map, length, reverse, Option, Some, None}
-use Rattle.std.specs.List.{find, filter}
+use Rattle.std.specs.Prelude.{ℕ, ◌+◌, ◌-◌, Bool, true, false, List, [], ◌∷◌, ◌++◌, map, length, reverse, Option, Some, None}
+use Rattle.std.specs.List.{find, filter, range_with_len}
 use Rattle.std.specs.Option.{option_map, option_map_or}
 use Rattle.rowan_green.specs.declared.utility_types.NodeOrToken.{NodeOrToken}
 use Rattle.rowan_green.specs.declared.utility_types.NodeOrToken.TheVariants.{Node, Token}
@@ -26,8 +26,7 @@ ancestor_paths (i ∷ p) = map (λ q. i ∷ q) (ancestor_paths p) ++ [] ∷ []
 
 -- n numbers, from a on
 abbrev pub numbers : ℕ → ℕ → List ℕ
-numbers a zero = []
-numbers a (suc n) = a ∷ numbers (a + 1) n
+numbers a n = range_with_len a n
 
 abbrev pub children_of : Option Term → List Term
 children_of None = []
