@@ -1,49 +1,33 @@
 -- Laws of filling a table: what one more entry leaves true, and what is left to be done.
-use Rattle.std.proofs.Common.{◌≡◌, ℕ, zero, suc, ◌+◌, ◌-◌, ◌<◌, ◌≤◌, ◌⊎◌, inl, inr, List, [], ◌∷◌, ◌++◌, map, length, take, drop, Some, refl, sym, ◌∙◌, ap, subst, arith, length-append, append_assoc}
+use Rattle.std.proofs.Common.{◌≡◌, ℕ, zero, suc, ◌+◌, ◌-◌, ◌<◌, ◌≤◌, inl, inr, List, [], ◌∷◌, ◌++◌, map, length, take, drop, Some, refl, sym, ◌∙◌, ap, subst, arith, length-append, append_assoc}
 use Rattle.std.specs.Prelude.{Option, slice_get}
 use Rattle.std.specs.Option.{option_map}
-use Rattle.std.proofs.lemmas.List.{take-append-le, take_all, length-take-le, append-nil, map-append, length-map, take_more, drop-append-le}
+use Rattle.std.proofs.lemmas.List.{take-append-le, take_all, length-take-le, map-append, length-map, take_more, drop-append-le}
 use Rattle.std.proofs.lemmas.Option.{slice_get_within, same_Some, get_or_from_slice_get}
 use Rattle.rowan_green.specs.declared.utility_types.NodeOrToken.TheVariants.{Node, Token}
 use Rattle.rowan_green.specs.Fits.{byte_limit, Fits, FitsNode}
 use Rattle.rowan_green.specs.Lent.{into_node}
 use Rattle.rowan_green.specs.Search.{child_start}
 use Rattle.rowan_green.specs.Sizes.{term_size, terms_size}
-use Rattle.rowan_green.specs.Term.{NodeTerm, node, Term, terms, node_children, node_len, term_len, sum_of_lens}
+use Rattle.rowan_green.specs.Term.{NodeTerm, node, Term, node_children, term_len, sum_of_lens}
+use Rattle.rowan_green.proofs.CacheLemmas.{slice_get-grown, slice_get-cases}
 use Rattle.rowan_green.proofs.Drops.{terms_size-node_children}
-use Rattle.rowan_green.proofs.Terms.{forest-terms, node_len-node_of}
+use Rattle.rowan_green.proofs.SearchLemmas.{child_start-le_all}
 use Rattle.rowan_cursor.specs.Table.{node_in, root_of, green_of, offset_of, children_in, len_in, counts, IsTop, IsChildOf, IsFilling, GrowsBy}
 use Rattle.rowan_cursor.specs.declared.tree.Entry.{Entry}
+use Rattle.rowan_cursor.proofs.PathLemmas.{node_len-children}
 use Rattle.rowan_cursor.proofs.TableLemmas.{counts-more, child_end, sum_of_lens-children}
 
 -- ---- lists
-
-slice_get-grown : {A : Type 0} (xs ys : List A) (n : ℕ) (x : A) → slice_get xs n ≡ Some x → slice_get (xs ++ ys) n ≡ Some x
-slice_get-grown [] ys n x e = absurd cc
-slice_get-grown (y ∷ xs) ys zero x e = e
-slice_get-grown (y ∷ xs) ys (suc n) x e = slice_get-grown xs ys n x e
-
-push_cases : {A : Type 0} (xs : List A) (y x : A) (n : ℕ) → slice_get (xs ++ y ∷ []) n ≡ Some x
-    → ((n < length xs) × (slice_get xs n ≡ Some x)) ⊎ ((n ≡ length xs) × (y ≡ x))
-push_cases [] y x zero e = inr (refl, same_Some y x e)
-push_cases [] y x (suc n) e = absurd cc
-push_cases (z ∷ xs) y x zero e = inl (omega arith, e)
-push_cases (z ∷ xs) y x (suc n) e =
-    elim (push_cases xs y x n e) [ inl h ↦ inl (omega (arith, h.0), h.1) | inr h ↦ inr (ap suc h.0, h.1) ]
 
 root_of-grown : (es ys : List Entry) → 0 < length es → root_of (es ++ ys) ≡ root_of es
 root_of-grown [] ys h = absurd (omega arith)
 root_of-grown (e ∷ es) ys h = refl
 
-counts-append : (es ds : List Entry) → counts (es ++ ds) ≡ counts es + counts ds
-counts-append [] ds = omega arith
-counts-append (e ∷ es) ds = omega (arith, counts-append es ds)
-
 -- ---- lengths
 
 pub Fits-len : (t : Term) → Fits t → term_len t ≤ byte_limit
-Fits-len (Node (node k f)) h =
-    omega (arith, h.0.text, ap (λ g. node_len (node k g)) (forest-terms f), node_len-node_of k (terms f))
+Fits-len (Node (node k f)) h = omega (arith, h.0.text, node_len-children (node k f))
 Fits-len (Token t) h = h
 
 -- ---- one more entry
@@ -52,7 +36,7 @@ pub record IsNextChild (es : List Entry) (p e : Entry) : Type 0 where
   pub above : slice_get es e.parent ≡ Some p
   pub is : IsChildOf p (length es) e
   pub first : e.first_child ≡ counts es + 1
-  pub end : (offset_of e) + len_in (green_of e) ≤ byte_limit
+  pub end : offset_of e + len_in (green_of e) ≤ byte_limit
 
 IsTop-push : (es : List Entry) (y e : Entry) → 0 < length es → IsTop es e → IsTop (es ++ y ∷ []) e
 IsTop-push es y e some t = record {
@@ -67,23 +51,23 @@ IsChildOf-at p m n d e c h k =
 pub IsFilling-push : (es : List Entry) (p y : Entry) → IsFilling es → IsNextChild es p y → IsFilling (es ++ y ∷ [])
 IsFilling-push es p y t next = record {
   some = omega (arith, length-append es (y ∷ []), t.some);
-  top = λ e at. elim (push_cases es y e 0 at) [ inl h ↦ IsTop-push es y e t.some (t.top e h.1) | inr h ↦ absurd (omega (arith, h.0, t.some)) ];
-  ends = λ n e at. elim (push_cases es y e n at) [ inl h ↦ t.ends n e h.1 | inr h ↦ subst (λ (x : Entry). (offset_of x) + len_in (green_of x) ≤ byte_limit) h.1 next.end ];
-  firsts = λ n e at. elim (push_cases es y e n at) [
-    | inl h ↦ t.firsts n e h.1 ∙ ap (λ ds. counts ds + 1) (sym (take-append-le n es (y ∷ []) (omega (arith, h.0))))
+  top = λ e at. elim (slice_get-cases es y 0 e at) [ inl h ↦ IsTop-push es y e t.some (t.top e h) | inr h ↦ absurd (omega (arith, h.0, t.some)) ];
+  ends = λ n e at. elim (slice_get-cases es y n e at) [ inl h ↦ t.ends n e h | inr h ↦ subst (λ (x : Entry). offset_of x + len_in (green_of x) ≤ byte_limit) h.1 next.end ];
+  firsts = λ n e at. elim (slice_get-cases es y n e at) [
+    | inl h ↦ t.firsts n e h ∙ ap (λ ds. counts ds + 1) (sym (take-append-le n es (y ∷ []) (omega (arith, slice_get_within es n e h))))
     | inr h ↦
         subst (λ (x : Entry). x.first_child ≡ counts (take n (es ++ y ∷ [])) + 1) h.1
         (next.first ∙ ap (λ ds. counts ds + 1) (sym (take-append-le n es (y ∷ []) (omega (arith, h.0)) ∙ take_all n es (omega (arith, h.0)))))
   ];
-  earlier = λ n e at behind. elim (push_cases es y e n at) [
-    | inl h ↦ t.earlier n e h.1 behind
+  earlier = λ n e at behind. elim (slice_get-cases es y n e at) [
+    | inl h ↦ t.earlier n e h behind
     | inr h ↦ subst (λ (x : Entry). x.parent < n) h.1 (omega (arith, h.0, slice_get_within es y.parent p next.above))
   ];
-  parents = λ n e q at behind above. elim (push_cases es y e n at) [
+  parents = λ n e q at behind above. elim (slice_get-cases es y n e at) [
     | inl h ↦
-        elim (push_cases es y q e.parent above) [
-          | inl k ↦ t.parents n e q h.1 behind k.1
-          | inr k ↦ absurd (omega (arith, h.0, k.0, t.earlier n e h.1 behind))
+        elim (slice_get-cases es y e.parent q above) [
+          | inl k ↦ t.parents n e q h behind k
+          | inr k ↦ absurd (omega (arith, slice_get_within es n e h, k.0, t.earlier n e h behind))
         ]
     | inr h ↦
         let same : slice_get (es ++ y ∷ []) y.parent ≡ Some p = slice_get-grown es (y ∷ []) y.parent p next.above in
@@ -96,8 +80,8 @@ len_of-kept : (t : Term) → len_in (into_node t) ≤ term_len t
 len_of-kept (Node n) = omega arith
 len_of-kept (Token t) = omega arith
 
-pub next_child : (es : List Entry) → IsFilling es → (p y : Entry) (n : NodeTerm) (i : ℕ) (u : Term) → slice_get es y.parent ≡ Some p → (green_of p) ≡ Some n → length es ≡ p.first_child + i
-    → slice_get (node_children n) i ≡ Some u → (green_of y) ≡ into_node u → (offset_of y) ≡ (offset_of p) + child_start (node_children n) i
+pub next_child : (es : List Entry) → IsFilling es → (p y : Entry) (n : NodeTerm) (i : ℕ) (u : Term) → slice_get es y.parent ≡ Some p → green_of p ≡ Some n → length es ≡ p.first_child + i
+    → slice_get (node_children n) i ≡ Some u → green_of y ≡ into_node u → offset_of y ≡ offset_of p + child_start (node_children n) i
     → y.first_child ≡ counts es + 1 → IsNextChild es p y
 next_child es t p y n i u at is place child kept start first =
     let index : i ≡ length es - p.first_child = omega arith in
@@ -109,7 +93,7 @@ next_child es t p y n i u at is place child kept start first =
       is = record {
         place = omega arith;
         child = ap (λ ts. option_map into_node (slice_get ts (length es - p.first_child))) (sym terms) ∙ ap (λ k. option_map into_node (slice_get (node_children n) k)) (sym index) ∙ here;
-        start = start ∙ ap (λ k. (offset_of p) + child_start (node_children n) k) index ∙ ap (λ ts. (offset_of p) + child_start ts (length es - p.first_child)) terms;
+        start = start ∙ ap (λ k. offset_of p + child_start (node_children n) k) index ∙ ap (λ ts. offset_of p + child_start ts (length es - p.first_child)) terms;
       };
       first = first;
       end = omega (arith, start, child_end (Node n) i u child, ap len_in is, t.ends y.parent p at, ap len_in kept, len_of-kept u);
@@ -117,7 +101,7 @@ next_child es t p y n i u at is place child kept start first =
 
 -- ---- what was added
 
-GrowsBy-child : (old new : List Entry) (p y : Entry) (i : ℕ) (u : Term) → new ≡ old ++ y ∷ [] → (green_of y) ≡ into_node u → slice_get (children_in (green_of p)) i ≡ Some u
+GrowsBy-child : (old new : List Entry) (p y : Entry) (i : ℕ) (u : Term) → new ≡ old ++ y ∷ [] → green_of y ≡ into_node u → slice_get (children_in (green_of p)) i ≡ Some u
     → (t : Term) → slice_get (children_in (green_of p)) i ≡ Some t → GrowsBy old new (t ∷ [])
 GrowsBy-child old new p y i u grown kept is t child = record {
   row = y ∷ [];
@@ -125,17 +109,10 @@ GrowsBy-child old new p y i u grown kept is t child = record {
   greens = ap (λ g. g ∷ []) (kept ∙ ap into_node (same_Some u t (sym is ∙ child)));
 }
 
-pub GrowsBy-next : (old new : List Entry) (p y : Entry) (i : ℕ) (u : Term) → new ≡ old ++ y ∷ [] → slice_get old y.parent ≡ Some p → (green_of y) ≡ into_node u → slice_get (children_in (green_of p)) i ≡ Some u
+pub GrowsBy-next : (old new : List Entry) (p y : Entry) (i : ℕ) (u : Term) → new ≡ old ++ y ∷ [] → slice_get old y.parent ≡ Some p → green_of y ≡ into_node u → slice_get (children_in (green_of p)) i ≡ Some u
     → (e : Entry) (t : Term) → slice_get old y.parent ≡ Some e → slice_get (children_in (green_of e)) i ≡ Some t → GrowsBy old new (t ∷ [])
 GrowsBy-next old new p y i u grown above kept is e t at child =
     GrowsBy-child old new p y i u grown kept is t (subst (λ (x : Entry). slice_get (children_in (green_of x)) i ≡ Some t) (same_Some e p (sym at ∙ above)) child)
-
-pub GrowsBy-none : (es : List Entry) → GrowsBy es es []
-GrowsBy-none es = record {
-  row = [];
-  grown = sym (append-nil es);
-  greens = refl;
-}
 
 pub GrowsBy-then : (a b c : List Entry) (ts us : List Term) → GrowsBy a b ts → GrowsBy b c us → GrowsBy a c (ts ++ us)
 GrowsBy-then a b c ts us g h = record {
@@ -151,20 +128,11 @@ pub GrowsBy-length : (a b : List Entry) (ts : List Term) → GrowsBy a b ts → 
 GrowsBy-length a b ts g =
     omega (arith, ap length g.grown, length-append a g.row, ap length g.greens, length-map g.row green_of, length-map ts into_node)
 
-sum_of_lens-take : (ts : List Term) (i : ℕ) → sum_of_lens (take i ts) ≤ sum_of_lens ts
-sum_of_lens-take [] zero = omega arith
-sum_of_lens-take [] (suc i) = omega arith
-sum_of_lens-take (t ∷ ts) zero = omega arith
-sum_of_lens-take (t ∷ ts) (suc i) = omega (arith, sum_of_lens-take ts i)
-
 -- a child starts within the limit
-pub start_within : (es : List Entry) → IsFilling es → (parent : ℕ) (p : Entry) (n : NodeTerm) → slice_get es parent ≡ Some p → (green_of p) ≡ Some n → (i : ℕ)
-    → (offset_of p) + sum_of_lens (take i (node_children n)) ≤ byte_limit
+pub start_within : (es : List Entry) → IsFilling es → (parent : ℕ) (p : Entry) (n : NodeTerm) → slice_get es parent ≡ Some p → green_of p ≡ Some n → (i : ℕ)
+    → offset_of p + sum_of_lens (take i (node_children n)) ≤ byte_limit
 start_within es t parent p n at is i =
-    omega (arith, t.ends parent p at, ap len_in is, sum_of_lens-take (node_children n) i, sum_of_lens-children (Node n))
-
-pub counts-push : (es : List Entry) (y : Entry) → counts (es ++ y ∷ []) ≡ counts es + length (children_in (green_of y))
-counts-push es y = omega (arith, counts-append es (y ∷ []))
+    omega (arith, t.ends parent p at, ap len_in is, child_start-le_all (node_children n) i, sum_of_lens-children (Node n))
 
 -- ---- all children of an entry, one after the other
 
@@ -189,11 +157,11 @@ child_place es ds t parent i p e at place less g found =
 
 one_case : (y e : Entry) (n : ℕ) → slice_get (y ∷ []) n ≡ Some e → (n ≡ 0) × (y ≡ e)
 one_case y e n at =
-    elim (push_cases [] y e n at) [ inl h ↦ absurd (omega (arith, h.0)) | inr h ↦ h ]
+    elim (slice_get-cases [] y n e at) [ inl h ↦ absurd cc | inr h ↦ h ]
 
 pub record IsRootEntry (y : Entry) (root : NodeTerm) : Type 0 where
-  pub green : (green_of y) ≡ Some root
-  pub start : (offset_of y) ≡ 0
+  pub green : green_of y ≡ Some root
+  pub start : offset_of y ≡ 0
   pub first : y.first_child ≡ 1
   pub fits : FitsNode root
 
@@ -207,7 +175,7 @@ pub IsFilling-one : (y : Entry) (root : NodeTerm) → IsRootEntry y root → IsF
 IsFilling-one y root r = record {
   some = omega arith;
   top = λ e at. subst (λ (x : Entry). IsTop (y ∷ []) x) (one_case y e 0 at).1 (IsTop-one y root r);
-  ends = λ n e at. subst (λ (x : Entry). (offset_of x) + len_in (green_of x) ≤ byte_limit) (one_case y e n at).1 (omega (arith, r.start, ap len_in r.green, Fits-len (Node root) r.fits));
+  ends = λ n e at. subst (λ (x : Entry). offset_of x + len_in (green_of x) ≤ byte_limit) (one_case y e n at).1 (omega (arith, r.start, ap len_in r.green, Fits-len (Node root) r.fits));
   firsts = λ n e at.
       let c = one_case y e n at in
       subst (λ (x : Entry). x.first_child ≡ counts (take n (y ∷ [])) + 1) c.1 (omega (arith, r.first, ap (λ m. counts (take m (y ∷ []))) c.0));

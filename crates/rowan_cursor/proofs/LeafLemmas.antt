@@ -1,29 +1,23 @@
 -- Laws of passes over the elements of a tree: how what is left goes on from an element to the next, and what it has to do with the moves to tokens.
-use Rattle.std.proofs.Common.{◌≡◌, ℕ, zero, suc, ◌+◌, ◌<◌, ◌≤◌, Bool, true, false, cond, ◌&&◌, ◌⊎◌, inl, inr, List, [], ◌∷◌, ◌++◌, map, length, filter, Option, Some, None, take, drop, reverse, refl, sym, ◌∙◌, ap, arith, append_assoc}
+use Rattle.std.proofs.Common.{◌≡◌, ℕ, zero, suc, ◌+◌, ◌<◌, ◌≤◌, Bool, true, false, cond, inl, inr, List, [], ◌∷◌, ◌++◌, map, length, filter, Option, Some, None, take, drop, reverse, refl, sym, ◌∙◌, ap, arith, append_assoc, drop-cons}
 use Rattle.std.specs.Prelude.{slice_get}
 use Rattle.std.specs.List.{find}
+use Rattle.std.proofs.lemmas.Bool.{cond-true, cond-false}
 use Rattle.std.proofs.lemmas.List.{append-nil, map-append, map-id, drop_all, take_all, reverse-append}
 use Rattle.std.proofs.lemmas.List.Elements.{filter-append}
+use Rattle.std.proofs.lemmas.Option.{slice_get_within, get_or_from_slice_get}
+use Rattle.std.proofs.lemmas.Simd.{map-map}
 use Rattle.rowan_green.specs.declared.utility_types.NodeOrToken.TheVariants.{Node, Token}
 use Rattle.rowan_green.specs.Term.{NodeTerm, node, Forest, empty, node_then, token_then, Term, terms, node_children}
-use Rattle.rowan_green.specs.Path.{Path, term_children, subterm_of, subterm, Leaf, below_place, node_leaves, leaves_from, stands_before, begins}
+use Rattle.rowan_green.specs.Path.{Path, term_children, subterm_of, subterm, below_place, node_leaves, leaves_from, stands_before, begins}
 use Rattle.rowan_cursor.specs.Moves.{children_of, leaf_paths, first_at, first_leaf_path, last_leaf_path, next_leaf_path, prev_leaf_path}
 use Rattle.rowan_cursor.specs.Pass.{Lists, row, of_some, after, before, entered, rest, reached, upto, leaf_list, elements_from, node_elements, element_list}
-use Rattle.rowan_cursor.proofs.PathLemmas.{before_at_less, before_at_same, before_at_greater, begins-same, eq_less, eq_not, subterm-child}
+use Rattle.rowan_cursor.proofs.PathLemmas.{before_at_less, before_at_same, before_at_greater, begins-same, not-begins, subterm-child}
 
 -- Steps.
 map_below : (p : Path) (i : ℕ) (qs : List Path) → map (λ q. p ++ q) (map (λ q. i ∷ q) qs) ≡ map (λ q. (p ++ i ∷ []) ++ q) qs
 map_below p i [] = refl
 map_below p i (q ∷ qs) = ap (λ u. u ∷ map (λ q. p ++ q) (map (λ q. i ∷ q) qs)) (sym (append_assoc p (i ∷ []) q)) ∙ ap (λ us. ((p ++ i ∷ []) ++ q) ∷ us) (map_below p i qs)
-
-map_longer : (j : ℕ) (p : Path) (qs : List Path) → map (λ q. j ∷ q) (map (λ q. p ++ q) qs) ≡ map (λ q. (j ∷ p) ++ q) qs
-map_longer j p [] = refl
-map_longer j p (q ∷ qs) = ap (λ us. (j ∷ (p ++ q)) ∷ us) (map_longer j p qs)
-
-drop-at : {X : Type 0} (xs : List X) (i : ℕ) (x : X) → slice_get xs i ≡ Some x → drop i xs ≡ x ∷ drop (suc i) xs
-drop-at [] i x e = absurd cc
-drop-at (y ∷ ys) zero x e = let same : y ≡ x = cc in ap (λ z. z ∷ ys) same
-drop-at (y ∷ ys) (suc i) x e = drop-at ys i x e
 
 after-here : (g : Lists) (t : Option Term) → after g t [] ≡ []
 after-here g None = refl
@@ -40,7 +34,7 @@ after-child g (Some t) (j ∷ p) i =
     let u = slice_get (term_children t) j in
     let own = row g (suc i) (drop (suc i) (children_of (subterm_of u p))) in
     let ls = row g (suc j) (drop (suc j) (term_children t)) in
-    ap (λ us. map (λ q. j ∷ q) us ++ ls) (after-child g u p i) ∙ ap (λ us. us ++ ls) (map-append (λ q. j ∷ q) (map (λ q. p ++ q) own) (after g u p) ∙ ap (λ us. us ++ map (λ q. j ∷ q) (after g u p)) (map_longer j p own)) ∙ append_assoc (map (λ q. (j ∷ p) ++ q) own) (map (λ q. j ∷ q) (after g u p)) ls
+    ap (λ us. map (λ q. j ∷ q) us ++ ls) (after-child g u p i) ∙ ap (λ us. us ++ ls) (map-append (λ q. j ∷ q) (map (λ q. p ++ q) own) (after g u p) ∙ ap (λ us. us ++ map (λ q. j ∷ q) (after g u p)) (map-map (λ q. j ∷ q) (λ q. p ++ q) own)) ∙ append_assoc (map (λ q. (j ∷ p) ++ q) own) (map (λ q. j ∷ q) (after g u p)) ls
 
 -- from the child at a place on is from that child on
 pub rest-child : (g : Lists) (t : Option Term) (p : Path) (i : ℕ) (c : Term) → slice_get (children_of (subterm_of t p)) i ≡ Some c → rest g t p i ≡ entered g t (p ++ i ∷ [])
@@ -49,7 +43,8 @@ rest-child g t p i c e =
     let own = map (λ q. i ∷ q) (g c) in
     let ls = row g (suc i) (drop (suc i) ts) in
     let there : subterm_of t (p ++ i ∷ []) ≡ Some c = subterm-child t p i ∙ e in
-    ap (λ us. map (λ q. p ++ q) (row g i us) ++ after g t p) (drop-at ts i c e) ∙ ap (λ us. us ++ after g t p) (map-append (λ q. p ++ q) own ls) ∙ append_assoc (map (λ q. p ++ q) own) (map (λ q. p ++ q) ls) (after g t p) ∙ ap (λ us. map (λ q. p ++ q) own ++ us) (sym (after-child g t p i)) ∙ ap (λ us. us ++ after g t (p ++ i ∷ [])) (map_below p i (g c)) ∙ ap (λ u. map (λ q. (p ++ i ∷ []) ++ q) (of_some g u) ++ after g t (p ++ i ∷ [])) (sym there)
+    let here : drop i ts ≡ c ∷ drop (suc i) ts = drop-cons ts i c (slice_get_within ts i c e) ∙ ap (λ u. u ∷ drop (suc i) ts) (get_or_from_slice_get ts i c c e) in
+    ap (λ us. map (λ q. p ++ q) (row g i us) ++ after g t p) here ∙ ap (λ us. us ++ after g t p) (map-append (λ q. p ++ q) own ls) ∙ append_assoc (map (λ q. p ++ q) own) (map (λ q. p ++ q) ls) (after g t p) ∙ ap (λ us. map (λ q. p ++ q) own ++ us) (sym (after-child g t p i)) ∙ ap (λ us. us ++ after g t (p ++ i ∷ [])) (map_below p i (g c)) ∙ ap (λ u. map (λ q. (p ++ i ∷ []) ++ q) (of_some g u) ++ after g t (p ++ i ∷ [])) (sym there)
 
 -- where no child is at the place or later, only what stands behind the node is left
 pub rest-none : (g : Lists) (t : Option Term) (p : Path) (i : ℕ) → length (children_of (subterm_of t p)) ≤ i → rest g t p i ≡ after g t p
@@ -72,7 +67,7 @@ before-child g (Some t) (j ∷ p) i =
     let u = slice_get (term_children t) j in
     let own = row g 0 (take i (children_of (subterm_of u p))) in
     let ls = row g 0 (take j (term_children t)) in
-    ap (λ us. ls ++ map (λ q. j ∷ q) us) (before-child g u p i) ∙ ap (λ us. ls ++ us) (map-append (λ q. j ∷ q) (before g u p) (map (λ q. p ++ q) own) ∙ ap (λ us. map (λ q. j ∷ q) (before g u p) ++ us) (map_longer j p own)) ∙ sym (append_assoc ls (map (λ q. j ∷ q) (before g u p)) (map (λ q. (j ∷ p) ++ q) own))
+    ap (λ us. ls ++ map (λ q. j ∷ q) us) (before-child g u p i) ∙ ap (λ us. ls ++ us) (map-append (λ q. j ∷ q) (before g u p) (map (λ q. p ++ q) own) ∙ ap (λ us. map (λ q. j ∷ q) (before g u p) ++ us) (map-map (λ q. j ∷ q) (λ q. p ++ q) own)) ∙ sym (append_assoc ls (map (λ q. j ∷ q) (before g u p)) (map (λ q. (j ∷ p) ++ q) own))
 
 row-take : (g : Lists) (m i : ℕ) (ts : List Term) (c : Term) → slice_get ts i ≡ Some c → row g m (take (suc i) ts) ≡ row g m (take i ts) ++ map (λ q. (m + i) ∷ q) (g c)
 row-take g m i [] c e = absurd cc
@@ -105,11 +100,7 @@ leaves_from-row : (m : ℕ) (f : Forest) → map (λ l. l.0) (leaves_from m f) �
 leaves_from-row m empty = refl
 leaves_from-row m (node_then n f) =
     let place : m + 1 ≡ suc m = omega arith in
-    map-append (λ l. l.0) (map (below_place m) (node_leaves n)) (leaves_from (m + 1) f) ∙ ap (λ us. us ++ map (λ l. l.0) (leaves_from (m + 1) f)) (places (node_leaves n)) ∙ ap (λ us. map (λ q. m ∷ q) (leaf_list (Node n)) ++ us) (ap (λ k. map (λ l. l.0) (leaves_from k f)) place ∙ leaves_from-row (suc m) f)
-  where
-    places : (ls : List Leaf) → map (λ l. l.0) (map (below_place m) ls) ≡ map (λ q. m ∷ q) (map (λ l. l.0) ls)
-    places [] = refl
-    places (l ∷ ls) = ap (λ us. (m ∷ l.0) ∷ us) (places ls)
+    map-append (λ l. l.0) (map (below_place m) (node_leaves n)) (leaves_from (m + 1) f) ∙ ap (λ us. us ++ map (λ l. l.0) (leaves_from (m + 1) f)) (map-map (λ l. l.0) (below_place m) (node_leaves n) ∙ sym (map-map (λ q. m ∷ q) (λ l. l.0) (node_leaves n))) ∙ ap (λ us. map (λ q. m ∷ q) (leaf_list (Node n)) ++ us) (ap (λ k. map (λ l. l.0) (leaves_from k f)) place ∙ leaves_from-row (suc m) f)
 leaves_from-row m (token_then t f) =
     let place : m + 1 ≡ suc m = omega arith in
     ap (λ us. (m ∷ []) ∷ us) (ap (λ k. map (λ l. l.0) (leaves_from k f)) place ∙ leaves_from-row (suc m) f)
@@ -139,8 +130,8 @@ filter_same P Q i (q ∷ qs) h = ap (λ b. cond b ((i ∷ q) ∷ filter P (map (
 filter_const : (P : Path → Bool) (b : Bool) (i : ℕ) (qs : List Path) → ((q : Path) → P (i ∷ q) ≡ b) → filter P (map (λ q. i ∷ q) qs) ≡ cond b (map (λ q. i ∷ q) qs) []
 filter_const P true i [] h = refl
 filter_const P false i [] h = refl
-filter_const P true i (q ∷ qs) h = ap (λ b. cond b ((i ∷ q) ∷ filter P (map (λ q. i ∷ q) qs)) (filter P (map (λ q. i ∷ q) qs))) (h q) ∙ ap (λ us. (i ∷ q) ∷ us) (filter_const P true i qs h)
-filter_const P false i (q ∷ qs) h = ap (λ b. cond b ((i ∷ q) ∷ filter P (map (λ q. i ∷ q) qs)) (filter P (map (λ q. i ∷ q) qs))) (h q) ∙ filter_const P false i qs h
+filter_const P true i (q ∷ qs) h = cond-true (P (i ∷ q)) ((i ∷ q) ∷ filter P (map (λ q. i ∷ q) qs)) (filter P (map (λ q. i ∷ q) qs)) (h q) ∙ ap (λ us. (i ∷ q) ∷ us) (filter_const P true i qs h)
+filter_const P false i (q ∷ qs) h = cond-false (P (i ∷ q)) ((i ∷ q) ∷ filter P (map (λ q. i ∷ q) qs)) (filter P (map (λ q. i ∷ q) qs)) (h q) ∙ filter_const P false i qs h
 
 joined : (b : Bool) (xs ys : List Path) → cond b xs [] ++ cond b ys [] ≡ cond b (xs ++ ys) []
 joined true xs ys = refl
@@ -172,17 +163,11 @@ filter-row g P Q b c m (suc d) i (t ∷ ts) e less same more =
 -- The leaves that a path begins, those that it stands before, and those that stand before it.
 pub filter_all : (P : Path → Bool) (qs : List Path) → ((q : Path) → P q ≡ true) → filter P qs ≡ qs
 filter_all P [] h = refl
-filter_all P (q ∷ qs) h = ap (λ b. cond b (q ∷ filter P qs) (filter P qs)) (h q) ∙ ap (λ us. q ∷ us) (filter_all P qs h)
+filter_all P (q ∷ qs) h = cond-true (P q) (q ∷ filter P qs) (filter P qs) (h q) ∙ ap (λ us. q ∷ us) (filter_all P qs h)
 
 filter_none : (P : Path → Bool) (qs : List Path) → ((q : Path) → P q ≡ false) → filter P qs ≡ []
 filter_none P [] h = refl
-filter_none P (q ∷ qs) h = ap (λ b. cond b (q ∷ filter P qs) (filter P qs)) (h q) ∙ filter_none P qs h
-
-pub not-begins : (i j : ℕ) (p q : Path) → (i < j) ⊎ (j < i) → begins (i ∷ p) (j ∷ q) ≡ false
-not-begins i j p q h = elim h [
-  | inl l ↦ ap (λ b. b && begins p q) (eq_less i j l)
-  | inr l ↦ ap (λ b. b && begins p q) (eq_not i j l)
-]
+filter_none P (q ∷ qs) h = cond-false (P q) (q ∷ filter P qs) (filter P qs) (h q) ∙ filter_none P qs h
 
 pub leaves-below : (t : Option Term) (p : Path) → filter (begins p) (of_some leaf_list t) ≡ map (λ q. p ++ q) (of_some leaf_list (subterm_of t p))
 leaves-below None p = refl
@@ -190,7 +175,7 @@ leaves-below (Some t) [] = filter_all (begins []) (leaf_list t) (λ q. refl) ∙
 leaves-below (Some (Token t)) (i ∷ p) = refl
 leaves-below (Some (Node n)) (i ∷ p) =
     let u = slice_get (node_children n) i in
-    ap (filter (begins (i ∷ p))) (leaf_list-node n) ∙ filter-row leaf_list (begins (i ∷ p)) (begins p) false false 0 i i (node_children n) (omega arith) (λ j q l. not-begins i j p q (inr l)) (λ q. begins-same i p q) (λ j q l. not-begins i j p q (inl l)) ∙ append-nil (map (λ q. i ∷ q) (filter (begins p) (of_some leaf_list u))) ∙ ap (map (λ q. i ∷ q)) (leaves-below u p) ∙ map_longer i p (of_some leaf_list (subterm_of u p))
+    ap (filter (begins (i ∷ p))) (leaf_list-node n) ∙ filter-row leaf_list (begins (i ∷ p)) (begins p) false false 0 i i (node_children n) (omega arith) (λ j q l. not-begins i j p q (inr l)) (λ q. begins-same i p q) (λ j q l. not-begins i j p q (inl l)) ∙ append-nil (map (λ q. i ∷ q) (filter (begins p) (of_some leaf_list u))) ∙ ap (map (λ q. i ∷ q)) (leaves-below u p) ∙ map-map (λ q. i ∷ q) (λ q. p ++ q) (of_some leaf_list (subterm_of u p))
 
 pub leaves-behind : (t : Option Term) (p : Path) → filter (λ q. stands_before p q) (of_some leaf_list t) ≡ rest leaf_list t p 0
 leaves-behind None p = refl
@@ -203,7 +188,7 @@ leaves-behind (Some (Node n)) (i ∷ p) =
     let u = slice_get (node_children n) i in
     let own = row leaf_list 0 (children_of (subterm_of u p)) in
     let ls = row leaf_list (suc i) (drop (suc i) (node_children n)) in
-    ap (filter (λ q. stands_before (i ∷ p) q)) (leaf_list-node n) ∙ filter-row leaf_list (λ q. stands_before (i ∷ p) q) (λ q. stands_before p q) false true 0 i i (node_children n) (omega arith) (λ j q l. before_at_greater i j p q l) (λ q. before_at_same i p q) (λ j q l. before_at_less i j p q l) ∙ ap (λ us. map (λ q. i ∷ q) us ++ ls) (leaves-behind u p) ∙ ap (λ us. us ++ ls) (map-append (λ q. i ∷ q) (map (λ q. p ++ q) own) (after leaf_list u p) ∙ ap (λ us. us ++ map (λ q. i ∷ q) (after leaf_list u p)) (map_longer i p own)) ∙ append_assoc (map (λ q. (i ∷ p) ++ q) own) (map (λ q. i ∷ q) (after leaf_list u p)) ls
+    ap (filter (λ q. stands_before (i ∷ p) q)) (leaf_list-node n) ∙ filter-row leaf_list (λ q. stands_before (i ∷ p) q) (λ q. stands_before p q) false true 0 i i (node_children n) (omega arith) (λ j q l. before_at_greater i j p q l) (λ q. before_at_same i p q) (λ j q l. before_at_less i j p q l) ∙ ap (λ us. map (λ q. i ∷ q) us ++ ls) (leaves-behind u p) ∙ ap (λ us. us ++ ls) (map-append (λ q. i ∷ q) (map (λ q. p ++ q) own) (after leaf_list u p) ∙ ap (λ us. us ++ map (λ q. i ∷ q) (after leaf_list u p)) (map-map (λ q. i ∷ q) (λ q. p ++ q) own)) ∙ append_assoc (map (λ q. (i ∷ p) ++ q) own) (map (λ q. i ∷ q) (after leaf_list u p)) ls
 
 pub leaves-before : (t : Option Term) (p : Path) (c : Term) → subterm_of t p ≡ Some c → filter (λ q. stands_before q p) (of_some leaf_list t) ≡ before leaf_list t p
 leaves-before None p c e = absurd cc
@@ -243,13 +228,13 @@ pub find-last : (P : Path → Bool) (qs : List Path) → find P (reverse qs) ≡
 find-last P qs = find-first P (reverse qs) ∙ ap first_at (filter-reverse P qs)
 
 pub first_leaf-below : (root : NodeTerm) (p : Path) → first_leaf_path root p ≡ first_at (map (λ q. p ++ q) (of_some leaf_list (subterm (Node root) p)))
-first_leaf-below root p = find-first (begins p) (leaf_paths root) ∙ ap first_at (leaves-below (Some (Node root)) p)
+first_leaf-below root p = find-first (begins p) (leaf_paths (Node root)) ∙ ap first_at (leaves-below (Some (Node root)) p)
 
 pub last_leaf-below : (root : NodeTerm) (p : Path) → last_leaf_path root p ≡ last_at (map (λ q. p ++ q) (of_some leaf_list (subterm (Node root) p)))
-last_leaf-below root p = find-last (begins p) (leaf_paths root) ∙ ap last_at (leaves-below (Some (Node root)) p)
+last_leaf-below root p = find-last (begins p) (leaf_paths (Node root)) ∙ ap last_at (leaves-below (Some (Node root)) p)
 
 pub next_leaf-rest : (root : NodeTerm) (p : Path) → next_leaf_path root p ≡ first_at (rest leaf_list (Some (Node root)) p 0)
-next_leaf-rest root p = find-first (λ q. stands_before p q) (leaf_paths root) ∙ ap first_at (leaves-behind (Some (Node root)) p)
+next_leaf-rest root p = find-first (λ q. stands_before p q) (leaf_paths (Node root)) ∙ ap first_at (leaves-behind (Some (Node root)) p)
 
 pub prev_leaf-before : (root : NodeTerm) (p : Path) (c : Term) → subterm (Node root) p ≡ Some c → prev_leaf_path root p ≡ last_at (before leaf_list (Some (Node root)) p)
-prev_leaf-before root p c e = find-last (λ q. stands_before q p) (leaf_paths root) ∙ ap last_at (leaves-before (Some (Node root)) p c e)
+prev_leaf-before root p c e = find-last (λ q. stands_before q p) (leaf_paths (Node root)) ∙ ap last_at (leaves-before (Some (Node root)) p c e)

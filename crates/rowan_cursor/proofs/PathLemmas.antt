@@ -1,45 +1,29 @@
 -- Laws of paths: the offset of a child, and the steps of the moves.
-use Rattle.std.proofs.Common.{◌≡◌, ℕ, zero, suc, ◌+◌, ◌<◌, ◌≤◌, Bool, true, false, cond, ◌&&◌, ◌||◌, List, [], ◌∷◌, ◌++◌, map, length, filter, sum_by, Option, Some, None, refl, sym, ◌∙◌, ap, arith, length-append, append_assoc, ◌-◌, reverse, ◌⊎◌, inl, inr}
-use Rattle.std.specs.Prelude.{slice_get, nat_lt, nat_eq}
-use Rattle.std.proofs.lemmas.Bool.Decides.{nat_tests}
+use Rattle.std.proofs.Common.{◌≡◌, ℕ, zero, suc, ◌+◌, ◌<◌, Bool, true, false, cond, ◌&&◌, ◌||◌, List, [], ◌∷◌, ◌++◌, map, length, filter, sum_by, Option, Some, None, refl, sym, ◌∙◌, ap, arith, length-append, ◌-◌, reverse, ◌⊎◌, inl, inr}
+use Rattle.std.specs.Prelude.{slice_get, nat_eq}
 use Rattle.std.proofs.lemmas.List.Sums.{sum_by-cons}
-use Rattle.std.proofs.lemmas.List.{append-nil}
-use Rattle.std.proofs.lemmas.Bool.{cases_order, true≢false}
+use Rattle.std.proofs.lemmas.Bool.{cases_order, true≢false, lt-ltb, le-ltb, eq-eqb, ne_eqb}
 use Rattle.std.specs.Option.{option_map, option_map_or}
 use Rattle.rowan_green.specs.declared.utility_types.NodeOrToken.TheVariants.{Node, Token}
-use Rattle.rowan_green.specs.Term.{NodeTerm, node, Forest, empty, node_then, token_then, Term, terms, node_children, node_text, forest_text, token_len}
-use Rattle.rowan_green.specs.Path.{Path, term_children, subterm_of, subterm, Leaf, below_place, node_leaves, leaves_from, leaves, stands_before, begins, offset}
+use Rattle.rowan_green.specs.Term.{NodeTerm, node, Forest, empty, node_then, token_then, Term, terms, node_children, node_text, forest_text, token_len, node_len, sum_of_lens}
+use Rattle.rowan_green.specs.Path.{Path, term_children, subterm_of, subterm, Leaf, below_place, node_leaves, leaves_from, leaves, stands_before, begins, offset, len_of}
 use Rattle.rowan_green.specs.Search.{child_start}
 use Rattle.rowan_green.proofs.Paths.{offset-empty}
+use Rattle.rowan_green.proofs.Terms.{forest-terms, node_len-node_of}
 use Rattle.rowan_cursor.specs.Cursor.{last_place}
-use Rattle.rowan_cursor.specs.Moves.{parent_path, ancestor_paths, children_of, numbers, below, child_count, following, preceding}
+use Rattle.rowan_cursor.specs.Moves.{parent_path, children_of, numbers, below, child_count, first_at, following, preceding}
 
 -- Tests of the first place.
-lt_is : (j i : ℕ) → j < i → nat_lt j i ≡ true
-lt_is j i h = grind (arith, nat_tests)
-
-lt_not : (j i : ℕ) → i ≤ j → nat_lt j i ≡ false
-lt_not j i h = grind (arith, nat_tests)
-
-eq_is : (i : ℕ) → nat_eq i i ≡ true
-eq_is i = grind (arith, nat_tests)
-
-pub eq_not : (j i : ℕ) → i < j → nat_eq j i ≡ false
-eq_not j i h = grind (arith, nat_tests)
-
-pub eq_less : (j i : ℕ) → j < i → nat_eq j i ≡ false
-eq_less j i h = grind (arith, nat_tests)
-
 pub before_at_less : (j i : ℕ) (q p : Path) → j < i → stands_before (j ∷ q) (i ∷ p) ≡ true
-before_at_less j i q p h = ap (λ b. b || (nat_eq j i && stands_before q p)) (lt_is j i h)
+before_at_less j i q p h = ap (λ b. b || (nat_eq j i && stands_before q p)) (lt-ltb j i h)
 
 pub before_at_same : (i : ℕ) (q p : Path) → stands_before (i ∷ q) (i ∷ p) ≡ stands_before q p
 before_at_same i q p =
-    ap (λ b. b || (nat_eq i i && stands_before q p)) (lt_not i i (omega arith)) ∙ ap (λ b. b && stands_before q p) (eq_is i)
+    ap (λ b. b || (nat_eq i i && stands_before q p)) (le-ltb i i (omega arith)) ∙ ap (λ b. b && stands_before q p) (eq-eqb i i refl)
 
 pub before_at_greater : (j i : ℕ) (q p : Path) → i < j → stands_before (j ∷ q) (i ∷ p) ≡ false
 before_at_greater j i q p h =
-    ap (λ b. b || (nat_eq j i && stands_before q p)) (lt_not j i (omega arith)) ∙ ap (λ b. b && stands_before q p) (eq_not j i h)
+    ap (λ b. b || (nat_eq j i && stands_before q p)) (le-ltb j i (omega arith)) ∙ ap (λ b. b && stands_before q p) (ne_eqb j i (λ e. omega (arith, h, e)))
 
 -- The lengths of the leaves before a path, added up.
 abbrev lens_before : Path → List Leaf → ℕ
@@ -161,6 +145,17 @@ offset-child root p i h = at (subterm (Node root) p) refl h
     at (Some (Token t)) e h = absurd (omega arith)
     at (Some (Node n)) e h = offset-node_child (Node root) p i n e
 
+-- Where the next child starts, and the length of a node by its children.
+pub child_start-next : (ts : List Term) (i : ℕ) → i < length ts → child_start ts (i + 1) ≡ child_start ts i + len_of (slice_get ts i)
+child_start-next [] i h = absurd (omega arith)
+child_start-next (t ∷ ts) zero h = omega arith
+child_start-next (t ∷ ts) (suc i) h =
+    let next : suc i + 1 ≡ suc (i + 1) = omega arith in
+    omega (arith, ap (child_start (t ∷ ts)) next, child_start-next ts i (omega arith))
+
+pub node_len-children : (n : NodeTerm) → node_len n ≡ sum_of_lens (node_children n)
+node_len-children (node k f) = ap (λ g. node_len (node k g)) (sym (forest-terms f)) ∙ node_len-node_of k (terms f)
+
 -- Going down: the subterm at a longer path, and at a child.
 pub subterm_of-append : (t : Option Term) (p q : Path) → subterm_of t (p ++ q) ≡ subterm_of (subterm_of t p) q
 subterm_of-append None p q = refl
@@ -189,10 +184,6 @@ last_place-child [] i = refl
 last_place-child (j ∷ []) i = refl
 last_place-child (j ∷ k ∷ p) i = last_place-child (k ∷ p) i
 
-pub ancestor_paths-child : (p : Path) (i : ℕ) → ancestor_paths (p ++ i ∷ []) ≡ (p ++ i ∷ []) ∷ ancestor_paths p
-ancestor_paths-child [] i = refl
-ancestor_paths-child (j ∷ p) i = ap (λ qs. map (λ q. j ∷ q) qs ++ [] ∷ []) (ancestor_paths-child p i)
-
 pub following-child : (root : NodeTerm) (p : Path) (i : ℕ) → following root (p ++ i ∷ []) ≡ below p (numbers (i + 1) (child_count root p - (i + 1)))
 following-child root p i =
     ap (λ k. option_map_or (λ q. below q (numbers (k + 1) (child_count root q - (k + 1)))) (parent_path (p ++ i ∷ [])) []) (last_place-child p i) ∙ ap (λ o. option_map_or (λ q. below q (numbers (i + 1) (child_count root q - (i + 1)))) o []) (parent_path-child p i)
@@ -201,108 +192,43 @@ pub preceding-child : (root : NodeTerm) (p : Path) (i : ℕ) → preceding root 
 preceding-child root p i =
     ap (λ k. option_map_or (λ q. below q (reverse (numbers 0 k))) (parent_path (p ++ i ∷ [])) []) (last_place-child p i) ∙ ap (λ o. option_map_or (λ q. below q (reverse (numbers 0 i))) o []) (parent_path-child p i)
 
+-- the first of children side by side
+pub below-first : (p : Path) (a n : ℕ) (s : Path) → Some s ≡ first_at (below p (numbers a n)) → (s ≡ p ++ a ∷ []) × (0 < n)
+below-first p a zero s h = absurd cc
+below-first p a (suc n) s h = (cc, omega arith)
+
+pub below-none : (p : Path) (a n : ℕ) → ◌≡◌ {A = Option Path} None (first_at (below p (numbers a n))) → n ≡ 0
+below-none p a zero h = refl
+below-none p a (suc n) h = absurd cc
+
 -- each path but the empty one has a parent and a last place
 pub last-split : (p : Path) → (p ≡ []) ⊎ ((q : Path) × (i : ℕ) × (p ≡ q ++ i ∷ []))
 last-split [] = inl refl
 last-split (i ∷ p) = inr (elim (last-split p) [ inl e ↦ ([], i, ap (λ q. i ∷ q) e) | inr s ↦ (i ∷ s.0, s.1, ap (λ q. i ∷ q) s.2) ])
 
 -- Paths with a common beginning.
-pub before-join : (p q r : Path) → stands_before (p ++ q) (p ++ r) ≡ stands_before q r
-before-join [] q r = refl
-before-join (i ∷ p) q r = before_at_same i (p ++ q) (p ++ r) ∙ before-join p q r
-
 pub begins-same : (i : ℕ) (p q : Path) → begins (i ∷ p) (i ∷ q) ≡ begins p q
-begins-same i p q = ap (λ b. b && begins p q) (eq_is i)
-
-pub begins-join : (p q r : Path) → begins (p ++ q) (p ++ r) ≡ begins q r
-begins-join [] q r = refl
-begins-join (i ∷ p) q r = begins-same i (p ++ q) (p ++ r) ∙ begins-join p q r
+begins-same i p q = ap (λ b. b && begins p q) (eq-eqb i i refl)
 
 pub begins-own : (p q : Path) → begins p (p ++ q) ≡ true
 begins-own [] q = refl
 begins-own (i ∷ p) q = begins-same i p (p ++ q) ∙ begins-own p q
 
-pub before-below : (p q : Path) (i : ℕ) → stands_before p (p ++ i ∷ q) ≡ true
-before-below [] q i = refl
-before-below (j ∷ p) q i = before_at_same j p (p ++ i ∷ q) ∙ before-below p q i
-
-pub below-not_before : (p q : Path) → stands_before (p ++ q) p ≡ false
-below-not_before [] q = refl
-below-not_before (i ∷ p) q = before_at_same i (p ++ q) p ∙ below-not_before p q
-
--- The order of a dictionary: no path stands before itself, of two different ones one stands before the other, and the order is transitive.
-pub before-self : (p : Path) → stands_before p p ≡ false
-before-self [] = refl
-before-self (i ∷ p) = before_at_same i p p ∙ before-self p
-
-first_places : (i j : ℕ) (p q : Path) → stands_before (i ∷ p) (j ∷ q) ≡ true → (i < j) ⊎ ((i ≡ j) × (stands_before p q ≡ true))
-first_places i j p q h = elim (cases_order i j) [
-  | inl e ↦ inr (e, sym (before_at_same j p q) ∙ ap (λ k. stands_before (k ∷ p) (j ∷ q)) (sym e) ∙ h)
-  | inr r ↦ elim r [
-    | inl l ↦ inl l
-    | inr l ↦ absurd (true≢false (sym h ∙ before_at_greater i j p q l))
-  ]
+pub not-begins : (i j : ℕ) (p q : Path) → (i < j) ⊎ (j < i) → begins (i ∷ p) (j ∷ q) ≡ false
+not-begins i j p q h = elim h [
+  | inl l ↦ ap (λ b. b && begins p q) (ne_eqb i j (λ e. omega (arith, l, e)))
+  | inr l ↦ ap (λ b. b && begins p q) (ne_eqb i j (λ e. omega (arith, l, e)))
 ]
 
-pub before-before : (p q r : Path) → stands_before p q ≡ true → stands_before q r ≡ true → stands_before p r ≡ true
-before-before p [] r h k = absurd (true≢false (sym h))
-before-before p (j ∷ q) [] h k = absurd (true≢false (sym k))
-before-before [] (j ∷ q) (l ∷ r) h k = refl
-before-before (i ∷ p) (j ∷ q) (l ∷ r) h k = elim (first_places i j p q h) [
-  | inl x ↦ elim (first_places j l q r k) [
-    | inl y ↦ before_at_less i l p r (omega arith)
-    | inr y ↦ before_at_less i l p r (omega (arith, y.0))
-  ]
-  | inr x ↦ elim (first_places j l q r k) [
-    | inl y ↦ before_at_less i l p r (omega (arith, x.0))
-    | inr y ↦ ap (λ m. stands_before (m ∷ p) (l ∷ r)) (x.0 ∙ y.0) ∙ before_at_same l p r ∙ before-before p q r x.1 y.1
-  ]
-]
-
-pub before-cases : (p q : Path) → (stands_before p q ≡ true) ⊎ (p ≡ q) ⊎ (stands_before q p ≡ true)
-before-cases [] [] = inr (inl refl)
-before-cases [] (j ∷ q) = inl refl
-before-cases (i ∷ p) [] = inr (inr refl)
-before-cases (i ∷ p) (j ∷ q) = elim (cases_order i j) [
-  | inl e ↦ at e (before-cases p q)
-  | inr r ↦ elim r [ inl l ↦ inl (before_at_less i j p q l) | inr l ↦ inr (inr (before_at_less j i q p l)) ]
-]
-  where
-    at : i ≡ j → (stands_before p q ≡ true) ⊎ (p ≡ q) ⊎ (stands_before q p ≡ true) → (stands_before (i ∷ p) (j ∷ q) ≡ true) ⊎ (i ∷ p ≡ j ∷ q) ⊎ (stands_before (j ∷ q) (i ∷ p) ≡ true)
-    at e (inl h) = inl (ap (λ k. stands_before (k ∷ p) (j ∷ q)) e ∙ before_at_same j p q ∙ h)
-    at e (inr (inl h)) = inr (inl cc)
-    at e (inr (inr h)) = inr (inr (ap (λ k. stands_before (j ∷ q) (k ∷ p)) e ∙ before_at_same j q p ∙ h))
-
--- What begins with a path goes on from it, so that beginnings are ordered too.
+-- What begins with a path goes on from it.
 pub begins-rest : (p q : Path) → begins p q ≡ true → (r : Path) × (q ≡ p ++ r)
 begins-rest [] q h = (q, refl)
 begins-rest (i ∷ p) [] h = absurd (true≢false (sym h))
 begins-rest (i ∷ p) (j ∷ q) h = elim (cases_order i j) [
   | inl e ↦ (let s = begins-rest p q (sym (begins-same j p q) ∙ ap (λ k. begins (k ∷ p) (j ∷ q)) (sym e) ∙ h) in (s.0, ap (λ k. k ∷ q) (sym e) ∙ ap (λ u. i ∷ u) s.1))
-  | inr r ↦ absurd (true≢false (sym h ∙ ap (λ b. b && begins p q) (unlike i j r)))
+  | inr r ↦ absurd (true≢false (sym h ∙ not-begins i j p q r))
 ]
-  where
-    unlike : (i j : ℕ) → (i < j) ⊎ (j < i) → nat_eq i j ≡ false
-    unlike i j (inl l) = eq_less i j l
-    unlike i j (inr l) = eq_not i j l
 
 pub begins-self : (p : Path) → begins p p ≡ true
 begins-self [] = refl
 begins-self (i ∷ p) = begins-same i p p ∙ begins-self p
-
-pub begins-begins : (p q r : Path) → begins p q ≡ true → begins q r ≡ true → begins p r ≡ true
-begins-begins p q r h k =
-    let x = begins-rest p q h in
-    let y = begins-rest q r k in
-    ap (begins p) (y.1 ∙ ap (λ u. u ++ y.0) x.1 ∙ append_assoc p x.0 y.0) ∙ begins-own p (x.0 ++ y.0)
-
-pub begins-both : (p q : Path) → begins p q ≡ true → begins q p ≡ true → p ≡ q
-begins-both p q h k =
-    let x = begins-rest p q h in
-    let y = begins-rest q p k in
-    let none : length x.0 ≡ 0 = omega (arith, ap length x.1, length-append p x.0, ap length y.1, length-append q y.0) in
-    sym (x.1 ∙ ap (λ u. p ++ u) (empty_list x.0 none) ∙ append-nil p)
-  where
-    empty_list : (u : Path) → length u ≡ 0 → u ≡ []
-    empty_list [] e = refl
-    empty_list (i ∷ u) e = absurd (omega arith)

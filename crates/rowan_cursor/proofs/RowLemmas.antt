@@ -1,8 +1,11 @@
 -- Laws of rows: the first and the last of entries side by side, and the first and the last that pass a test.
-use Rattle.std.proofs.Common.{◌≡◌, ℕ, zero, suc, ◌+◌, ◌-◌, ◌<◌, ◌≤◌, Bool, true, false, cond, List, [], ◌∷◌, ◌++◌, map, reverse, Some, None, refl, sym, ◌∙◌, ap, arith}
+use Rattle.std.proofs.Common.{◌≡◌, ℕ, zero, suc, ◌+◌, ◌-◌, ◌<◌, ◌≤◌, Bool, true, false, List, [], ◌∷◌, ◌++◌, map, reverse, Some, None, refl, sym, ◌∙◌, ap, arith}
 use Rattle.std.specs.Prelude.{slice_get}
 use Rattle.std.specs.List.{find}
+use Rattle.std.proofs.lemmas.Bool.{cond-true, cond-false}
 use Rattle.std.proofs.lemmas.List.{reverse-append, map-append}
+use Rattle.std.proofs.lemmas.List.FromFn.{length-map-range_with_len, get_or-map-range_with_len}
+use Rattle.std.proofs.lemmas.Option.{slice_get-get_or, slice_get_past}
 use Rattle.rowan_green.specs.Path.{Path}
 use Rattle.rowan_cursor.specs.Moves.{numbers}
 
@@ -40,47 +43,27 @@ empty_row f a b h =
     let e : b - a ≡ 0 = omega arith in
     ap (λ n. map f (numbers a n)) e
 
-find-hit : (p : Path → Bool) (x : Path) (xs : List Path) → p x ≡ true → find p (x ∷ xs) ≡ Some x
-find-hit p x xs h = ap (λ b. cond b (Some x) (find p xs)) h
-
-find-miss : (p : Path → Bool) (x : Path) (xs : List Path) → p x ≡ false → find p (x ∷ xs) ≡ find p xs
-find-miss p x xs h = ap (λ b. cond b (Some x) (find p xs)) h
-
 -- a search through a row, from its front
-
-pub found_first : (p : Path → Bool) (f : ℕ → Path) (a b : ℕ) → a < b → p (f a) ≡ true → find p (map f (numbers a (b - a))) ≡ Some (f a)
-found_first p f a b h e =
-    ap (find p) (first_split f a b h) ∙ find-hit p (f a) (map f (numbers (a + 1) (b - (a + 1)))) e
 
 pub missed_first : (p : Path → Bool) (f : ℕ → Path) (a b : ℕ) → a < b → p (f a) ≡ false → find p (map f (numbers a (b - a))) ≡ find p (map f (numbers (a + 1) (b - (a + 1))))
 missed_first p f a b h e =
-    ap (find p) (first_split f a b h) ∙ find-miss p (f a) (map f (numbers (a + 1) (b - (a + 1)))) e
-
-pub found_none : (p : Path → Bool) (f : ℕ → Path) (a b : ℕ) → a ≡ b → find p (map f (numbers a (b - a))) ≡ None
-found_none p f a b h = ap (find p) (empty_row f a b h)
+    ap (find p) (first_split f a b h) ∙ cond-false (p (f a)) (Some (f a)) (find p (map f (numbers (a + 1) (b - (a + 1))))) e
 
 -- a search through a row, from its end
 
 pub found_last : (p : Path → Bool) (f : ℕ → Path) (a b c : ℕ) → a < b → c + 1 ≡ b → p (f c) ≡ true → find p (reverse (map f (numbers a (b - a)))) ≡ Some (f c)
 found_last p f a b c h is e =
-    ap (find p) (last_split f a b c h is) ∙ find-hit p (f c) (reverse (map f (numbers a (c - a)))) e
+    ap (find p) (last_split f a b c h is) ∙ cond-true (p (f c)) (Some (f c)) (find p (reverse (map f (numbers a (c - a))))) e
 
 pub missed_last : (p : Path → Bool) (f : ℕ → Path) (a b c : ℕ) → a < b → c + 1 ≡ b → p (f c) ≡ false → find p (reverse (map f (numbers a (b - a)))) ≡ find p (reverse (map f (numbers a (c - a))))
 missed_last p f a b c h is e =
-    ap (find p) (last_split f a b c h is) ∙ find-miss p (f c) (reverse (map f (numbers a (c - a)))) e
-
-pub found_none_back : (p : Path → Bool) (f : ℕ → Path) (a b : ℕ) → a ≡ b → find p (reverse (map f (numbers a (b - a)))) ≡ None
-found_none_back p f a b h = ap (λ ps. find p (reverse ps)) (empty_row f a b h)
+    ap (find p) (last_split f a b c h is) ∙ cond-false (p (f c)) (Some (f c)) (find p (reverse (map f (numbers a (c - a))))) e
 
 -- a row by its places
 pub row-get : (f : ℕ → Path) (a n i : ℕ) → i < n → slice_get (map f (numbers a n)) i ≡ Some (f (a + i))
-row-get f a zero i h = absurd (omega arith)
-row-get f a (suc n) zero h = let e : a ≡ a + 0 = omega arith in ap (λ k. Some (f k)) e
-row-get f a (suc n) (suc i) h =
-    let e : a + 1 + i ≡ a + suc i = omega arith in
-    row-get f (a + 1) n i (omega arith) ∙ ap (λ k. Some (f k)) e
+row-get f a n i h =
+    slice_get-get_or (map f (numbers a n)) i (f a) (omega (arith, length-map-range_with_len f a n))
+    ∙ ap (λ p. Some p) (get_or-map-range_with_len f a n i (a + i) (f a) h refl)
 
 pub row-past : (f : ℕ → Path) (a n i : ℕ) → n ≤ i → slice_get (map f (numbers a n)) i ≡ None
-row-past f a zero i h = refl
-row-past f a (suc n) zero h = absurd (omega arith)
-row-past f a (suc n) (suc i) h = row-past f (a + 1) n i (omega arith)
+row-past f a n i h = slice_get_past (map f (numbers a n)) i (omega (arith, length-map-range_with_len f a n))

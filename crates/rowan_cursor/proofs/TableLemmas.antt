@@ -2,22 +2,23 @@
 use Rattle.std.proofs.Common.{◌≡◌, true, false, ℕ, zero, suc, ◌+◌, ◌-◌, ◌<◌, ◌≤◌, List, [], ◌∷◌, ◌++◌, map, reverse, length, take, Option, Some, None, refl, sym, ◌∙◌, ap, subst, arith}
 use Rattle.std.specs.Prelude.{slice_get}
 use Rattle.std.specs.Option.{option_map, option_map_or}
-use Rattle.std.proofs.lemmas.List.{take_all}
-use Rattle.std.proofs.lemmas.Option.{slice_get_within, same_Some}
+use Rattle.std.proofs.lemmas.List.{take_all, take-take}
+use Rattle.std.proofs.lemmas.List.Sums.{sum_by_more, sum_by-take-le}
+use Rattle.std.proofs.lemmas.Option.{slice_get_within, get_or_from_slice_get, none-some, same_Some}
 use Rattle.rowan_green.specs.declared.utility_types.NodeOrToken.TheVariants.{Node, Token}
 use Rattle.rowan_green.specs.Fits.{byte_limit}
 use Rattle.rowan_green.specs.Lent.{into_node}
 use Rattle.rowan_green.specs.Search.{child_start}
-use Rattle.rowan_green.specs.Term.{NodeTerm, Term, node, terms, term_len, node_len, sum_of_lens}
+use Rattle.rowan_green.specs.Term.{NodeTerm, Term, term_len, sum_of_lens}
 use Rattle.rowan_green.specs.Path.{Path, subterm, offset, len_of, term_children}
 use Rattle.rowan_green.proofs.Paths.{offset-empty}
-use Rattle.rowan_green.proofs.Terms.{forest-terms, node_len-node_of}
+use Rattle.rowan_green.proofs.SearchLemmas.{child_start-le_all}
 use Rattle.rowan_cursor.specs.Cursor.{last_place}
 use Rattle.rowan_cursor.specs.Moves.{numbers, below, child_count, children_of, is_node, child_paths, first_at, following, preceding}
 use Rattle.rowan_cursor.specs.Table.{root_of, green_of, offset_of, index_of, children_in, len_in, counts, path_within, path_at, IsTop, IsChildOf, IsFilling, IsTable, IsRow, IsRowBack, IsEntry, IsNodeEntry}
 use Rattle.rowan_cursor.specs.declared.tree.Entry.{Entry}
 use Rattle.rowan_cursor.proofs.RowLemmas.{map-reverse, first_split, last_split, empty_row}
-use Rattle.rowan_cursor.proofs.PathLemmas.{subterm-child, offset-child, last_place-child, following-child, preceding-child}
+use Rattle.rowan_cursor.proofs.PathLemmas.{subterm-child, offset-child, last_place-child, following-child, preceding-child, child_start-next, node_len-children}
 
 -- ---- lists
 
@@ -26,29 +27,28 @@ slice_get-some [] i h = absurd (omega arith)
 slice_get-some (x ∷ xs) zero h = (x, refl)
 slice_get-some (x ∷ xs) (suc i) h = slice_get-some xs i (omega arith)
 
-counts-take-less : (es : List Entry) (m n : ℕ) (d : Entry) → slice_get es m ≡ Some d → m < n → counts (take m es) + length (children_in (green_of d)) ≤ counts (take n es)
-counts-take-less [] m n d e h = absurd cc
-counts-take-less (x ∷ es) zero zero d e h = absurd (omega arith)
-counts-take-less (x ∷ es) zero (suc n) d e h =
-    omega (arith, ap (λ (c : Entry). length (children_in (green_of c))) (same_Some x d e))
-counts-take-less (x ∷ es) (suc m) zero d e h = absurd (omega arith)
-counts-take-less (x ∷ es) (suc m) (suc n) d e h = omega (arith, counts-take-less es m n d e (omega arith))
+pub counts-more : (es : List Entry) (n : ℕ) (e : Entry) → slice_get es n ≡ Some e → counts (take (n + 1) es) ≡ counts (take n es) + length (children_in (green_of e))
+counts-more es n e at =
+    sum_by_more (λ (x : Entry). length (children_in (green_of x))) es n e (slice_get_within es n e at)
+    ∙ ap (λ (x : Entry). counts (take n es) + length (children_in (green_of x))) (get_or_from_slice_get es n e e at)
 
-pub counts-within : (es : List Entry) (m : ℕ) (d : Entry) → slice_get es m ≡ Some d → counts (take m es) + length (children_in (green_of d)) ≤ counts es
-counts-within es m d e =
-    omega (arith, counts-take-less es m (length es) d e (slice_get_within es m d e), ap counts (take_all (length es) es (omega arith)))
+pub counts-within : (es : List Entry) (n : ℕ) (e : Entry) → slice_get es n ≡ Some e → counts (take n es) + length (children_in (green_of e)) ≤ counts es
+counts-within es n e at =
+    omega (arith, counts-more es n e at, sum_by-take-le (λ (x : Entry). length (children_in (green_of x))) es (n + 1))
+
+counts-take-less : (es : List Entry) (m n : ℕ) (d : Entry) → slice_get es m ≡ Some d → m < n → counts (take m es) + length (children_in (green_of d)) ≤ counts (take n es)
+counts-take-less es m n d at h =
+    omega (arith, counts-more es m d at, sum_by-take-le (λ (x : Entry). length (children_in (green_of x))) (take n es) (m + 1), ap counts (take-take (m + 1) n es (omega arith)))
 
 -- ---- lengths
 
 pub sum_of_lens-children : (t : Term) → sum_of_lens (term_children t) ≤ term_len t
-sum_of_lens-children (Node (node k f)) =
-    omega (arith, ap (λ g. node_len (node k g)) (forest-terms f), node_len-node_of k (terms f))
+sum_of_lens-children (Node n) = omega (arith, node_len-children n)
 sum_of_lens-children (Token t) = omega arith
 
 child_end-within : (ts : List Term) (i : ℕ) (t : Term) → slice_get ts i ≡ Some t → child_start ts i + term_len t ≤ sum_of_lens ts
-child_end-within [] i t e = absurd cc
-child_end-within (u ∷ ts) zero t e = omega (arith, ap term_len (same_Some u t e))
-child_end-within (u ∷ ts) (suc i) t e = omega (arith, child_end-within ts i t e)
+child_end-within ts i t e =
+    omega (arith, child_start-next ts i (slice_get_within ts i t e), ap len_of e, child_start-le_all ts (i + 1))
 
 -- where a child ends, its parent has not ended before
 pub child_end : (u : Term) (i : ℕ) (t : Term) → slice_get (term_children u) i ≡ Some t → child_start (term_children u) i + term_len t ≤ term_len u
@@ -70,11 +70,6 @@ pub kept-none : (o : Option Term) → option_map into_node o ≡ Some None → i
 kept-none None e = absurd cc
 kept-none (Some (Node n)) e = absurd cc
 kept-none (Some (Token t)) e = refl
-
-pub kept-node : (o : Option Term) (n : NodeTerm) → option_map into_node o ≡ Some (Some n) → o ≡ Some (Node n)
-kept-node None n e = absurd cc
-kept-node (Some (Node m)) n e = ap (λ k. let t : Term = Node k in Some t) (same_Some m n (same_Some (Some m) (Some n) e))
-kept-node (Some (Token t)) n e = absurd cc
 
 kept_within : (ts : List Term) (i : ℕ) (g : Option NodeTerm) → option_map into_node (slice_get ts i) ≡ Some g → i < length ts
 kept_within [] i g e = absurd cc
@@ -119,7 +114,7 @@ path_at-below es t n e p at h above =
 
 pub record Stands (es : List Entry) (n : ℕ) (e : Entry) : Type 0 where
   pub green : option_map into_node (subterm (Node (root_of es)) (path_at es n)) ≡ Some (green_of e)
-  pub start : offset (Node (root_of es)) (path_at es n) ≡ (offset_of e)
+  pub start : offset (Node (root_of es)) (path_at es n) ≡ offset_of e
 
 Stands-top : (es : List Entry) (e : Entry) → IsTop es e → Stands es 0 e
 Stands-top es e top = record {
@@ -139,7 +134,7 @@ Stands-child es t n e p at h above s =
     let inside : i < length (children_of (subterm (Node root) q)) = omega (arith, ap length terms, kept_within (children_in (green_of p)) i (green_of e) c.child) in
     record {
       green = ap (λ r. option_map into_node (subterm (Node root) r)) path ∙ ap (option_map into_node) (subterm-child (Some (Node root)) q i ∙ ap (λ ts. slice_get ts i) terms) ∙ c.child;
-      start = ap (λ r. offset (Node root) r) path ∙ offset-child root q i inside ∙ ap (λ x. x + child_start (children_of (subterm (Node root) q)) i) s.start ∙ ap (λ ts. (offset_of p) + child_start ts i) terms ∙ sym c.start;
+      start = ap (λ r. offset (Node root) r) path ∙ offset-child root q i inside ∙ ap (λ x. x + child_start (children_of (subterm (Node root) q)) i) s.start ∙ ap (λ ts. offset_of p + child_start ts i) terms ∙ sym c.start;
     }
 
 Stands-within : (es : List Entry) → IsFilling es → (steps n : ℕ) → n ≤ steps → (e : Entry) → slice_get es n ≡ Some e → Stands es n e
@@ -158,7 +153,7 @@ end_of-token : (g : Option NodeTerm) (i : ℕ) (t : Term) → slice_get (childre
 end_of-token None i t e = absurd cc
 end_of-token (Some n) i t e = child_end (Node n) i t e
 
-ends_below : (es : List Entry) → IsFilling es → (n : ℕ) (e p : Entry) → slice_get es n ≡ Some e → 0 < n → slice_get es e.parent ≡ Some p → (o : Option Term) → slice_get (children_in (green_of p)) (n - p.first_child) ≡ o → (offset_of e) + len_of o ≤ byte_limit
+ends_below : (es : List Entry) → IsFilling es → (n : ℕ) (e p : Entry) → slice_get es n ≡ Some e → 0 < n → slice_get es e.parent ≡ Some p → (o : Option Term) → slice_get (children_in (green_of p)) (n - p.first_child) ≡ o → offset_of e + len_of o ≤ byte_limit
 ends_below es t n e p at h above None f = omega (arith, t.ends n e at)
 ends_below es t n e p at h above (Some u) f =
     omega (arith, (t.parents n e p at h above).start, end_of-token (green_of p) (n - p.first_child) u f, t.ends e.parent p above)
@@ -171,7 +166,7 @@ child_above es t n e p at h above =
     ap (λ r. subterm (Node root) r) (path_at-below es t n e p at h above) ∙ subterm-child (Some (Node root)) q (n - p.first_child)
     ∙ ap (λ ts. slice_get ts (n - p.first_child)) (kept-children (subterm (Node root) q) (green_of p) (stands es t e.parent p above).green)
 
-ends_within : (es : List Entry) → IsFilling es → (n : ℕ) (e : Entry) → slice_get es n ≡ Some e → (offset_of e) + len_of (subterm (Node (root_of es)) (path_at es n)) ≤ byte_limit
+ends_within : (es : List Entry) → IsFilling es → (n : ℕ) (e : Entry) → slice_get es n ≡ Some e → offset_of e + len_of (subterm (Node (root_of es)) (path_at es n)) ≤ byte_limit
 ends_within es t zero e at = omega (arith, t.ends 0 e at, ap len_in (t.top e at).green)
 ends_within es t (suc n) e at =
     let less : e.parent < suc n = t.earlier (suc n) e at (omega arith) in
@@ -264,13 +259,6 @@ part : (es : List Entry) → IsTable es → (n : ℕ) (e : Entry) → slice_get 
 part es t n e at start a c from h =
     ap (λ k. map (path_at es) (numbers k c)) from ∙ row_below es t n e at c a h
 
-pub counts-more : (es : List Entry) (n : ℕ) (e : Entry) → slice_get es n ≡ Some e → counts (take (n + 1) es) ≡ counts (take n es) + length (children_in (green_of e))
-counts-more [] n e at = absurd cc
-counts-more (x ∷ es) zero e at = omega (arith, ap (λ (c : Entry). length (children_in (green_of c))) (same_Some x e at))
-counts-more (x ∷ es) (suc n) e at =
-    let next : suc n + 1 ≡ suc (n + 1) = omega arith in
-    omega (arith, ap (λ k. counts (take k (x ∷ es))) next, counts-more es n e at)
-
 -- the children of an entry end where those of the next begin, and those of the last with the table
 pub row_end-next : (es : List Entry) → IsTable es → (n : ℕ) (e d : Entry) → slice_get es n ≡ Some e → slice_get es (n + 1) ≡ Some d → d.first_child ≡ e.first_child + length (children_in (green_of e))
 row_end-next es t n e d at next =
@@ -316,7 +304,7 @@ pub record HasAbove (es : List Entry) (n : ℕ) (e p : Entry) : Type 0 where
 place : (es : List Entry) (n : ℕ) (e p : Entry) → IsTable es → HasAbove es n e p → n ≡ p.first_child + (n - p.first_child)
 place es n e p t h = omega (arith, (t.filling.parents n e p h.at h.behind h.above).place)
 
-index_below : (es : List Entry) (n : ℕ) (e p : Entry) → IsTable es → HasAbove es n e p → (n - p.first_child) < length (children_in (green_of p))
+index_below : (es : List Entry) (n : ℕ) (e p : Entry) → IsTable es → HasAbove es n e p → n - p.first_child < length (children_in (green_of p))
 index_below es n e p t h =
     kept_within (children_in (green_of p)) (n - p.first_child) (green_of e) (t.filling.parents n e p h.at h.behind h.above).child
 
@@ -325,7 +313,7 @@ following_row es t n e p h =
     let root = root_of es in
     let q = path_at es e.parent in
     let at : n ≡ p.first_child + (n - p.first_child) = place es n e p t h in
-    let less : (n - p.first_child) < length (children_in (green_of p)) = index_below es n e p t h in
+    let less : n - p.first_child < length (children_in (green_of p)) = index_below es n e p t h in
     let left : p.first_child + length (children_in (green_of p)) - (n + 1) ≡ length (children_in (green_of p)) - (n - p.first_child + 1) = omega arith in
     let from : n + 1 ≡ p.first_child + (n - p.first_child + 1) = omega arith in
     record {
@@ -342,23 +330,14 @@ preceding_row es t n e p h =
     let root = root_of es in
     let q = path_at es e.parent in
     let at : n ≡ p.first_child + (n - p.first_child) = place es n e p t h in
-    let less : (n - p.first_child) < length (children_in (green_of p)) = index_below es n e p t h in
-    let left : n - p.first_child ≡ (n - p.first_child) = omega arith in
+    let less : n - p.first_child < length (children_in (green_of p)) = index_below es n e p t h in
     record {
       order = omega arith;
       within = omega (arith, slice_get_within es n e h.at);
-      row = ap (λ c. reverse (map (path_at es) (numbers p.first_child c))) left
-          ∙ ap reverse (part es t e.parent p h.above p.first_child 0 (n - p.first_child) (omega arith) (omega arith))
+      row = ap reverse (part es t e.parent p h.above p.first_child 0 (n - p.first_child) (omega arith) (omega arith))
           ∙ sym (map-reverse (λ i. q ++ i ∷ []) (numbers 0 (n - p.first_child)))
           ∙ sym (preceding-child root q (n - p.first_child)) ∙ ap (preceding root) (sym (path_at-below es t.filling n e p h.at h.behind h.above));
     }
-
--- the root has no siblings
-pub following_none : (es : List Entry) → IsTable es → IsRow es 1 1 (following (root_of es) [])
-following_none es t = record { order = omega arith; within = omega (arith, t.filling.some); row = refl }
-
-pub preceding_none : (es : List Entry) → IsTable es → IsRowBack es 0 0 (preceding (root_of es) [])
-preceding_none es t = record { order = omega arith; within = omega arith; row = refl }
 
 pub above_of : (es : List Entry) → IsTable es → (n : ℕ) (e : Entry) → slice_get es n ≡ Some e → 0 < n → (p : Entry) × HasAbove es n e p
 above_of es t n e at h =
@@ -457,13 +436,10 @@ node_above es t n e at h =
     let p = a.0 in
     node_with_child (subterm (Node (root_of es)) (path_at es e.parent)) (green_of p) (green_of e) (n - p.first_child) (stands es t.filling e.parent p a.1.above).green (t.filling.parents n e p at h a.1.above).child
 
-some_none : (r : NodeTerm) → ◌≡◌ {A = Option NodeTerm} (Some r) None → ⊥
-some_none r e = cc e
-
 -- what an entry without a node stands for is a child of the node above
-pub child_of_above : (es : List Entry) → IsTable es → (n : ℕ) (e p : Entry) → slice_get es n ≡ Some e → (green_of e) ≡ None → slice_get es e.parent ≡ Some p
+pub child_of_above : (es : List Entry) → IsTable es → (n : ℕ) (e p : Entry) → slice_get es n ≡ Some e → green_of e ≡ None → slice_get es e.parent ≡ Some p
     → (subterm (Node (root_of es)) (path_at es n) ≡ slice_get (children_in (green_of p)) (n - p.first_child)) × (n - p.first_child < length (children_in (green_of p)))
-child_of_above es t zero e p at bare above = absurd (some_none (root_of es) (sym (t.filling.top e at).green ∙ bare))
+child_of_above es t zero e p at bare above = absurd (none-some (root_of es) (sym bare ∙ (t.filling.top e at).green))
 child_of_above es t (suc n) e p at bare above = (
   child_above es t.filling (suc n) e p at (omega arith) above,
   kept_within (children_in (green_of p)) (suc n - p.first_child) (green_of e) (t.filling.parents (suc n) e p at (omega arith) above).child,

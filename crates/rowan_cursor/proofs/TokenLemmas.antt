@@ -1,32 +1,23 @@
 -- From an element to the next one: what the answers of single moves mean for a pass over the elements.
-use Rattle.std.proofs.Common.{◌≡◌, ◌≢◌, ℕ, zero, suc, ◌+◌, ◌-◌, ◌<◌, true, false, cond, List, [], ◌∷◌, ◌++◌, map, length, filter, Option, Some, None, take, drop, reverse, inl, inr, refl, sym, ◌∙◌, ap, arith, length-append, append_assoc}
+use Rattle.std.proofs.Common.{◌≡◌, ◌≢◌, ℕ, zero, suc, ◌+◌, ◌-◌, ◌<◌, true, false, List, [], ◌∷◌, ◌++◌, map, length, filter, Option, Some, None, take, drop, reverse, inl, inr, refl, sym, ◌∙◌, ap, arith, length-append, append_assoc}
 use Rattle.std.specs.Prelude.{slice_get}
-use Rattle.std.proofs.lemmas.Bool.{cases_lt, true≢false}
-use Rattle.std.proofs.lemmas.List.{append-nil, length-take, reverse-append}
+use Rattle.std.proofs.lemmas.Bool.{cases_lt, true≢false, cond-true}
+use Rattle.std.proofs.lemmas.List.{append-nil, length-take, reverse-append, same_from_push}
 use Rattle.std.proofs.lemmas.List.Elements.{filter-append}
-use Rattle.std.proofs.lemmas.Option.{slice_get_past}
+use Rattle.std.proofs.lemmas.Option.{none-some, same_Some, slice_get_past}
 use Rattle.rowan_green.specs.declared.utility_types.NodeOrToken.TheVariants.{Node, Token}
 use Rattle.rowan_green.specs.Term.{NodeTerm, Term}
 use Rattle.rowan_green.specs.Path.{Path, term_children, subterm, begins}
-use Rattle.rowan_cursor.specs.Cursor.{last_place}
 use Rattle.rowan_cursor.specs.Moves.{parent_path, children_of, numbers, below, child_count, child_paths, following, preceding, is_node, is_node_at, first_at, first_leaf_path, last_leaf_path, next_leaf_path, prev_leaf_path}
 use Rattle.rowan_cursor.specs.Pass.{Lists, row, of_some, after, before, entered, rest, reached, upto, leaf_list, element_list, ComesBehind, ComesNext, ComesBefore, ComesBack, first_inside, last_inside}
 use Rattle.rowan_cursor.specs.Table.{IsFilling, IsTable, green_of, index_of, root_of, path_at}
 use Rattle.rowan_cursor.specs.declared.tree.Entry.{Entry}
-use Rattle.rowan_cursor.proofs.PathLemmas.{last-split, parent_path-child, last_place-child, following-child, preceding-child, begins-rest, begins-own, begins-same, subterm-child}
-use Rattle.rowan_cursor.proofs.LeafLemmas.{after-child, rest-child, rest-none, before-child, upto-child, upto-none, upto-all, leaf_list-node, element_list-term, filter_same, filter_row-const, filter-row, not-begins, find-first, find-last, last_at, first_leaf-below, last_leaf-below, next_leaf-rest, prev_leaf-before}
+use Rattle.rowan_cursor.proofs.PathLemmas.{last-split, parent_path-child, following-child, preceding-child, begins-rest, begins-own, begins-same, not-begins, subterm-child, below-first, below-none}
+use Rattle.rowan_cursor.proofs.LeafLemmas.{after-child, rest-child, rest-none, before-child, upto-child, upto-none, upto-all, leaf_list-node, element_list-term, filter_same, filter_row-const, filter-row, find-first, find-last, last_at, first_leaf-below, last_leaf-below, next_leaf-rest, prev_leaf-before}
 use Rattle.rowan_cursor.proofs.RowLemmas.{map-reverse, row-last}
 use Rattle.rowan_cursor.proofs.TableLemmas.{slice_get-some, index_above, path_at-child, is_entry, kept-some}
 
--- The first of a list of children, and the last.
-below-first : (p : Path) (a d : ℕ) (s : Path) → Some s ≡ first_at (below p (numbers a d)) → (s ≡ p ++ a ∷ []) × (0 < d)
-below-first p a zero s h = absurd cc
-below-first p a (suc d) s h = (cc, omega arith)
-
-below-none : (p : Path) (a d : ℕ) → ◌≡◌ {A = Option Path} None (first_at (below p (numbers a d))) → d ≡ 0
-below-none p a zero h = refl
-below-none p a (suc d) h = absurd cc
-
+-- The last of a list of children.
 below-back : (p : Path) (n : ℕ) → reverse (below p (numbers 0 (suc n))) ≡ (p ++ n ∷ []) ∷ reverse (below p (numbers 0 n))
 below-back p n =
     let e : 0 + n ≡ n = omega arith in
@@ -34,23 +25,17 @@ below-back p n =
 
 below-last : (p : Path) (n : ℕ) (s : Path) → Some s ≡ first_at (reverse (below p (numbers 0 n))) → (j : ℕ) × (n ≡ suc j) × (s ≡ p ++ j ∷ [])
 below-last p zero s h = absurd cc
-below-last p (suc j) s h = let x : Some s ≡ Some (p ++ j ∷ []) = h ∙ ap first_at (below-back p j) in (j, refl, cc)
+below-last p (suc j) s h = (j, refl, same_Some s (p ++ j ∷ []) (h ∙ ap first_at (below-back p j)))
 
 below-last_none : (p : Path) (n : ℕ) → ◌≡◌ {A = Option Path} None (first_at (reverse (below p (numbers 0 n)))) → n ≡ 0
 below-last_none p zero h = refl
 below-last_none p (suc j) h =
-    let x : ◌≡◌ {A = Option Path} None (Some (p ++ j ∷ [])) = h ∙ ap first_at (below-back p j) in
-    absurd cc
+    absurd (none-some (p ++ j ∷ []) (h ∙ ap first_at (below-back p j)))
 
 nearest : (p : Path) (n : ℕ) → first_at (below p (reverse (numbers 0 n))) ≡ first_at (reverse (below p (numbers 0 n)))
 nearest p n = ap first_at (map-reverse (λ i. p ++ i ∷ []) (numbers 0 n))
 
 -- Inside an element.
-same_parent : (p q : Path) (i j : ℕ) → p ++ i ∷ [] ≡ q ++ j ∷ [] → p ≡ q
-same_parent p q i j e =
-    let x : Some p ≡ Some q = sym (parent_path-child p i) ∙ ap parent_path e ∙ parent_path-child q j in
-    cc
-
 begins-longer : (top p q : Path) → begins top p ≡ true → begins top (p ++ q) ≡ true
 begins-longer top p q h =
     let r = begins-rest top p h in
@@ -64,7 +49,7 @@ inside-parent top p q i h apart e =
     let r = begins-rest top p h in
     elim (last-split r.0) [
       | inl x ↦ absurd (apart (r.1 ∙ ap (λ u. top ++ u) x ∙ append-nil top))
-      | inr x ↦ ap (begins top) (same_parent q (top ++ x.0) i x.1 (sym e ∙ r.1 ∙ ap (λ u. top ++ u) x.2 ∙ sym (append_assoc top x.0 (x.1 ∷ [])))) ∙ begins-own top x.0
+      | inr x ↦ ap (begins top) (same_from_push q (top ++ x.0) i x.1 (sym e ∙ r.1 ∙ ap (λ u. top ++ u) x.2 ∙ sym (append_assoc top x.0 (x.1 ∷ [])))).0 ∙ begins-own top x.0
     ]
 
 -- Where a path has a sibling behind it, or before it.
@@ -77,7 +62,7 @@ pub record HasBehind (root : NodeTerm) (p s : Path) : Type 0 where
 
 pub has_behind : (root : NodeTerm) (p s : Path) → Some s ≡ first_at (following root p) → HasBehind root p s
 has_behind root p s h = elim (last-split p) [
-  | inl e ↦ absurd (let x : ◌≡◌ {A = Option Path} (Some s) None = h ∙ ap (λ u. first_at (following root u)) e in cc)
+  | inl e ↦ absurd (none-some s (sym (h ∙ ap (λ u. first_at (following root u)) e)))
   | inr t ↦ (
       let f = below-first t.0 (t.1 + 1) (child_count root t.0 - (t.1 + 1)) s (h ∙ ap (λ u. first_at (following root u)) t.2 ∙ ap first_at (following-child root t.0 t.1)) in
       let e : t.1 + 1 ≡ suc t.1 = omega arith in
@@ -92,7 +77,7 @@ pub record HasBefore (root : NodeTerm) (p s : Path) : Type 0 where
 
 pub has_before : (root : NodeTerm) (p s : Path) → Some s ≡ first_at (preceding root p) → HasBefore root p s
 has_before root p s h = elim (last-split p) [
-  | inl e ↦ absurd (let x : ◌≡◌ {A = Option Path} (Some s) None = h ∙ ap (λ u. first_at (preceding root u)) e in cc)
+  | inl e ↦ absurd (none-some s (sym (h ∙ ap (λ u. first_at (preceding root u)) e)))
   | inr t ↦ (
       let f = below-last t.0 t.1 s (h ∙ ap (λ u. first_at (preceding root u)) t.2 ∙ ap first_at (preceding-child root t.0 t.1) ∙ nearest t.0 t.1) in
       record { parent = t.0; place = f.0; here = t.2 ∙ ap (λ k. t.0 ++ k ∷ []) f.1; there = f.2 })
@@ -112,11 +97,10 @@ before-inside root top p s h apart e =
 -- the parent of what is inside, and not the element itself
 pub split-parent : (p q : Path) → Some q ≡ parent_path p → (i : ℕ) × (p ≡ q ++ i ∷ [])
 split-parent p q h = elim (last-split p) [
-  | inl e ↦ absurd (let x : ◌≡◌ {A = Option Path} (Some q) None = h ∙ ap parent_path e in cc)
+  | inl e ↦ absurd (none-some q (sym (h ∙ ap parent_path e)))
   | inr t ↦ (
-      let x : Some q ≡ Some t.0 = h ∙ ap parent_path t.2 ∙ parent_path-child t.0 t.1 in
-      let e : t.0 ≡ q = cc in
-      (t.1, t.2 ∙ ap (λ u. u ++ t.1 ∷ []) e))
+      let e : q ≡ t.0 = same_Some q t.0 (h ∙ ap parent_path t.2 ∙ parent_path-child t.0 t.1) in
+      (t.1, t.2 ∙ ap (λ u. u ++ t.1 ∷ []) (sym e)))
 ]
 
 pub parent-inside : (top p q : Path) → begins top p ≡ true → p ≢ top → Some q ≡ parent_path p → begins top q ≡ true
@@ -125,7 +109,7 @@ parent-inside top p q h apart e = let t = split-parent p q e in inside-parent to
 pub no_parent : (p : Path) → ◌≡◌ {A = Option Path} None (parent_path p) → p ≡ []
 no_parent p h = elim (last-split p) [
   | inl e ↦ e
-  | inr t ↦ absurd (let x : ◌≡◌ {A = Option Path} None (Some t.0) = h ∙ ap parent_path t.2 ∙ parent_path-child t.0 t.1 in cc)
+  | inr t ↦ absurd (none-some t.0 (h ∙ ap parent_path t.2 ∙ parent_path-child t.0 t.1))
 ]
 
 -- Steps of a pass.
@@ -213,7 +197,7 @@ last_inside-before g t p = find-last (begins p) (before g t p) ∙ ap last_at (b
 
 all_below : (p : Path) (qs : List Path) → filter (begins p) (map (λ q. p ++ q) qs) ≡ map (λ q. p ++ q) qs
 all_below p [] = refl
-all_below p (q ∷ qs) = ap (λ b. cond b ((p ++ q) ∷ filter (begins p) (map (λ q. p ++ q) qs)) (filter (begins p) (map (λ q. p ++ q) qs))) (begins-own p q) ∙ ap (λ us. (p ++ q) ∷ us) (all_below p qs)
+all_below p (q ∷ qs) = cond-true (begins p (p ++ q)) ((p ++ q) ∷ filter (begins p) (map (λ q. p ++ q) qs)) (filter (begins p) (map (λ q. p ++ q) qs)) (begins-own p q) ∙ ap (λ us. (p ++ q) ∷ us) (all_below p qs)
 
 -- The moves to tokens, as what a pass finds.
 pub first_leaf-pass : (root : NodeTerm) (p : Path) → first_inside p (entered leaf_list (Some (Node root)) p) ≡ first_leaf_path root p
@@ -274,12 +258,12 @@ reached-fewer root p h =
 pub token-first : (root : NodeTerm) (top p : Path) (c : Term) → subterm (Node root) p ≡ Some c → is_node_at root p ≡ false → begins top p ≡ true → Some p ≡ first_inside top (entered leaf_list (Some (Node root)) p)
 token-first root top p c e h inside =
     let ls = after leaf_list (Some (Node root)) p in
-    sym (ap (λ us. first_inside top (map (λ q. p ++ q) us ++ ls)) (found_token (subterm (Node root) p) c e h) ∙ ap (λ q. first_inside top (q ∷ ls)) (append-nil p) ∙ ap (λ b. cond b (Some p) (first_inside top ls)) inside)
+    sym (ap (λ us. first_inside top (map (λ q. p ++ q) us ++ ls)) (found_token (subterm (Node root) p) c e h) ∙ ap (λ q. first_inside top (q ∷ ls)) (append-nil p) ∙ cond-true (begins top p) (Some p) (first_inside top ls) inside)
 
 pub token-last : (root : NodeTerm) (top p : Path) (c : Term) → subterm (Node root) p ≡ Some c → is_node_at root p ≡ false → begins top p ≡ true → Some p ≡ last_inside top (reached leaf_list (Some (Node root)) p)
 token-last root top p c e h inside =
     let ls = before leaf_list (Some (Node root)) p in
-    sym (ap (λ us. last_inside top (ls ++ map (λ q. p ++ q) us)) (found_token (subterm (Node root) p) c e h) ∙ ap (λ q. last_inside top (ls ++ q ∷ [])) (append-nil p) ∙ ap (first_inside top) (reverse-append ls (p ∷ [])) ∙ ap (λ b. cond b (Some p) (first_inside top (reverse ls))) inside)
+    sym (ap (λ us. last_inside top (ls ++ map (λ q. p ++ q) us)) (found_token (subterm (Node root) p) c e h) ∙ ap (λ q. last_inside top (ls ++ q ∷ [])) (append-nil p) ∙ ap (first_inside top) (reverse-append ls (p ∷ [])) ∙ cond-true (begins top p) (Some p) (first_inside top (reverse ls)) inside)
 
 -- Entries with one path have one number.
 ends_apart : (p : Path) (i : ℕ) → p ++ i ∷ [] ≡ [] → ⊥
@@ -294,15 +278,14 @@ same_number es f (suc k) m n b i j h =
     elim (cases_lt 0 m) [
       | inl x ↦ elim (cases_lt 0 n) [
         | inl y ↦ (
-            let joined = sym (path_at-child es f m d.0 d.1 x) ∙ h ∙ path_at-child es f n e.0 e.1 y in
+            let ends = same_from_push (path_at es d.0.parent) (path_at es e.0.parent) (index_of es m d.0) (index_of es n e.0) (sym (path_at-child es f m d.0 d.1 x) ∙ h ∙ path_at-child es f n e.0 e.1 y) in
             let less : d.0.parent < m = f.earlier m d.0 d.1 x in
             let lesser : e.0.parent < n = f.earlier n e.0 e.1 y in
-            let parents : d.0.parent ≡ e.0.parent = same_number es f k d.0.parent e.0.parent (omega arith) (omega arith) (omega arith) (same_parent (path_at es d.0.parent) (path_at es e.0.parent) (index_of es m d.0) (index_of es n e.0) joined) in
-            let places : (index_of es m d.0) ≡ (index_of es n e.0) = sym (last_place-child (path_at es d.0.parent) (index_of es m d.0)) ∙ ap last_place joined ∙ last_place-child (path_at es e.0.parent) (index_of es n e.0) in
+            let parents : d.0.parent ≡ e.0.parent = same_number es f k d.0.parent e.0.parent (omega arith) (omega arith) (omega arith) ends.0 in
             let above = slice_get-some es d.0.parent (omega arith) in
             let one = f.parents m d.0 above.0 d.1 x above.1 in
             let other = f.parents n e.0 above.0 e.1 y (ap (slice_get es) (sym parents) ∙ above.1) in
-            omega (arith, one.place, other.place, places, index_above es m d.0 above.0 above.1, index_above es n e.0 above.0 (ap (slice_get es) (sym parents) ∙ above.1)))
+            omega (arith, one.place, other.place, ends.1, index_above es m d.0 above.0 above.1, index_above es n e.0 above.0 (ap (slice_get es) (sym parents) ∙ above.1)))
         | inr y ↦ (
             let zero_n : n ≡ 0 = omega arith in
             absurd (ends_apart (path_at es d.0.parent) (index_of es m d.0) (sym (path_at-child es f m d.0 d.1 x) ∙ h ∙ ap (path_at es) zero_n)))

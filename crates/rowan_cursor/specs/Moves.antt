@@ -2,8 +2,8 @@
 --     Children stand one place further down. Siblings have the same parent. Each list of them is in the order of the tree, but
 --     what stands before a path is listed from the path on, so nearest first.
 --     Tokens follow one another in the order of the leaves, whatever stands between them.
-use Rattle.std.specs.Prelude.{ℕ, zero, suc, ◌+◌, ◌-◌, Bool, true, false, List, [], ◌∷◌, ◌++◌, map, length, reverse, Option, Some, None}
-use Rattle.std.specs.List.{find, filter}
+use Rattle.std.specs.Prelude.{ℕ, ◌+◌, ◌-◌, Bool, true, false, List, [], ◌∷◌, ◌++◌, map, length, reverse, Option, Some, None}
+use Rattle.std.specs.List.{find, filter, range_with_len}
 use Rattle.std.specs.Option.{option_map, option_map_or}
 use Rattle.rowan_green.specs.declared.utility_types.NodeOrToken.{NodeOrToken}
 use Rattle.rowan_green.specs.declared.utility_types.NodeOrToken.TheVariants.{Node, Token}
@@ -26,8 +26,7 @@ ancestor_paths (i ∷ p) = map (λ q. i ∷ q) (ancestor_paths p) ++ [] ∷ []
 
 -- n numbers, from a on
 abbrev pub numbers : ℕ → ℕ → List ℕ
-numbers a zero = []
-numbers a (suc n) = a ∷ numbers (a + 1) n
+numbers a n = range_with_len a n
 
 abbrev pub children_of : Option Term → List Term
 children_of None = []
@@ -58,9 +57,9 @@ abbrev pub sibling_paths : Direction → NodeTerm → Path → List Path
 sibling_paths Next root p = p ∷ following root p
 sibling_paths Prev root p = p ∷ preceding root p
 
--- the paths of all leaves, in order
-abbrev pub leaf_paths : NodeTerm → List Path
-leaf_paths root = map (λ l. l.0) (leaves (Node root))
+-- the paths of all leaves of a term, in order
+abbrev pub leaf_paths : Term → List Path
+leaf_paths t = map (λ l. l.0) (leaves t)
 
 abbrev pub is_node : Option Term → Bool
 is_node (Some (Node n)) = true
@@ -84,16 +83,16 @@ first_at (p ∷ paths) = Some p
 
 -- the first leaf below a path, the last one, the first behind it, and the last before it
 abbrev pub first_leaf_path : NodeTerm → Path → Option Path
-first_leaf_path root p = find (begins p) (leaf_paths root)
+first_leaf_path root p = find (begins p) (leaf_paths (Node root))
 
 abbrev pub last_leaf_path : NodeTerm → Path → Option Path
-last_leaf_path root p = find (begins p) (reverse (leaf_paths root))
+last_leaf_path root p = find (begins p) (reverse (leaf_paths (Node root)))
 
 abbrev pub next_leaf_path : NodeTerm → Path → Option Path
-next_leaf_path root p = find (λ q. stands_before p q) (leaf_paths root)
+next_leaf_path root p = find (λ q. stands_before p q) (leaf_paths (Node root))
 
 abbrev pub prev_leaf_path : NodeTerm → Path → Option Path
-prev_leaf_path root p = find (λ q. stands_before q p) (reverse (leaf_paths root))
+prev_leaf_path root p = find (λ q. stands_before q p) (reverse (leaf_paths (Node root)))
 
 -- the cursor at a path of a root
 abbrev pub cursor_at : NodeTerm → Path → Cursor

@@ -6,8 +6,8 @@ use Rattle.std.specs.Prelude.{◌≡◌, ℕ, suc, List, [], ◌∷◌, ◌++◌
 use Rattle.std.specs.List.{find}
 use Rattle.rowan_green.specs.declared.utility_types.NodeOrToken.TheVariants.{Node, Token}
 use Rattle.rowan_green.specs.Term.{NodeTerm, node, Forest, empty, node_then, token_then, Term}
-use Rattle.rowan_green.specs.Path.{Path, term_children, subterm_of, leaves, begins}
-use Rattle.rowan_cursor.specs.Moves.{children_of, child_count}
+use Rattle.rowan_green.specs.Path.{Path, term_children, subterm_of, begins}
+use Rattle.rowan_cursor.specs.Moves.{children_of, child_count, leaf_paths}
 
 -- for each term, paths below it
 abbrev pub Lists : Type 0
@@ -15,7 +15,7 @@ Lists = Term → List Path
 
 -- of all leaves
 abbrev pub leaf_list : Lists
-leaf_list t = map (λ l. l.0) (leaves t)
+leaf_list = leaf_paths
 
 -- of all elements, the term itself first
 abbrev mutual

@@ -5,6 +5,7 @@
 --     The path of an entry is read off by going up: from parent to parent, to the root.
 -- All facts are local: each speaks of one entry, or of an entry and its parent.
 use Rattle.std.specs.Prelude.{◌≡◌, true, ℕ, zero, suc, ◌+◌, ◌-◌, ◌<◌, ◌≤◌, List, [], ◌∷◌, ◌++◌, map, length, take, reverse, Some, Option, None, slice_get}
+use Rattle.std.specs.List.{sum_by}
 use Rattle.std.specs.Option.{option_map, option_map_or}
 use Rattle.rowan_green.specs.declared.utility_types.NodeOrToken.TheVariants.{Node}
 use Rattle.rowan_green.specs.Fits.{byte_limit}
@@ -53,8 +54,7 @@ root_of (e ∷ es) = node_in (green_of e)
 
 -- how many children these entries have together
 abbrev pub counts : List Entry → ℕ
-counts [] = 0
-counts (e ∷ es) = length (children_in (green_of e)) + counts es
+counts es = sum_by (λ e. length (children_in (green_of e))) es
 
 -- an entry's index among its siblings: how far it stands behind the first child of its parent
 abbrev pub index_of : List Entry → ℕ → Entry → ℕ
@@ -73,20 +73,20 @@ path_at es n = path_within n es n
 
 -- the first entry is that of a root
 pub record IsTop (es : List Entry) (e : Entry) : Type 0 where
-  pub green : (green_of e) ≡ Some (root_of es)
-  pub start : (offset_of e) ≡ 0
+  pub green : green_of e ≡ Some (root_of es)
+  pub start : offset_of e ≡ 0
 
 -- entry e, with the number n, is a child of entry p
 pub record IsChildOf (p : Entry) (n : ℕ) (e : Entry) : Type 0 where
   pub place : p.first_child ≤ n
   pub child : option_map into_node (slice_get (children_in (green_of p)) (n - p.first_child)) ≡ Some (green_of e)
-  pub start : (offset_of e) ≡ (offset_of p) + child_start (children_in (green_of p)) (n - p.first_child)
+  pub start : offset_of e ≡ offset_of p + child_start (children_in (green_of p)) (n - p.first_child)
 
 -- a table to which entries may still be added
 pub record IsFilling (es : List Entry) : Type 0 where
   pub some : 0 < length es
   pub top : (e : Entry) → slice_get es 0 ≡ Some e → IsTop es e
-  pub ends : (n : ℕ) (e : Entry) → slice_get es n ≡ Some e → (offset_of e) + len_in (green_of e) ≤ byte_limit
+  pub ends : (n : ℕ) (e : Entry) → slice_get es n ≡ Some e → offset_of e + len_in (green_of e) ≤ byte_limit
   pub firsts : (n : ℕ) (e : Entry) → slice_get es n ≡ Some e → e.first_child ≡ counts (take n es) + 1
   pub earlier : (n : ℕ) (e : Entry) → slice_get es n ≡ Some e → 0 < n → e.parent < n
   pub parents : (n : ℕ) (e p : Entry) → slice_get es n ≡ Some e → 0 < n → slice_get es e.parent ≡ Some p → IsChildOf p n e
@@ -117,8 +117,8 @@ pub record IsBelow (es : List Entry) (n : ℕ) (e : Entry) : Type 0 where
 pub record IsEntry (es : List Entry) (n : ℕ) (e : Entry) : Type 0 where
   pub at : slice_get es n ≡ Some e
   pub green : option_map into_node (subterm (Node (root_of es)) (path_at es n)) ≡ Some (green_of e)
-  pub start : offset (Node (root_of es)) (path_at es n) ≡ (offset_of e)
-  pub end : (offset_of e) + len_of (subterm (Node (root_of es)) (path_at es n)) ≤ byte_limit
+  pub start : offset (Node (root_of es)) (path_at es n) ≡ offset_of e
+  pub end : offset_of e + len_of (subterm (Node (root_of es)) (path_at es n)) ≤ byte_limit
   pub index : last_place (path_at es n) ≡ index_of es n e
   pub below : 0 < n → IsBelow es n e
   pub children : IsRow es e.first_child (e.first_child + length (children_in (green_of e))) (child_paths (root_of es) (path_at es n))

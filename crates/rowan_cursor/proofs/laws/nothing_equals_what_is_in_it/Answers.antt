@@ -1,16 +1,12 @@
-use Rattle.std.proofs.Common.{◌≡◌, Bool, true, false, ◌==◌, refl}
-use Rattle.std.proofs.lemmas.Bool.{and_parts}
+use Rattle.std.proofs.Common.{◌==◌}
+use Rattle.std.proofs.lemmas.Bool.{and_parts, false_from_ne_true}
 use Rattle.rowan_cursor.specs.Cursor.{term_at}
 use Rattle.rowan_cursor.specs.Equal.{start_of, same_place, same_if_some, same_if_some-decides}
 use Rattle.rowan_cursor.proofs.SizeLemmas.{not_same-below}
 use Rattle.rowan_cursor.proofs.laws.nothing_equals_what_is_in_it.Goals as goal
 
-not-true : (b : Bool) → (b ≡ true → ⊥) → b ≡ false
-not-true false h = refl
-not-true true h = absurd (h refl)
-
 pub returns : goal.returns
 returns c = λ a b i q t root path there.
-    not-true (same_place a b) (λ h.
+    false_from_ne_true (same_place a b) (λ h.
     let p = and_parts (start_of a == start_of b) (same_if_some (term_at a) (term_at b)) h in
     not_same-below a b i q t root path there ((same_if_some-decides (term_at a) (term_at b)).0 p.1))

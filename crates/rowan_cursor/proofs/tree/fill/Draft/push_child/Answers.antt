@@ -1,12 +1,13 @@
 use Rattle.std.proofs.Common.{◌≡◌, ◌+◌, [], ◌∷◌, ◌++◌, length, Some, refl, sym, ◌∙◌, ap, subst, arith}
 use Rattle.std.specs.Prelude.{slice_get}
+use Rattle.std.proofs.lemmas.List.Sums.{sum_by_push}
 use Rattle.std.proofs.lemmas.Option.{slice_get_read}
 use Rattle.rowan_green.specs.Lent.{pointee}
 use Rattle.rowan_green.specs.Search.{child_start}
 use Rattle.rowan_green.specs.Term.{node_children}
-use Rattle.rowan_cursor.specs.Table.{children_in, counts, green_in, offset_in, offset_of, IsFilling}
+use Rattle.rowan_cursor.specs.Table.{children_in, counts, green_in, green_of, offset_in, offset_of, IsFilling}
 use Rattle.rowan_cursor.specs.declared.tree.Entry.{Entry}
-use Rattle.rowan_cursor.proofs.FillLemmas.{IsNextChild, IsFilling-push, next_child, GrowsBy-next, start_within, counts-push}
+use Rattle.rowan_cursor.proofs.FillLemmas.{IsNextChild, IsFilling-push, next_child, GrowsBy-next, start_within}
 use Rattle.rowan_cursor.proofs.tree.fill.Draft.push_child.Goals as goal
 
 pub unreachable-requires : goal.unreachable-requires
@@ -48,7 +49,7 @@ invariant_of-self-2 c =
     let items : c.push.new.self.items ≡ es ++ y ∷ [] = c.in_ok-push.ensures.items in
     record {
       filling = subst IsFilling (sym items) (IsFilling-push es above y s.filling next);
-      next = omega (arith, c.in-Some-checked_add.ensures.1, s.next, ap counts items, counts-push es y, c.child_count-child_count.ensures.count);
+      next = omega (arith, c.in-Some-checked_add.ensures.1, s.next, ap counts items, sum_by_push (λ (x : Entry). length (children_in (green_of x))) es y, c.child_count-child_count.ensures.count);
       bits = omega (arith, c.in-Some-checked_add.ensures.0);
     }
 
