@@ -12,7 +12,7 @@ const CALLS: [&str; 29] = [
 ];
 
 // Some entries: number, parent, index, offset, first child and number of children.
-const ENTRIES: [(usize, usize, usize, u32, usize, usize); 6] = [
+const ENTRIES: [(usize, u32, usize, u32, usize, usize); 6] = [
     (0, 0, 0, 0, 1, 1),
     (1, 0, 0, 0, 2, 7),
     (5, 1, 3, 3, 10, 7),
