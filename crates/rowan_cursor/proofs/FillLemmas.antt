@@ -1,28 +1,64 @@
 -- Laws of filling a table: what one more entry leaves true, and what is left to be done.
-use Rattle.std.proofs.Common.{◌≡◌, ℕ, zero, suc, ◌+◌, ◌-◌, ◌<◌, ◌≤◌, inl, inr, List, [], ◌∷◌, ◌++◌, map, length, take, drop, Some, refl, sym, ◌∙◌, ap, subst, arith, length-append, append_assoc}
-use Rattle.std.specs.Prelude.{Option, slice_get}
+use Rattle.std.proofs.Common.{◌≡◌, ℕ, zero, suc, ◌+◌, ◌-◌, ◌<◌, ◌≤◌, ◌≢◌, ◌⊎◌, inl, inr, List, [], ◌∷◌, ◌++◌, map, length, take, drop, Some, refl, sym, ◌∙◌, ap, subst, arith, length-append, append_assoc}
+use Rattle.std.specs.Prelude.{Option, slice_get, slice_set}
 use Rattle.std.specs.Option.{option_map}
-use Rattle.std.proofs.lemmas.List.{take-append-le, take_all, length-take-le, map-append, length-map, take_more, drop-append-le}
+use Rattle.std.proofs.Math.Seq.{map-set_same}
+use Rattle.std.proofs.lemmas.List.{take-append-le, take_all, take-map, length-take-le, length-set, append-nil, map-append, length-map, take_more, drop-append-le}
 use Rattle.std.proofs.lemmas.Option.{slice_get_within, same_Some, get_or_from_slice_get}
 use Rattle.rowan_green.specs.declared.utility_types.NodeOrToken.TheVariants.{Node, Token}
 use Rattle.rowan_green.specs.Fits.{byte_limit, Fits, FitsNode}
 use Rattle.rowan_green.specs.Lent.{into_node}
 use Rattle.rowan_green.specs.Search.{child_start}
 use Rattle.rowan_green.specs.Sizes.{term_size, terms_size}
-use Rattle.rowan_green.specs.Term.{NodeTerm, node, Term, node_children, term_len, sum_of_lens}
+use Rattle.rowan_green.specs.Term.{NodeTerm, node, Term, terms, node_children, node_len, term_len, sum_of_lens}
 use Rattle.rowan_green.proofs.CacheLemmas.{slice_get-grown, slice_get-cases}
 use Rattle.rowan_green.proofs.Drops.{terms_size-node_children}
 use Rattle.rowan_green.proofs.SearchLemmas.{child_start-le_all}
-use Rattle.rowan_cursor.specs.Table.{node_in, root_of, green_of, offset_of, children_in, len_in, counts, IsTop, IsChildOf, IsFilling, GrowsBy}
+use Rattle.rowan_cursor.specs.Draft.{IsDraft, GrowsBy}
+use Rattle.rowan_cursor.specs.Table.{node_in, root_of, green_of, offset_of, green_in, offset_in, children_in, len_in, counts, IsTop, IsChildOf}
 use Rattle.rowan_cursor.specs.declared.tree.Entry.{Entry}
 use Rattle.rowan_cursor.proofs.PathLemmas.{node_len-children}
 use Rattle.rowan_cursor.proofs.TableLemmas.{counts-more, child_end, sum_of_lens-children}
 
 -- ---- lists
 
-root_of-grown : (es ys : List Entry) → 0 < length es → root_of (es ++ ys) ≡ root_of es
-root_of-grown [] ys h = absurd (omega arith)
-root_of-grown (e ∷ es) ys h = refl
+set_cases : {A : Type 0} (xs : List A) (i : ℕ) (y x : A) (n : ℕ) → slice_get (slice_set xs i y) n ≡ Some x
+    → ((n ≡ i) × (y ≡ x)) ⊎ ((n ≢ i) × (slice_get xs n ≡ Some x))
+set_cases [] i y x n e = absurd cc
+set_cases (z ∷ xs) zero y x zero e = inl (refl, same_Some y x e)
+set_cases (z ∷ xs) zero y x (suc n) e = inr (omega arith, e)
+set_cases (z ∷ xs) (suc i) y x zero e = inr (omega arith, e)
+set_cases (z ∷ xs) (suc i) y x (suc n) e =
+    elim (set_cases xs i y x n e) [ inl h ↦ inl (ap suc h.0, h.1) | inr h ↦ inr (omega (arith, h.0), h.1) ]
+
+pub slice_get-set_same : {A : Type 0} (xs : List A) (i : ℕ) (y : A) → i < length xs → slice_get (slice_set xs i y) i ≡ Some y
+slice_get-set_same [] i y h = absurd (omega arith)
+slice_get-set_same (x ∷ xs) zero y h = refl
+slice_get-set_same (x ∷ xs) (suc i) y h = slice_get-set_same xs i y (omega arith)
+
+-- ---- what depends on the nodes alone
+
+root_of-grown : (es ds : List Entry) (gs : List (Option NodeTerm)) → 0 < length es → map green_of ds ≡ map green_of es ++ gs → root_of ds ≡ root_of es
+root_of-grown [] ds gs some h = absurd (omega arith)
+root_of-grown (e ∷ es) [] gs some h = absurd cc
+root_of-grown (e ∷ es) (d ∷ ds) gs some h =
+    let same : green_of d ≡ green_of e = cc in
+    ap node_in same
+
+counts-greens : (es ds : List Entry) → map green_of ds ≡ map green_of es → counts ds ≡ counts es
+counts-greens [] [] h = refl
+counts-greens [] (d ∷ ds) h = absurd cc
+counts-greens (e ∷ es) [] h = absurd cc
+counts-greens (e ∷ es) (d ∷ ds) h =
+    let first : green_of d ≡ green_of e = cc in
+    let rest : map green_of ds ≡ map green_of es = cc in
+    omega (arith, ap (λ g. length (children_in g)) first, counts-greens es ds rest)
+
+counts-front : (es ds : List Entry) (gs : List (Option NodeTerm)) (n : ℕ) → n ≤ length es → map green_of ds ≡ map green_of es ++ gs
+    → counts (take n ds) ≡ counts (take n es)
+counts-front es ds gs n within h = counts-greens (take n es) (take n ds) (
+    sym (take-map green_of n ds) ∙ ap (take n) h
+    ∙ take-append-le n (map green_of es) gs (omega (arith, length-map es green_of)) ∙ take-map green_of n es)
 
 -- ---- lengths
 
@@ -35,39 +71,41 @@ Fits-len (Token t) h = h
 pub record IsNextChild (es : List Entry) (p e : Entry) : Type 0 where
   pub above : slice_get es e.parent ≡ Some p
   pub is : IsChildOf p (length es) e
-  pub first : e.first_child ≡ counts es + 1
   pub end : offset_of e + len_in (green_of e) ≤ byte_limit
 
-IsTop-push : (es : List Entry) (y e : Entry) → 0 < length es → IsTop es e → IsTop (es ++ y ∷ []) e
-IsTop-push es y e some t = record {
-  green = t.green ∙ ap (λ (n : NodeTerm). Some n) (sym (root_of-grown es (y ∷ []) some));
-  start = t.start;
+IsTop-grown : (es ds : List Entry) (gs : List (Option NodeTerm)) (d e : Entry) → 0 < length es → map green_of ds ≡ map green_of es ++ gs → d.kept ≡ e.kept
+    → IsTop es d → IsTop ds e
+IsTop-grown es ds gs d e some h kept t = record {
+  green = ap green_in (sym kept) ∙ t.green ∙ ap (λ (n : NodeTerm). Some n) (sym (root_of-grown es ds gs some h));
+  start = ap offset_in (sym kept) ∙ t.start;
 }
 
 IsChildOf-at : (p : Entry) (m n : ℕ) (d e : Entry) → IsChildOf p m d → n ≡ m → d ≡ e → IsChildOf p n e
 IsChildOf-at p m n d e c h k =
     subst (λ (x : Entry). IsChildOf p n x) k (subst (λ i. IsChildOf p i d) (sym h) c)
 
-pub IsFilling-push : (es : List Entry) (p y : Entry) → IsFilling es → IsNextChild es p y → IsFilling (es ++ y ∷ [])
-IsFilling-push es p y t next = record {
+pub IsDraft-push : (done : ℕ) (es : List Entry) (p y : Entry) → IsDraft done es → IsNextChild es p y → y.parent < done → done ≤ length es
+    → IsDraft done (es ++ y ∷ [])
+IsDraft-push done es p y t next above_done all_there = record {
   some = omega (arith, length-append es (y ∷ []), t.some);
-  top = λ e at. elim (slice_get-cases es y 0 e at) [ inl h ↦ IsTop-push es y e t.some (t.top e h) | inr h ↦ absurd (omega (arith, h.0, t.some)) ];
+  top = λ e at. elim (slice_get-cases es y 0 e at) [
+    | inl h ↦ IsTop-grown es (es ++ y ∷ []) (green_of y ∷ []) e e t.some (map-append green_of es (y ∷ [])) refl (t.top e h)
+    | inr h ↦ absurd (omega (arith, h.0, t.some))
+  ];
   ends = λ n e at. elim (slice_get-cases es y n e at) [ inl h ↦ t.ends n e h | inr h ↦ subst (λ (x : Entry). offset_of x + len_in (green_of x) ≤ byte_limit) h.1 next.end ];
-  firsts = λ n e at. elim (slice_get-cases es y n e at) [
-    | inl h ↦ t.firsts n e h ∙ ap (λ ds. counts ds + 1) (sym (take-append-le n es (y ∷ []) (omega (arith, slice_get_within es n e h))))
-    | inr h ↦
-        subst (λ (x : Entry). x.first_child ≡ counts (take n (es ++ y ∷ [])) + 1) h.1
-        (next.first ∙ ap (λ ds. counts ds + 1) (sym (take-append-le n es (y ∷ []) (omega (arith, h.0)) ∙ take_all n es (omega (arith, h.0)))))
+  firsts = λ n e at before. elim (slice_get-cases es y n e at) [
+    | inl h ↦ t.firsts n e h before ∙ ap (λ ds. counts ds + 1) (sym (take-append-le n es (y ∷ []) (omega (arith, slice_get_within es n e h))))
+    | inr h ↦ absurd (omega (arith, h.0))
   ];
   earlier = λ n e at behind. elim (slice_get-cases es y n e at) [
     | inl h ↦ t.earlier n e h behind
-    | inr h ↦ subst (λ (x : Entry). x.parent < n) h.1 (omega (arith, h.0, slice_get_within es y.parent p next.above))
+    | inr h ↦ subst (λ (x : Entry). (x.parent < n) × (x.parent < done)) h.1 (omega (arith, h.0), above_done)
   ];
   parents = λ n e q at behind above. elim (slice_get-cases es y n e at) [
     | inl h ↦
         elim (slice_get-cases es y e.parent q above) [
           | inl k ↦ t.parents n e q h behind k
-          | inr k ↦ absurd (omega (arith, slice_get_within es n e h, k.0, t.earlier n e h behind))
+          | inr k ↦ absurd (omega (arith, slice_get_within es n e h, k.0, (t.earlier n e h behind).0))
         ]
     | inr h ↦
         let same : slice_get (es ++ y ∷ []) y.parent ≡ Some p = slice_get-grown es (y ∷ []) y.parent p next.above in
@@ -80,10 +118,10 @@ len_of-kept : (t : Term) → len_in (into_node t) ≤ term_len t
 len_of-kept (Node n) = omega arith
 len_of-kept (Token t) = omega arith
 
-pub next_child : (es : List Entry) → IsFilling es → (p y : Entry) (n : NodeTerm) (i : ℕ) (u : Term) → slice_get es y.parent ≡ Some p → green_of p ≡ Some n → length es ≡ p.first_child + i
+pub next_child : (done : ℕ) (es : List Entry) → IsDraft done es → (p y : Entry) (n : NodeTerm) (i : ℕ) (u : Term) → slice_get es y.parent ≡ Some p → green_of p ≡ Some n → length es ≡ p.first_child + i
     → slice_get (node_children n) i ≡ Some u → green_of y ≡ into_node u → offset_of y ≡ offset_of p + child_start (node_children n) i
-    → y.first_child ≡ counts es + 1 → IsNextChild es p y
-next_child es t p y n i u at is place child kept start first =
+    → IsNextChild es p y
+next_child done es t p y n i u at is place child kept start =
     let index : i ≡ length es - p.first_child = omega arith in
     let terms : node_children n ≡ children_in (green_of p) = ap children_in (sym is) in
     let here : option_map into_node (slice_get (node_children n) i) ≡ Some (green_of y) =
@@ -95,8 +133,85 @@ next_child es t p y n i u at is place child kept start first =
         child = ap (λ ts. option_map into_node (slice_get ts (length es - p.first_child))) (sym terms) ∙ ap (λ k. option_map into_node (slice_get (node_children n) k)) (sym index) ∙ here;
         start = start ∙ ap (λ k. offset_of p + child_start (node_children n) k) index ∙ ap (λ ts. offset_of p + child_start ts (length es - p.first_child)) terms;
       };
-      first = first;
       end = omega (arith, start, child_end (Node n) i u child, ap len_in is, t.ends y.parent p at, ap len_in kept, len_of-kept u);
+    }
+
+-- ---- an entry gets the number of its first child
+
+-- the entry that stood there before entry i got that number
+record WasEntry (es : List Entry) (i n : ℕ) (e : Entry) : Type 0 where
+  pub was : Entry
+  pub at : slice_get es n ≡ Some was
+  pub kept : was.kept ≡ e.kept
+  pub above : was.parent ≡ e.parent
+  pub other : n ≢ i → was ≡ e
+
+-- an entry like the one at i, but perhaps for the number of its first child
+pub record IsAlike (es : List Entry) (i : ℕ) (d y : Entry) : Type 0 where
+  pub at : slice_get es i ≡ Some d
+  pub kept : d.kept ≡ y.kept
+  pub above : d.parent ≡ y.parent
+
+was_entry : (es : List Entry) (i : ℕ) (d y : Entry) → IsAlike es i d y → (n : ℕ) (e : Entry) → slice_get (slice_set es i y) n ≡ Some e → WasEntry es i n e
+was_entry es i d y a n e at = elim (set_cases es i y e n at) [
+  | inl h ↦ record {
+    was = d;
+    at = ap (slice_get es) h.0 ∙ a.at;
+    kept = a.kept ∙ ap (λ (x : Entry). x.kept) h.1;
+    above = a.above ∙ ap (λ (x : Entry). x.parent) h.1;
+    other = λ o. absurd (o h.0);
+  }
+  | inr h ↦ record {
+    was = e;
+    at = h.1;
+    kept = refl;
+    above = refl;
+    other = λ o. refl;
+  }
+]
+
+pub greens-set : (es : List Entry) (i : ℕ) (d y : Entry) → IsAlike es i d y → map green_of (slice_set es i y) ≡ map green_of es
+greens-set es i d y a =
+    map-set_same green_of es i y d (ap green_in (sym a.kept) ∙ ap green_of (sym (get_or_from_slice_get es i d d a.at)))
+
+IsChildOf-kept : (p : Entry) (n : ℕ) (d e : Entry) → d.kept ≡ e.kept → IsChildOf p n d → IsChildOf p n e
+IsChildOf-kept p n d e kept c = record {
+  place = c.place;
+  child = c.child ∙ ap (λ k. Some (green_in k)) kept;
+  start = ap offset_in (sym kept) ∙ c.start;
+}
+
+first_of : (es : List Entry) (i : ℕ) (y : Entry) → IsDraft i es → y.first_child ≡ counts (take i es) + 1 → (n : ℕ) (e : Entry) → slice_get (slice_set es i y) n ≡ Some e → n < i + 1
+    → e.first_child ≡ counts (take n es) + 1
+first_of es i y t first n e at before = elim (set_cases es i y e n at) [
+  | inl h ↦ ap (λ (x : Entry). x.first_child) (sym h.1) ∙ first ∙ ap (λ m. counts (take m es) + 1) (sym h.0)
+  | inr h ↦ t.firsts n e h.1 (omega (arith, h.0))
+]
+
+pub IsDraft-next : (es : List Entry) (i : ℕ) (d y : Entry) → IsDraft i es → IsAlike es i d y → y.first_child ≡ counts (take i es) + 1 → IsDraft (i + 1) (slice_set es i y)
+IsDraft-next es i d y t a first =
+    let same : map green_of (slice_set es i y) ≡ map green_of es ++ [] = greens-set es i d y a ∙ sym (append-nil (map green_of es)) in
+    let within : i < length es = slice_get_within es i d a.at in
+    record {
+      some = omega (arith, length-set es i y, t.some);
+      top = λ e at.
+          let w = was_entry es i d y a 0 e at in
+          IsTop-grown es (slice_set es i y) [] w.was e t.some same w.kept (t.top w.was w.at);
+      ends = λ n e at.
+          let w = was_entry es i d y a n e at in
+          omega (arith, t.ends n w.was w.at, ap offset_in w.kept, ap (λ k. len_in (green_in k)) w.kept);
+      firsts = λ n e at before.
+          first_of es i y t first n e at before ∙ ap (λ k. k + 1) (sym (counts-front es (slice_set es i y) [] n (omega arith) same));
+      earlier = λ n e at behind.
+          let w = was_entry es i d y a n e at in
+          let h = t.earlier n w.was w.at behind in
+          (omega (arith, h.0, w.above), omega (arith, h.1, w.above));
+      parents = λ n e p at behind up.
+          let w = was_entry es i d y a n e at in
+          let v = was_entry es i d y a e.parent p up in
+          let h = t.earlier n w.was w.at behind in
+          let is : v.was ≡ p = v.other (omega (arith, h.1, w.above)) in
+          IsChildOf-kept p n w.was e w.kept (subst (λ (x : Entry). IsChildOf x n w.was) is (t.parents n w.was v.was w.at behind (ap (slice_get es) w.above ∙ v.at)));
     }
 
 -- ---- what was added
@@ -114,6 +229,13 @@ pub GrowsBy-next : (old new : List Entry) (p y : Entry) (i : ℕ) (u : Term) →
 GrowsBy-next old new p y i u grown above kept is e t at child =
     GrowsBy-child old new p y i u grown kept is t (subst (λ (x : Entry). slice_get (children_in (green_of x)) i ≡ Some t) (same_Some e p (sym at ∙ above)) child)
 
+pub GrowsBy-none : (es : List Entry) → GrowsBy es es []
+GrowsBy-none es = record {
+  row = [];
+  grown = sym (append-nil es);
+  greens = refl;
+}
+
 pub GrowsBy-then : (a b c : List Entry) (ts us : List Term) → GrowsBy a b ts → GrowsBy b c us → GrowsBy a c (ts ++ us)
 GrowsBy-then a b c ts us g h = record {
   row = g.row ++ h.row;
@@ -129,9 +251,9 @@ GrowsBy-length a b ts g =
     omega (arith, ap length g.grown, length-append a g.row, ap length g.greens, length-map g.row green_of, length-map ts into_node)
 
 -- a child starts within the limit
-pub start_within : (es : List Entry) → IsFilling es → (parent : ℕ) (p : Entry) (n : NodeTerm) → slice_get es parent ≡ Some p → green_of p ≡ Some n → (i : ℕ)
+pub start_within : (done : ℕ) (es : List Entry) → IsDraft done es → (parent : ℕ) (p : Entry) (n : NodeTerm) → slice_get es parent ≡ Some p → green_of p ≡ Some n → (i : ℕ)
     → offset_of p + sum_of_lens (take i (node_children n)) ≤ byte_limit
-start_within es t parent p n at is i =
+start_within done es t parent p n at is i =
     omega (arith, t.ends parent p at, ap len_in is, child_start-le_all (node_children n) i, sum_of_lens-children (Node n))
 
 -- ---- all children of an entry, one after the other
@@ -145,13 +267,18 @@ pub GrowsBy-all : (a b : List Entry) (ts : List Term) (i : ℕ) → length ts �
 GrowsBy-all a b ts i h g = subst (λ us. GrowsBy a b us) (take_all i ts h) g
 
 -- the next child's number
-pub child_place : (es ds : List Entry) → IsFilling es → (parent i : ℕ) (p e : Entry) → slice_get es parent ≡ Some p → length es ≡ counts (take parent es) + 1 → i < length (children_in (green_of p))
+pub child_place : (es ds : List Entry) (parent i : ℕ) (p e : Entry) → slice_get es parent ≡ Some p → length es ≡ p.first_child → i < length (children_in (green_of p))
     → GrowsBy es ds (take i (children_in (green_of p))) → slice_get ds parent ≡ Some e → (i < length (children_in (green_of e))) × (length ds ≡ e.first_child + i)
-child_place es ds t parent i p e at place less g found =
+child_place es ds parent i p e at place less g found =
     let same : p ≡ e = same_Some p e (sym (GrowsBy-at es ds (take i (children_in (green_of p))) parent p g at) ∙ found) in
     let here : (i < length (children_in (green_of p))) × (length ds ≡ p.first_child + i) =
-    (less, omega (arith, t.firsts parent p at, place, GrowsBy-length es ds (take i (children_in (green_of p))) g, length-take-le i (children_in (green_of p)) (omega arith))) in
+    (less, omega (arith, place, GrowsBy-length es ds (take i (children_in (green_of p))) g, length-take-le i (children_in (green_of p)) (omega arith))) in
     subst (λ (x : Entry). (i < length (children_in (green_of x))) × (length ds ≡ x.first_child + i)) same here
+
+-- the nodes and tokens that were added, also where an entry got the number of its first child before
+pub greens-grown : (old es ds : List Entry) (ts : List Term) → map green_of es ≡ map green_of old → GrowsBy es ds ts → map green_of ds ≡ map green_of old ++ map into_node ts
+greens-grown old es ds ts same g =
+    ap (map green_of) g.grown ∙ map-append green_of es g.row ∙ ap (λ vs. vs ++ map green_of g.row) same ∙ ap (λ vs. map green_of old ++ vs) g.greens
 
 -- ---- the root alone
 
@@ -162,7 +289,6 @@ one_case y e n at =
 pub record IsRootEntry (y : Entry) (root : NodeTerm) : Type 0 where
   pub green : green_of y ≡ Some root
   pub start : offset_of y ≡ 0
-  pub first : y.first_child ≡ 1
   pub fits : FitsNode root
 
 IsTop-one : (y : Entry) (root : NodeTerm) → IsRootEntry y root → IsTop (y ∷ []) y
@@ -171,14 +297,12 @@ IsTop-one y root r = record {
   start = r.start;
 }
 
-pub IsFilling-one : (y : Entry) (root : NodeTerm) → IsRootEntry y root → IsFilling (y ∷ [])
-IsFilling-one y root r = record {
+pub IsDraft-one : (y : Entry) (root : NodeTerm) → IsRootEntry y root → IsDraft 0 (y ∷ [])
+IsDraft-one y root r = record {
   some = omega arith;
   top = λ e at. subst (λ (x : Entry). IsTop (y ∷ []) x) (one_case y e 0 at).1 (IsTop-one y root r);
   ends = λ n e at. subst (λ (x : Entry). offset_of x + len_in (green_of x) ≤ byte_limit) (one_case y e n at).1 (omega (arith, r.start, ap len_in r.green, Fits-len (Node root) r.fits));
-  firsts = λ n e at.
-      let c = one_case y e n at in
-      subst (λ (x : Entry). x.first_child ≡ counts (take n (y ∷ [])) + 1) c.1 (omega (arith, r.first, ap (λ m. counts (take m (y ∷ []))) c.0));
+  firsts = λ n e at before. absurd (omega arith);
   earlier = λ n e at behind. absurd (omega (arith, (one_case y e n at).0));
   parents = λ n e p at behind above. absurd (omega (arith, (one_case y e n at).0));
 }
@@ -186,15 +310,16 @@ IsFilling-one y root r = record {
 -- ---- one entry after the other
 
 -- the entries before an entry have their children, and then it has its own
-pub next_done : (es ds : List Entry) → IsFilling es → (done : ℕ) (e : Entry) → slice_get es done ≡ Some e → length es ≡ counts (take done es) + 1
-    → GrowsBy es ds (children_in (green_of e)) → (done + 1 ≤ length ds) × (length ds ≡ counts (take (done + 1) ds) + 1) × (root_of ds ≡ root_of es)
-next_done es ds t done e at place g =
+pub next_done : (es ds : List Entry) (done : ℕ) (e : Entry) → slice_get es done ≡ Some e → length es ≡ counts (take done es) + 1
+    → map green_of ds ≡ map green_of es ++ map into_node (children_in (green_of e)) → (done + 1 ≤ length ds) × (length ds ≡ counts (take (done + 1) ds) + 1) × (root_of ds ≡ root_of es)
+next_done es ds done e at place g =
     let within : done < length es = slice_get_within es done e at in
-    let longer : length ds ≡ length es + length (children_in (green_of e)) = GrowsBy-length es ds (children_in (green_of e)) g in
-    let front : take (done + 1) ds ≡ take (done + 1) es = ap (take (done + 1)) g.grown ∙ take-append-le (done + 1) es g.row (omega arith) in (
+    let ts = children_in (green_of e) in
+    let longer : length ds ≡ length es + length ts =
+    omega (arith, ap length g, length-append (map green_of es) (map into_node ts), length-map ds green_of, length-map es green_of, length-map ts into_node) in (
       omega arith,
-      omega (arith, ap counts front, counts-more es done e at),
-      ap root_of g.grown ∙ root_of-grown es g.row t.some,
+      omega (arith, counts-front es ds (map into_node ts) (done + 1) (omega arith) g, counts-more es done e at),
+      root_of-grown es ds (map into_node ts) (omega arith) g,
     )
 
 -- how much is left: the entries from one on, and what is below their nodes
@@ -203,7 +328,7 @@ sizes [] = 0
 sizes (g ∷ gs) = 1 + terms_size (children_in g) + sizes gs
 
 abbrev pub left_from : ℕ → List Entry → ℕ
-left_from n es = sizes (map green_of (drop n es))
+left_from n es = sizes (drop n (map green_of es))
 
 sizes-append : (gs hs : List (Option NodeTerm)) → sizes (gs ++ hs) ≡ sizes gs + sizes hs
 sizes-append [] hs = omega arith
@@ -223,12 +348,14 @@ left_from-first (x ∷ es) zero e at =
     ap (λ (y : Entry). 1 + terms_size (children_in (green_of y)) + sizes (map green_of es)) (same_Some x e at)
 left_from-first (x ∷ es) (suc n) e at = left_from-first es n e at
 
-left_from-grown : (es row : List Entry) (n : ℕ) → n ≤ length es → left_from n (es ++ row) ≡ left_from n es + sizes (map green_of row)
-left_from-grown es row n h =
-    ap (λ ds. sizes (map green_of ds)) (drop-append-le n es row h)
-    ∙ ap sizes (map-append green_of (drop n es) row) ∙ sizes-append (map green_of (drop n es)) (map green_of row)
+left_from-grown : (es ds : List Entry) (gs : List (Option NodeTerm)) (n : ℕ) → n ≤ length es → map green_of ds ≡ map green_of es ++ gs → left_from n ds ≡ left_from n es + sizes gs
+left_from-grown es ds gs n within h =
+    ap (λ vs. sizes (drop n vs)) h
+    ∙ ap sizes (drop-append-le n (map green_of es) gs (omega (arith, length-map es green_of))) ∙ sizes-append (drop n (map green_of es)) gs
 
-pub less_left : (es ds : List Entry) (done : ℕ) (e : Entry) → slice_get es done ≡ Some e → GrowsBy es ds (children_in (green_of e)) → left_from (done + 1) ds < left_from done es
+pub less_left : (es ds : List Entry) (done : ℕ) (e : Entry) → slice_get es done ≡ Some e → map green_of ds ≡ map green_of es ++ map into_node (children_in (green_of e))
+    → left_from (done + 1) ds < left_from done es
 less_left es ds done e at g =
     let next : suc done ≡ done + 1 = omega arith in
-    omega (arith, ap (λ n. left_from n es) next, ap (left_from (done + 1)) g.grown, left_from-grown es g.row (done + 1) (omega (arith, slice_get_within es done e at)), ap sizes g.greens, sizes-kept (children_in (green_of e)), left_from-first es done e at)
+    let ts = children_in (green_of e) in
+    omega (arith, ap (λ n. left_from n es) next, left_from-grown es ds (map into_node ts) (done + 1) (omega (arith, slice_get_within es done e at)) g, sizes-kept ts, left_from-first es done e at)

@@ -82,7 +82,7 @@ pub record IsChildOf (p : Entry) (n : ℕ) (e : Entry) : Type 0 where
   pub child : option_map into_node (slice_get (children_in (green_of p)) (n - p.first_child)) ≡ Some (green_of e)
   pub start : offset_of e ≡ offset_of p + child_start (children_in (green_of p)) (n - p.first_child)
 
--- a table to which entries may still be added
+-- the first entries of a table, as they stand in it
 pub record IsFilling (es : List Entry) : Type 0 where
   pub some : 0 < length es
   pub top : (e : Entry) → slice_get es 0 ≡ Some e → IsTop es e
@@ -126,9 +126,3 @@ pub record IsEntry (es : List Entry) (n : ℕ) (e : Entry) : Type 0 where
 -- the entry with this number is that of a node
 abbrev pub IsNodeEntry : List Entry → ℕ → Type 0
 IsNodeEntry es n = is_node_at (root_of es) (path_at es n) ≡ true
-
--- the entries that were added are those of these terms, in this order
-pub record GrowsBy (old new : List Entry) (ts : List Term) : Type 0 where
-  pub row : List Entry
-  pub grown : new ≡ old ++ row
-  pub greens : map green_of row ≡ map into_node ts

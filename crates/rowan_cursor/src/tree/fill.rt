@@ -1,11 +1,10 @@
 //! Filling a table: level by level, in one pass.
-ghost use Rattle.std.specs.Prelude.{◌≡◌, ◌+◌, ◌<◌, ◌≤◌, [], ◌∷◌, IfOk, IfErr, OnOk, Some, length, take, slice_get};
-ghost use Rattle.rowan_green.specs.Fits.{FitsNode};
+ghost use Rattle.std.specs.Prelude.{◌≡◌, ◌+◌, ◌<◌, ◌++◌, [], ◌∷◌, IfOk, IfErr, OnOk, Some, length, map, take, slice_get};
 ghost use Rattle.rowan_green.specs.Lent.{into_node, pointee};
-ghost use Rattle.rowan_green.specs.Term.{NodeTerm, Term};
-ghost use Rattle.rowan_cursor.specs.Table.{IsFilling, GrowsBy, children_in, counts, green_in, green_of, offset_in, root_of};
+ghost use Rattle.rowan_green.specs.Term.{Term};
+ghost use Rattle.rowan_cursor.specs.Draft.{IsDraft, GrowsBy};
+ghost use Rattle.rowan_cursor.specs.Table.{children_in, counts, green_in, green_of, offset_in, root_of};
 ghost use Rattle.rowan_cursor.specs.declared.tree.Entry.{Entry};
-ghost use Rattle.rowan_cursor.specs.TableProp.{IsFilling-prop};
 
 use super::{Entry, Kept, Tree};
 use rowan_green::fault::Fault;
@@ -14,38 +13,30 @@ use rowan_green::text::TextSize;
 use rowan_green::utility_types::NodeOrToken;
 use std::alloc::Global;
 
-/// A table in the making. The children of an entry get the numbers that follow those of all children of the entries before it.
+/// A table in the making. The entries get their children in order: those of one stand behind those of all before it.
+/// Until it gets them, an entry has 0 as its first child.
 #[derive(Drop)]
 pub(super) struct Draft {
     entries: Vec<Entry>,
-    next_child: u32,
-    ghost filling: { IsFilling entries.items } by { IsFilling-prop entries.items },
-    ghost next: { next_child ≡ counts entries.items + 1 },
-    ghost bits: { next_child < 4294967296 },
 }
 
 impl Draft {
     /// The entry of the root alone.
     pub(super) fn new(alloc: Global, green: GreenNode) -> Result<Draft, Fault>
+        ensures draft { IfOk result (λ draft. IsDraft 0 draft.entries.items) }
         ensures root { IfOk result (λ draft. root_of draft.entries.items ≡ green) }
         ensures one { IfOk result (λ draft. length draft.entries.items ≡ 1) }
         ensures err { IfErr result (λ e. e ≡ Fault.Memory) }
     {
-        let kept = Kept::OfNode(TextSize::from(0), green);
-        let child_count = child_count(&kept);
-        let Some(next_child) = child_count.checked_add(1) else {
-            return Err(Fault::Memory);
-        };
+        // What has a length is within the limits.
+        let _len = green.text_len();
         let mut entries = Vec::new(alloc);
         entries.push(Entry {
-            kept,
+            kept: Kept::OfNode(TextSize::from(0), green),
             parent: 0,
-            first_child: 1,
+            first_child: 0,
         })?;
-        Ok(Draft {
-            entries,
-            next_child,
-        })
+        Ok(Draft { entries })
     }
 
     /// How many entries there are.
@@ -55,15 +46,23 @@ impl Draft {
         self.entries.len()
     }
 
-    /// Adds the children of the first entry that has none in the table yet.
+    /// Adds the children of the next entry, and notes there where they start.
     pub(super) fn push_children(&mut self, parent: u32) -> Result<(), Fault>
         requires within { parent < length self.old.entries.items }
+        requires draft { IsDraft parent self.old.entries.items }
         requires place { length self.old.entries.items ≡ counts (take parent self.old.entries.items) + 1 }
-        ensures ok { OnOk result ((e : Entry) → slice_get self.old.entries.items parent ≡ Some e
-            → GrowsBy self.old.entries.items self.new.entries.items (children_in (green_of e))) }
+        ensures fits { OnOk result (length self.old.entries.items < 4294967296) }
+        ensures draft { OnOk result (IsDraft (parent + 1) self.new.entries.items) }
+        ensures grown { OnOk result ((e : Entry) → slice_get self.old.entries.items parent ≡ Some e
+            → map green_of self.new.entries.items ≡ map green_of self.old.entries.items ++ map into_node (children_in (green_of e))) }
         ensures err { IfErr result (λ e. e ≡ Fault.Memory) }
     {
-        let count = child_count(&self.entries[parent as usize].kept);
+        let Ok(first_child) = u32::try_from(self.entries.len()) else {
+            return Err(Fault::Memory);
+        };
+        let entry = &mut self.entries[parent as usize];
+        entry.first_child = first_child;
+        let count = child_count(&entry.kept);
         for index in 0..count {
             self.push_child(parent, index)?;
         }
@@ -73,9 +72,11 @@ impl Draft {
     // Adds the child at an index, whose number is the next.
     fn push_child(&mut self, parent: u32, index: u32) -> Result<(), Fault>
         requires within { parent < length self.old.entries.items }
+        requires draft { IsDraft (parent + 1) self.old.entries.items }
         requires place { (e : Entry) → slice_get self.old.entries.items parent ≡ Some e
             → (index < length (children_in (green_of e))) × (length self.old.entries.items ≡ e.first_child + index) }
-        ensures ok { OnOk result ((e : Entry) (t : Term) → slice_get self.old.entries.items parent ≡ Some e
+        ensures draft { OnOk result (IsDraft (parent + 1) self.new.entries.items) }
+        ensures grown { OnOk result ((e : Entry) (t : Term) → slice_get self.old.entries.items parent ≡ Some e
             → slice_get (children_in (green_of e)) index ≡ Some t → GrowsBy self.old.entries.items self.new.entries.items (t ∷ [])) }
         ensures err { IfErr result (λ e. e ≡ Fault.Memory) }
     {
@@ -88,37 +89,28 @@ impl Draft {
         };
         let (start, child) = found;
         let kept = kept(TextSize::from(u32::from(*offset) + u32::from(start)), child)?;
-        let child_count = child_count(&kept);
-        let first_child = self.next_child;
-        let Some(next_child) = first_child.checked_add(child_count) else {
-            return Err(Fault::Memory);
-        };
         self.entries.push(Entry {
             kept,
             parent,
-            first_child,
+            first_child: 0,
         })?;
-        self.next_child = next_child;
         Ok(())
     }
 
     /// The table, where all children of each entry are there.
     pub(super) fn finish(self) -> Tree
-        requires { length self.entries.items ≡ counts self.entries.items + 1 }
+        requires draft { IsDraft (length self.entries.items) self.entries.items }
+        requires whole { length self.entries.items ≡ counts self.entries.items + 1 }
         ensures { result.entries.items ≡ self.entries.items }
     {
-        let Draft {
-            entries,
-            next_child: _,
-        } = self;
+        let Draft { entries } = self;
         Tree { entries }
     }
 }
 
 // How many children a node has; a token has none.
 fn child_count(kept: &Kept) -> u32
-    ensures count { result ≡ length (children_in (green_in kept.now)) }
-    ensures fits { (n : NodeTerm) → green_in kept.now ≡ Some n → FitsNode n }
+    ensures { result ≡ length (children_in (green_in kept.now)) }
 {
     match kept {
         Kept::OfNode(_, node) => {

@@ -1,13 +1,13 @@
 use Rattle.std.proofs.Common.{◌≡◌, ◌+◌, [], ◌∷◌, ◌++◌, length, Some, refl, sym, ◌∙◌, ap, subst, arith}
 use Rattle.std.specs.Prelude.{slice_get}
-use Rattle.std.proofs.lemmas.List.Sums.{sum_by_push}
 use Rattle.std.proofs.lemmas.Option.{slice_get_read}
 use Rattle.rowan_green.specs.Lent.{pointee}
 use Rattle.rowan_green.specs.Search.{child_start}
 use Rattle.rowan_green.specs.Term.{node_children}
-use Rattle.rowan_cursor.specs.Table.{children_in, counts, green_in, green_of, offset_in, offset_of, IsFilling}
+use Rattle.rowan_cursor.specs.Draft.{IsDraft}
+use Rattle.rowan_cursor.specs.Table.{children_in, green_in, offset_in, offset_of}
 use Rattle.rowan_cursor.specs.declared.tree.Entry.{Entry}
-use Rattle.rowan_cursor.proofs.FillLemmas.{IsNextChild, IsFilling-push, next_child, GrowsBy-next, start_within}
+use Rattle.rowan_cursor.proofs.FillLemmas.{IsNextChild, IsDraft-push, next_child, GrowsBy-next, start_within}
 use Rattle.rowan_cursor.proofs.tree.fill.Draft.push_child.Goals as goal
 
 pub unreachable-requires : goal.unreachable-requires
@@ -29,11 +29,11 @@ overflow_add-from c =
     let s = c.args.self.now in
     let above = c.index-above.result.now in
     let at : slice_get s.entries.items c.args.parent ≡ Some above = slice_get_read s.entries.items _ c.args.parent above refl c.requires.within c.index-above.ensures in
-    let limit = start_within s.entries.items s.filling c.args.parent above c.in-OfNode.node at (ap green_in c.in-OfNode.is) c.args.index in
+    let limit = start_within (c.args.parent + 1) s.entries.items c.requires.draft c.args.parent above c.in-OfNode.node at (ap green_in c.in-OfNode.is) c.args.index in
     omega (arith, c.from.ensures, c.from-2.ensures, c.in-Some.ensures.some.0, ap offset_in c.in-OfNode.is, limit)
 
-pub invariant_of-self-2 : goal.invariant_of-self-2
-invariant_of-self-2 c =
+pub returns-clause-draft : goal.returns-clause-draft
+returns-clause-draft c =
     let s = c.args.self.now in
     let es = s.entries.items in
     let above = c.index-above.result.now in
@@ -42,19 +42,15 @@ invariant_of-self-2 c =
     let y : Entry = record {
       kept = c.in_ok-kept.kept;
       parent = c.args.parent;
-      first_child = s.next_child;
+      first_child = 0;
     } in
     let start : offset_of y ≡ offset_of above + child_start (node_children node) c.args.index = omega (arith, c.in_ok-kept.ensures.start, ap offset_in c.in-OfNode.is, c.from.ensures, c.from-2.ensures, c.from-3.ensures, c.in-Some.ensures.some.0) in
-    let next : IsNextChild es above y = next_child es s.filling above y node c.args.index (pointee c.in-Some.found.1) at (ap green_in c.in-OfNode.is) (c.requires.place above at).1 c.in-Some.ensures.some.1 c.in_ok-kept.ensures.green start s.next in
+    let next : IsNextChild es above y = next_child (c.args.parent + 1) es c.requires.draft above y node c.args.index (pointee c.in-Some.found.1) at (ap green_in c.in-OfNode.is) (c.requires.place above at).1 c.in-Some.ensures.some.1 c.in_ok-kept.ensures.green start in
     let items : c.push.new.self.items ≡ es ++ y ∷ [] = c.in_ok-push.ensures.items in
-    record {
-      filling = subst IsFilling (sym items) (IsFilling-push es above y s.filling next);
-      next = omega (arith, c.in-Some-checked_add.ensures.1, s.next, ap counts items, sum_by_push (λ (x : Entry). length (children_in (green_of x))) es y, c.child_count-child_count.ensures.count);
-      bits = omega (arith, c.in-Some-checked_add.ensures.0);
-    }
+    subst (IsDraft (c.args.parent + 1)) (sym items) (IsDraft-push (c.args.parent + 1) es above y c.requires.draft next (omega arith) (omega (arith, c.requires.within)))
 
-pub returns-clause-ok : goal.returns-clause-ok
-returns-clause-ok c =
+pub returns-clause-grown : goal.returns-clause-grown
+returns-clause-grown c =
     let s = c.args.self.now in
     let es = s.entries.items in
     let above = c.index-above.result.now in
@@ -62,7 +58,7 @@ returns-clause-ok c =
     let y : Entry = record {
       kept = c.in_ok-kept.kept;
       parent = c.args.parent;
-      first_child = s.next_child;
+      first_child = 0;
     } in
     let items : c.push.new.self.items ≡ es ++ y ∷ [] = c.in_ok-push.ensures.items in
     GrowsBy-next es c.push.new.self.items above y c.args.index (pointee c.in-Some.found.1) items at c.in_ok-kept.ensures.green (ap (λ k. slice_get (children_in (green_in k)) c.args.index) c.in-OfNode.is ∙ c.in-Some.ensures.some.1)

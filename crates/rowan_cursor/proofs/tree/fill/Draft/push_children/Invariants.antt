@@ -1,10 +1,13 @@
-use Rattle.std.proofs.Common.{◌≡◌, Some, take}
+use Rattle.std.proofs.Common.{◌≡◌, ◌+◌, Some, take}
 use Rattle.std.specs.Prelude.{slice_get}
-use Rattle.rowan_cursor.specs.Table.{GrowsBy, children_in, green_of}
+use Rattle.rowan_cursor.specs.Draft.{IsDraft, GrowsBy}
+use Rattle.rowan_cursor.specs.Table.{children_in, green_of}
 use Rattle.rowan_cursor.specs.declared.tree.Entry.{Entry}
 use Rattle.rowan_cursor.proofs.tree.fill.Draft.push_children.Given as goal
 
 abbrev pub invariant-loop-index : goal.invariant-loop-index
-invariant-loop-index l =
-    (e : Entry) → slice_get l.initial.self.entries.items l.parent ≡ Some e
-    → GrowsBy l.initial.self.entries.items l.self.entries.items (take l.index (children_in (green_of e)))
+invariant-loop-index l = record {
+  draft : IsDraft (l.parent + 1) l.self.entries.items;
+  grown : (e : Entry) → slice_get l.initial.self.entries.items l.parent ≡ Some e
+      → GrowsBy l.initial.self.entries.items l.self.entries.items (take l.index (children_in (green_of e)));
+}
