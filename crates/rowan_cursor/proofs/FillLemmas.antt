@@ -4,13 +4,14 @@ use Rattle.std.specs.Prelude.{Option, slice_get, slice_set}
 use Rattle.std.specs.Option.{option_map}
 use Rattle.std.proofs.Math.Seq.{map-set_same}
 use Rattle.std.proofs.lemmas.List.{take-append-le, take_all, take-map, length-take-le, length-set, append-nil, map-append, length-map, take_more, drop-append-le}
+use Rattle.std.proofs.lemmas.List.Sums.{sum_by-cons}
 use Rattle.std.proofs.lemmas.Option.{slice_get_within, same_Some, get_or_from_slice_get}
 use Rattle.rowan_green.specs.declared.utility_types.NodeOrToken.TheVariants.{Node, Token}
 use Rattle.rowan_green.specs.Fits.{byte_limit, Fits, FitsNode}
 use Rattle.rowan_green.specs.Lent.{into_node}
 use Rattle.rowan_green.specs.Search.{child_start}
 use Rattle.rowan_green.specs.Sizes.{term_size, terms_size}
-use Rattle.rowan_green.specs.Term.{NodeTerm, node, Term, terms, node_children, node_len, term_len, sum_of_lens}
+use Rattle.rowan_green.specs.Term.{NodeTerm, node, Term, node_children, term_len, sum_of_lens}
 use Rattle.rowan_green.proofs.CacheLemmas.{slice_get-grown, slice_get-cases}
 use Rattle.rowan_green.proofs.Drops.{terms_size-node_children}
 use Rattle.rowan_green.proofs.SearchLemmas.{child_start-le_all}
@@ -52,7 +53,8 @@ counts-greens (e ∷ es) [] h = absurd cc
 counts-greens (e ∷ es) (d ∷ ds) h =
     let first : green_of d ≡ green_of e = cc in
     let rest : map green_of ds ≡ map green_of es = cc in
-    omega (arith, ap (λ g. length (children_in g)) first, counts-greens es ds rest)
+    let count : Entry → ℕ = λ x. length (children_in (green_of x)) in
+    omega (arith, ap (λ g. length (children_in g)) first, counts-greens es ds rest, sum_by-cons count e es, sum_by-cons count d ds)
 
 counts-front : (es ds : List Entry) (gs : List (Option NodeTerm)) (n : ℕ) → n ≤ length es → map green_of ds ≡ map green_of es ++ gs
     → counts (take n ds) ≡ counts (take n es)
