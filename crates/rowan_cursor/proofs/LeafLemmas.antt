@@ -96,26 +96,26 @@ pub upto-all : (g : Lists) (t : Option Term) (p : Path) (i : ℕ) → length (ch
 upto-all g t p i h = ap (λ us. before g t p ++ map (λ q. p ++ q) (row g 0 us)) (take_all i (children_of (subterm_of t p)) h)
 
 -- The leaves of a node are those of its children, and so with its elements.
-leaves_from-row : (m : ℕ) (f : Forest) → map (λ l. l.0) (leaves_from m f) ≡ row leaf_list m (terms f)
-leaves_from-row m empty = refl
-leaves_from-row m (node_then n f) =
+leaves_from-list : (m : ℕ) (f : Forest) → map (λ l. l.0) (leaves_from m f) ≡ row leaf_list m (terms f)
+leaves_from-list m empty = refl
+leaves_from-list m (node_then n f) =
     let place : m + 1 ≡ suc m = omega arith in
-    map-append (λ l. l.0) (map (below_place m) (node_leaves n)) (leaves_from (m + 1) f) ∙ ap (λ us. us ++ map (λ l. l.0) (leaves_from (m + 1) f)) (map-map (λ l. l.0) (below_place m) (node_leaves n) ∙ sym (map-map (λ q. m ∷ q) (λ l. l.0) (node_leaves n))) ∙ ap (λ us. map (λ q. m ∷ q) (leaf_list (Node n)) ++ us) (ap (λ k. map (λ l. l.0) (leaves_from k f)) place ∙ leaves_from-row (suc m) f)
-leaves_from-row m (token_then t f) =
+    map-append (λ l. l.0) (map (below_place m) (node_leaves n)) (leaves_from (m + 1) f) ∙ ap (λ us. us ++ map (λ l. l.0) (leaves_from (m + 1) f)) (map-map (λ l. l.0) (below_place m) (node_leaves n) ∙ sym (map-map (λ q. m ∷ q) (λ l. l.0) (node_leaves n))) ∙ ap (λ us. map (λ q. m ∷ q) (leaf_list (Node n)) ++ us) (ap (λ k. map (λ l. l.0) (leaves_from k f)) place ∙ leaves_from-list (suc m) f)
+leaves_from-list m (token_then t f) =
     let place : m + 1 ≡ suc m = omega arith in
-    ap (λ us. (m ∷ []) ∷ us) (ap (λ k. map (λ l. l.0) (leaves_from k f)) place ∙ leaves_from-row (suc m) f)
+    ap (λ us. (m ∷ []) ∷ us) (ap (λ k. map (λ l. l.0) (leaves_from k f)) place ∙ leaves_from-list (suc m) f)
 
-elements_from-row : (m : ℕ) (f : Forest) → elements_from m f ≡ row element_list m (terms f)
-elements_from-row m empty = refl
-elements_from-row m (node_then n f) = ap (λ us. map (λ q. m ∷ q) (node_elements n) ++ us) (elements_from-row (suc m) f)
-elements_from-row m (token_then t f) = ap (λ us. (m ∷ []) ∷ us) (elements_from-row (suc m) f)
+elements_from-list : (m : ℕ) (f : Forest) → elements_from m f ≡ row element_list m (terms f)
+elements_from-list m empty = refl
+elements_from-list m (node_then n f) = ap (λ us. map (λ q. m ∷ q) (node_elements n) ++ us) (elements_from-list (suc m) f)
+elements_from-list m (token_then t f) = ap (λ us. (m ∷ []) ∷ us) (elements_from-list (suc m) f)
 
 pub leaf_list-node : (n : NodeTerm) → leaf_list (Node n) ≡ row leaf_list 0 (node_children n)
-leaf_list-node (node k f) = leaves_from-row 0 f
+leaf_list-node (node k f) = leaves_from-list 0 f
 
 -- the elements of a term are itself and those of its children
 pub element_list-term : (t : Term) → element_list t ≡ [] ∷ row element_list 0 (term_children t)
-element_list-term (Node (node k f)) = ap (λ us. [] ∷ us) (elements_from-row 0 f)
+element_list-term (Node (node k f)) = ap (λ us. [] ∷ us) (elements_from-list 0 f)
 element_list-term (Token t) = refl
 
 -- What a test keeps of a row: it says one thing of each place before one place, another of each behind it.

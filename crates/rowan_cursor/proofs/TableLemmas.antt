@@ -15,7 +15,7 @@ use Rattle.rowan_green.proofs.Paths.{offset-empty}
 use Rattle.rowan_green.proofs.SearchLemmas.{child_start-le_all}
 use Rattle.rowan_cursor.specs.Cursor.{last_place}
 use Rattle.rowan_cursor.specs.Moves.{numbers, below, child_count, children_of, is_node, child_paths, first_at, following, preceding}
-use Rattle.rowan_cursor.specs.Table.{root_of, green_of, offset_of, index_of, children_in, len_in, counts, path_within, path_at, IsTop, IsChildOf, IsFilling, IsTable, IsRow, IsRowBack, IsEntry, IsNodeEntry}
+use Rattle.rowan_cursor.specs.Table.{root_of, green_of, offset_of, index_of, children_in, len_in, counts, path_within, path_at, IsTop, IsChildOf, IsDraft, IsTable, IsRow, IsRowBack, IsEntry, IsNodeEntry}
 use Rattle.rowan_cursor.specs.declared.tree.Entry.{Entry}
 use Rattle.rowan_cursor.proofs.RowLemmas.{map-reverse, first_split, last_split, empty_row}
 use Rattle.rowan_cursor.proofs.PathLemmas.{subterm-child, offset-child, last_place-child, following-child, preceding-child, child_start-next, node_len-children}
@@ -78,13 +78,16 @@ kept_within (t ∷ ts) (suc i) g e = omega (arith, kept_within ts i g e)
 
 -- ---- paths
 
-same_step : (es : List Entry) (f g : ℕ → Path) (n : ℕ) → IsFilling es → ((m : ℕ) → m < n → f m ≡ g m) → 0 < n → (o : Option Entry) → slice_get es n ≡ o
+first_child-counts : (es : List Entry) → IsDraft (length es) es → (n : ℕ) (e : Entry) → slice_get es n ≡ Some e → e.first_child ≡ counts (take n es) + 1
+first_child-counts es t n e at = t.firsts n e at (slice_get_within es n e at)
+
+same_step : (es : List Entry) (f g : ℕ → Path) (n : ℕ) → IsDraft (length es) es → ((m : ℕ) → m < n → f m ≡ g m) → 0 < n → (o : Option Entry) → slice_get es n ≡ o
     → option_map_or (λ e. f e.parent ++ index_of es n e ∷ []) o [] ≡ option_map_or (λ e. g e.parent ++ index_of es n e ∷ []) o []
 same_step es f g n t same h None e = refl
-same_step es f g n t same h (Some x) e = ap (λ p. p ++ index_of es n x ∷ []) (same x.parent (t.earlier n x e h))
+same_step es f g n t same h (Some x) e = ap (λ p. p ++ index_of es n x ∷ []) (same x.parent (t.earlier n x e h).0)
 
 -- going up any further than to the root changes nothing
-path_within-enough : (es : List Entry) → IsFilling es → (a b n : ℕ) → n ≤ a → n ≤ b → path_within a es n ≡ path_within b es n
+path_within-enough : (es : List Entry) → IsDraft (length es) es → (a b n : ℕ) → n ≤ a → n ≤ b → path_within a es n ≡ path_within b es n
 path_within-enough es t zero zero n h k = refl
 path_within-enough es t zero (suc b) zero h k = refl
 path_within-enough es t zero (suc b) (suc n) h k = absurd (omega arith)
@@ -95,10 +98,10 @@ path_within-enough es t (suc a) (suc b) (suc n) h k =
     same_step es (path_within a es) (path_within b es) (suc n) t (λ m less. path_within-enough es t a b m (omega arith) (omega arith)) (omega arith) (slice_get es (suc n)) refl
 
 -- the path of an entry is that of its parent, and its index
-pub path_at-child : (es : List Entry) → IsFilling es → (n : ℕ) (e : Entry) → slice_get es n ≡ Some e → 0 < n → path_at es n ≡ path_at es e.parent ++ index_of es n e ∷ []
+pub path_at-child : (es : List Entry) → IsDraft (length es) es → (n : ℕ) (e : Entry) → slice_get es n ≡ Some e → 0 < n → path_at es n ≡ path_at es e.parent ++ index_of es n e ∷ []
 path_at-child es t zero e at h = absurd (omega arith)
 path_at-child es t (suc n) e at h =
-    let less : e.parent < suc n = t.earlier (suc n) e at h in
+    let less : e.parent < suc n = (t.earlier (suc n) e at h).0 in
     ap (λ o. option_map_or (λ d. path_within n es d.parent ++ index_of es (suc n) d ∷ []) o []) at
     ∙ ap (λ p. p ++ index_of es (suc n) e ∷ []) (path_within-enough es t n e.parent e.parent (omega arith) (omega arith))
 
@@ -106,7 +109,7 @@ pub index_above : (es : List Entry) (n : ℕ) (e p : Entry) → slice_get es e.p
 index_above es n e p above = ap (λ o. n - option_map_or (λ (q : Entry). q.first_child) o 0) above
 
 -- the same by the parent's entry
-path_at-below : (es : List Entry) → IsFilling es → (n : ℕ) (e p : Entry) → slice_get es n ≡ Some e → 0 < n → slice_get es e.parent ≡ Some p → path_at es n ≡ path_at es e.parent ++ (n - p.first_child) ∷ []
+path_at-below : (es : List Entry) → IsDraft (length es) es → (n : ℕ) (e p : Entry) → slice_get es n ≡ Some e → 0 < n → slice_get es e.parent ≡ Some p → path_at es n ≡ path_at es e.parent ++ (n - p.first_child) ∷ []
 path_at-below es t n e p at h above =
     path_at-child es t n e at h ∙ ap (λ i. path_at es e.parent ++ i ∷ []) (index_above es n e p above)
 
@@ -122,7 +125,7 @@ Stands-top es e top = record {
   start = offset-empty (Node (root_of es)) ∙ sym top.start;
 }
 
-Stands-child : (es : List Entry) → IsFilling es → (n : ℕ) (e p : Entry) → slice_get es n ≡ Some e → 0 < n → slice_get es e.parent ≡ Some p
+Stands-child : (es : List Entry) → IsDraft (length es) es → (n : ℕ) (e p : Entry) → slice_get es n ≡ Some e → 0 < n → slice_get es e.parent ≡ Some p
     → Stands es e.parent p → Stands es n e
 Stands-child es t n e p at h above s =
     let c : IsChildOf p n e = t.parents n e p at h above in
@@ -137,15 +140,15 @@ Stands-child es t n e p at h above s =
       start = ap (λ r. offset (Node root) r) path ∙ offset-child root q i inside ∙ ap (λ x. x + child_start (children_of (subterm (Node root) q)) i) s.start ∙ ap (λ ts. offset_of p + child_start ts i) terms ∙ sym c.start;
     }
 
-Stands-within : (es : List Entry) → IsFilling es → (steps n : ℕ) → n ≤ steps → (e : Entry) → slice_get es n ≡ Some e → Stands es n e
+Stands-within : (es : List Entry) → IsDraft (length es) es → (steps n : ℕ) → n ≤ steps → (e : Entry) → slice_get es n ≡ Some e → Stands es n e
 Stands-within es t steps zero h e at = Stands-top es e (t.top e at)
 Stands-within es t zero (suc n) h e at = absurd (omega arith)
 Stands-within es t (suc steps) (suc n) h e at =
-    let less : e.parent < suc n = t.earlier (suc n) e at (omega arith) in
+    let less : e.parent < suc n = (t.earlier (suc n) e at (omega arith)).0 in
     let above = slice_get-some es e.parent (omega (arith, slice_get_within es (suc n) e at)) in
     Stands-child es t (suc n) e above.0 at (omega arith) above.1 (Stands-within es t steps e.parent (omega arith) above.0 above.1)
 
-pub stands : (es : List Entry) → IsFilling es → (n : ℕ) (e : Entry) → slice_get es n ≡ Some e → Stands es n e
+pub stands : (es : List Entry) → IsDraft (length es) es → (n : ℕ) (e : Entry) → slice_get es n ≡ Some e → Stands es n e
 stands es t n e at = Stands-within es t n n (omega arith) e at
 
 -- where the text of an entry ends: a node's is within the limit, and a token's in that of the node above
@@ -153,40 +156,40 @@ end_of-token : (g : Option NodeTerm) (i : ℕ) (t : Term) → slice_get (childre
 end_of-token None i t e = absurd cc
 end_of-token (Some n) i t e = child_end (Node n) i t e
 
-ends_below : (es : List Entry) → IsFilling es → (n : ℕ) (e p : Entry) → slice_get es n ≡ Some e → 0 < n → slice_get es e.parent ≡ Some p → (o : Option Term) → slice_get (children_in (green_of p)) (n - p.first_child) ≡ o → offset_of e + len_of o ≤ byte_limit
+ends_below : (es : List Entry) → IsDraft (length es) es → (n : ℕ) (e p : Entry) → slice_get es n ≡ Some e → 0 < n → slice_get es e.parent ≡ Some p → (o : Option Term) → slice_get (children_in (green_of p)) (n - p.first_child) ≡ o → offset_of e + len_of o ≤ byte_limit
 ends_below es t n e p at h above None f = omega (arith, t.ends n e at)
 ends_below es t n e p at h above (Some u) f =
     omega (arith, (t.parents n e p at h above).start, end_of-token (green_of p) (n - p.first_child) u f, t.ends e.parent p above)
 
 -- an entry's term is that child of the node above
-pub child_above : (es : List Entry) → IsFilling es → (n : ℕ) (e p : Entry) → slice_get es n ≡ Some e → 0 < n → slice_get es e.parent ≡ Some p → subterm (Node (root_of es)) (path_at es n) ≡ slice_get (children_in (green_of p)) (n - p.first_child)
+pub child_above : (es : List Entry) → IsDraft (length es) es → (n : ℕ) (e p : Entry) → slice_get es n ≡ Some e → 0 < n → slice_get es e.parent ≡ Some p → subterm (Node (root_of es)) (path_at es n) ≡ slice_get (children_in (green_of p)) (n - p.first_child)
 child_above es t n e p at h above =
     let root = root_of es in
     let q = path_at es e.parent in
     ap (λ r. subterm (Node root) r) (path_at-below es t n e p at h above) ∙ subterm-child (Some (Node root)) q (n - p.first_child)
     ∙ ap (λ ts. slice_get ts (n - p.first_child)) (kept-children (subterm (Node root) q) (green_of p) (stands es t e.parent p above).green)
 
-ends_within : (es : List Entry) → IsFilling es → (n : ℕ) (e : Entry) → slice_get es n ≡ Some e → offset_of e + len_of (subterm (Node (root_of es)) (path_at es n)) ≤ byte_limit
+ends_within : (es : List Entry) → IsDraft (length es) es → (n : ℕ) (e : Entry) → slice_get es n ≡ Some e → offset_of e + len_of (subterm (Node (root_of es)) (path_at es n)) ≤ byte_limit
 ends_within es t zero e at = omega (arith, t.ends 0 e at, ap len_in (t.top e at).green)
 ends_within es t (suc n) e at =
-    let less : e.parent < suc n = t.earlier (suc n) e at (omega arith) in
+    let less : e.parent < suc n = (t.earlier (suc n) e at (omega arith)).0 in
     let above = slice_get-some es e.parent (omega (arith, slice_get_within es (suc n) e at)) in
     let p = above.0 in
     omega (arith, ends_below es t (suc n) e p at (omega arith) above.1 (slice_get (children_in (green_of p)) (suc n - p.first_child)) refl, ap len_of (child_above es t (suc n) e p at (omega arith) above.1))
 
-last_place-index : (es : List Entry) → IsFilling es → (n : ℕ) (e : Entry) → slice_get es n ≡ Some e → last_place (path_at es n) ≡ index_of es n e
+last_place-index : (es : List Entry) → IsDraft (length es) es → (n : ℕ) (e : Entry) → slice_get es n ≡ Some e → last_place (path_at es n) ≡ index_of es n e
 last_place-index es t zero e at = omega arith
 last_place-index es t (suc n) e at =
     ap last_place (path_at-child es t (suc n) e at (omega arith)) ∙ last_place-child (path_at es e.parent) (index_of es (suc n) e)
 
 -- ---- rows
 
-rows_apart : (es : List Entry) → IsFilling es → (m n : ℕ) (d e : Entry) → slice_get es m ≡ Some d → slice_get es n ≡ Some e → m < n → d.first_child + length (children_in (green_of d)) ≤ e.first_child
+rows_apart : (es : List Entry) → IsDraft (length es) es → (m n : ℕ) (d e : Entry) → slice_get es m ≡ Some d → slice_get es n ≡ Some e → m < n → d.first_child + length (children_in (green_of d)) ≤ e.first_child
 rows_apart es t m n d e dat eat h =
-    omega (arith, counts-take-less es m n d dat h, t.firsts m d dat, t.firsts n e eat)
+    omega (arith, counts-take-less es m n d dat h, first_child-counts es t m d dat, first_child-counts es t n e eat)
 
 pub row_within : (es : List Entry) → IsTable es → (n : ℕ) (e : Entry) → slice_get es n ≡ Some e → e.first_child + length (children_in (green_of e)) ≤ length es
-row_within es t n e at = omega (arith, counts-within es n e at, t.filling.firsts n e at, t.whole)
+row_within es t n e at = omega (arith, counts-within es n e at, first_child-counts es t.draft n e at, t.whole)
 
 -- the entry with the number of child j of entry n is that child
 pub record HasChild (es : List Entry) (n : ℕ) (e : Entry) (j : ℕ) : Type 0 where
@@ -209,13 +212,13 @@ same_first d e h = ap (λ (x : Entry). x.first_child) h
 
 pub has_child : (es : List Entry) → IsTable es → (n : ℕ) (e : Entry) (j : ℕ) → slice_get es n ≡ Some e → j < length (children_in (green_of e)) → HasChild es n e j
 has_child es t n e j at h =
-    let f = t.filling in
+    let f = t.draft in
     let m = e.first_child + j in
     let within : m < length es = omega (arith, row_within es t n e at) in
     let found = slice_get-some es m within in
     let c = found.0 in
-    let behind : 0 < m = omega (arith, f.firsts n e at) in
-    let less : c.parent < m = f.earlier m c found.1 behind in
+    let behind : 0 < m = omega (arith, first_child-counts es f n e at) in
+    let less : c.parent < m = (f.earlier m c found.1 behind).0 in
     let above = slice_get-some es c.parent (omega arith) in
     let p = above.0 in
     let is : IsChildOf p m c = f.parents m c p found.1 behind above.1 in
@@ -234,8 +237,8 @@ has_child es t n e j at h =
 pub path_at-row : (es : List Entry) → IsTable es → (n : ℕ) (e : Entry) (j : ℕ) → slice_get es n ≡ Some e → j < length (children_in (green_of e)) → path_at es (e.first_child + j) ≡ path_at es n ++ j ∷ []
 path_at-row es t n e j at h =
     let c : HasChild es n e j = has_child es t n e j at h in
-    let behind : 0 < e.first_child + j = omega (arith, t.filling.firsts n e at) in
-    path_at-child es t.filling (e.first_child + j) c.child c.at behind
+    let behind : 0 < e.first_child + j = omega (arith, first_child-counts es t.draft n e at) in
+    path_at-child es t.draft (e.first_child + j) c.child c.at behind
     ∙ ap (λ k. path_at es k ++ index_of es (e.first_child + j) c.child ∷ []) c.parent ∙ ap (λ i. path_at es n ++ i ∷ []) c.index
 
 -- a part of the children of an entry
@@ -249,7 +252,7 @@ row_below es t n e at (suc c) a h =
     ap (λ p. p ∷ map (path_at es) (numbers (e.first_child + a + 1) c)) (path_at-row es t n e a at (omega arith))
     ∙ ap (λ ps. (path_at es n ++ a ∷ []) ∷ ps) rest
 
-child_count-entry : (es : List Entry) → IsFilling es → (n : ℕ) (e : Entry) → slice_get es n ≡ Some e → child_count (root_of es) (path_at es n) ≡ length (children_in (green_of e))
+child_count-entry : (es : List Entry) → IsDraft (length es) es → (n : ℕ) (e : Entry) → slice_get es n ≡ Some e → child_count (root_of es) (path_at es n) ≡ length (children_in (green_of e))
 child_count-entry es t n e at =
     ap length (kept-children (subterm (Node (root_of es)) (path_at es n)) (green_of e) (stands es t n e at).green)
 
@@ -262,11 +265,11 @@ part es t n e at start a c from h =
 -- the children of an entry end where those of the next begin, and those of the last with the table
 pub row_end-next : (es : List Entry) → IsTable es → (n : ℕ) (e d : Entry) → slice_get es n ≡ Some e → slice_get es (n + 1) ≡ Some d → d.first_child ≡ e.first_child + length (children_in (green_of e))
 row_end-next es t n e d at next =
-    omega (arith, t.filling.firsts (n + 1) d next, t.filling.firsts n e at, counts-more es n e at)
+    omega (arith, first_child-counts es t.draft (n + 1) d next, first_child-counts es t.draft n e at, counts-more es n e at)
 
 pub row_end-last : (es : List Entry) → IsTable es → (n : ℕ) (e : Entry) → slice_get es n ≡ Some e → n + 1 ≡ length es → length es ≡ e.first_child + length (children_in (green_of e))
 row_end-last es t n e at h =
-    omega (arith, t.whole, t.filling.firsts n e at, counts-more es n e at, ap counts (take_all (n + 1) es (omega arith)))
+    omega (arith, t.whole, first_child-counts es t.draft n e at, counts-more es n e at, ap counts (take_all (n + 1) es (omega arith)))
 
 children_row : (es : List Entry) → IsTable es → (n : ℕ) (e : Entry) → slice_get es n ≡ Some e → IsRow es e.first_child (e.first_child + length (children_in (green_of e))) (child_paths (root_of es) (path_at es n))
 children_row es t n e at =
@@ -274,22 +277,22 @@ children_row es t n e at =
     record {
       order = omega arith;
       within = row_within es t n e at;
-      row = ap (λ c. map (path_at es) (numbers e.first_child c)) left ∙ part es t n e at e.first_child 0 (length (children_in (green_of e))) (omega arith) (omega arith) ∙ ap (λ c. below (path_at es n) (numbers 0 c)) (sym (child_count-entry es t.filling n e at));
+      row = ap (λ c. map (path_at es) (numbers e.first_child c)) left ∙ part es t n e at e.first_child 0 (length (children_in (green_of e))) (omega arith) (omega arith) ∙ ap (λ c. below (path_at es n) (numbers 0 c)) (sym (child_count-entry es t.draft n e at));
     }
 
 -- all that stands at a number
 pub is_entry : (es : List Entry) → IsTable es → (n : ℕ) (e : Entry) → slice_get es n ≡ Some e → IsEntry es n e
 is_entry es t n e at =
-    let s : Stands es n e = stands es t.filling n e at in
+    let s : Stands es n e = stands es t.draft n e at in
     record {
       at = at;
       green = s.green;
       start = s.start;
-      end = ends_within es t.filling n e at;
-      index = last_place-index es t.filling n e at;
+      end = ends_within es t.draft n e at;
+      index = last_place-index es t.draft n e at;
       below = λ h. record {
-        earlier = t.filling.earlier n e at h;
-        path = path_at-child es t.filling n e at h;
+        earlier = (t.draft.earlier n e at h).0;
+        path = path_at-child es t.draft n e at h;
       };
       children = children_row es t n e at;
     }
@@ -302,11 +305,11 @@ pub record HasAbove (es : List Entry) (n : ℕ) (e p : Entry) : Type 0 where
   pub above : slice_get es e.parent ≡ Some p
 
 place : (es : List Entry) (n : ℕ) (e p : Entry) → IsTable es → HasAbove es n e p → n ≡ p.first_child + (n - p.first_child)
-place es n e p t h = omega (arith, (t.filling.parents n e p h.at h.behind h.above).place)
+place es n e p t h = omega (arith, (t.draft.parents n e p h.at h.behind h.above).place)
 
 index_below : (es : List Entry) (n : ℕ) (e p : Entry) → IsTable es → HasAbove es n e p → n - p.first_child < length (children_in (green_of p))
 index_below es n e p t h =
-    kept_within (children_in (green_of p)) (n - p.first_child) (green_of e) (t.filling.parents n e p h.at h.behind h.above).child
+    kept_within (children_in (green_of p)) (n - p.first_child) (green_of e) (t.draft.parents n e p h.at h.behind h.above).child
 
 pub following_row : (es : List Entry) → IsTable es → (n : ℕ) (e p : Entry) → HasAbove es n e p → IsRow es (n + 1) (p.first_child + length (children_in (green_of p))) (following (root_of es) (path_at es n))
 following_row es t n e p h =
@@ -321,8 +324,8 @@ following_row es t n e p h =
       within = row_within es t e.parent p h.above;
       row = ap (λ c. map (path_at es) (numbers (n + 1) c)) left
           ∙ part es t e.parent p h.above (n + 1) (n - p.first_child + 1) (length (children_in (green_of p)) - (n - p.first_child + 1)) from (omega arith)
-          ∙ ap (λ c. below q (numbers (n - p.first_child + 1) (c - (n - p.first_child + 1)))) (sym (child_count-entry es t.filling e.parent p h.above))
-          ∙ sym (following-child root q (n - p.first_child)) ∙ ap (following root) (sym (path_at-below es t.filling n e p h.at h.behind h.above));
+          ∙ ap (λ c. below q (numbers (n - p.first_child + 1) (c - (n - p.first_child + 1)))) (sym (child_count-entry es t.draft e.parent p h.above))
+          ∙ sym (following-child root q (n - p.first_child)) ∙ ap (following root) (sym (path_at-below es t.draft n e p h.at h.behind h.above));
     }
 
 pub preceding_row : (es : List Entry) → IsTable es → (n : ℕ) (e p : Entry) → HasAbove es n e p → IsRowBack es p.first_child n (preceding (root_of es) (path_at es n))
@@ -336,12 +339,12 @@ preceding_row es t n e p h =
       within = omega (arith, slice_get_within es n e h.at);
       row = ap reverse (part es t e.parent p h.above p.first_child 0 (n - p.first_child) (omega arith) (omega arith))
           ∙ sym (map-reverse (λ i. q ++ i ∷ []) (numbers 0 (n - p.first_child)))
-          ∙ sym (preceding-child root q (n - p.first_child)) ∙ ap (preceding root) (sym (path_at-below es t.filling n e p h.at h.behind h.above));
+          ∙ sym (preceding-child root q (n - p.first_child)) ∙ ap (preceding root) (sym (path_at-below es t.draft n e p h.at h.behind h.above));
     }
 
 pub above_of : (es : List Entry) → IsTable es → (n : ℕ) (e : Entry) → slice_get es n ≡ Some e → 0 < n → (p : Entry) × HasAbove es n e p
 above_of es t n e at h =
-    let less : e.parent < n = t.filling.earlier n e at h in
+    let less : e.parent < n = (t.draft.earlier n e at h).0 in
     let above = slice_get-some es e.parent (omega (arith, slice_get_within es n e at)) in (
       above.0,
       record {
@@ -379,7 +382,7 @@ next_beside es t n e d at h next same =
     let a = above_of es t n e at h in
     let p = a.0 in
     let row = following_row es t n e p a.1 in
-    let is : IsChildOf p (n + 1) d = t.filling.parents (n + 1) d p next (omega arith) (ap (λ k. slice_get es k) same ∙ a.1.above) in
+    let is : IsChildOf p (n + 1) d = t.draft.parents (n + 1) d p next (omega arith) (ap (λ k. slice_get es k) same ∙ a.1.above) in
     let less : n + 1 < p.first_child + length (children_in (green_of p)) = omega (arith, is.place, kept_within (children_in (green_of p)) (n + 1 - p.first_child) (green_of d) is.child) in
     sym (ap first_at (first_split (path_at es) (n + 1) (p.first_child + length (children_in (green_of p))) less)) ∙ ap first_at row.row
 
@@ -390,7 +393,7 @@ next_apart es t n e d at h next apart =
     let p = a.0 in
     let end = p.first_child + length (children_in (green_of p)) in
     let row = following_row es t n e p a.1 in
-    let from : p.first_child ≤ n = (t.filling.parents n e p at h a.1.above).place in
+    let from : p.first_child ≤ n = (t.draft.parents n e p at h a.1.above).place in
     let here : n + 1 ≡ p.first_child + (n + 1 - p.first_child) = omega arith in
     let inside : n + 1 < end → ⊥ = λ less. (
     let c = has_child es t e.parent p (n + 1 - p.first_child) a.1.above (omega arith) in
@@ -408,7 +411,7 @@ prev_beside es t n e d at h before same =
     let a = above_of es t n e at (omega arith) in
     let p = a.0 in
     let row = preceding_row es t n e p a.1 in
-    let is : IsChildOf p (n - 1) d = t.filling.parents (n - 1) d p before (omega arith) (ap (λ k. slice_get es k) same ∙ a.1.above) in
+    let is : IsChildOf p (n - 1) d = t.draft.parents (n - 1) d p before (omega arith) (ap (λ k. slice_get es k) same ∙ a.1.above) in
     sym (ap first_at (last_split (path_at es) p.first_child n (n - 1) (omega (arith, is.place)) (omega arith))) ∙ ap first_at row.row
 
 pub prev_apart : (es : List Entry) → IsTable es → (n : ℕ) (e d : Entry) → slice_get es n ≡ Some e → 1 < n → slice_get es (n - 1) ≡ Some d → (d.parent ≡ e.parent → ⊥)
@@ -434,13 +437,13 @@ pub node_above : (es : List Entry) → IsTable es → (n : ℕ) (e : Entry) → 
 node_above es t n e at h =
     let a = above_of es t n e at h in
     let p = a.0 in
-    node_with_child (subterm (Node (root_of es)) (path_at es e.parent)) (green_of p) (green_of e) (n - p.first_child) (stands es t.filling e.parent p a.1.above).green (t.filling.parents n e p at h a.1.above).child
+    node_with_child (subterm (Node (root_of es)) (path_at es e.parent)) (green_of p) (green_of e) (n - p.first_child) (stands es t.draft e.parent p a.1.above).green (t.draft.parents n e p at h a.1.above).child
 
 -- what an entry without a node stands for is a child of the node above
 pub child_of_above : (es : List Entry) → IsTable es → (n : ℕ) (e p : Entry) → slice_get es n ≡ Some e → green_of e ≡ None → slice_get es e.parent ≡ Some p
     → (subterm (Node (root_of es)) (path_at es n) ≡ slice_get (children_in (green_of p)) (n - p.first_child)) × (n - p.first_child < length (children_in (green_of p)))
-child_of_above es t zero e p at bare above = absurd (none-some (root_of es) (sym bare ∙ (t.filling.top e at).green))
+child_of_above es t zero e p at bare above = absurd (none-some (root_of es) (sym bare ∙ (t.draft.top e at).green))
 child_of_above es t (suc n) e p at bare above = (
-  child_above es t.filling (suc n) e p at (omega arith) above,
-  kept_within (children_in (green_of p)) (suc n - p.first_child) (green_of e) (t.filling.parents (suc n) e p at (omega arith) above).child,
+  child_above es t.draft (suc n) e p at (omega arith) above,
+  kept_within (children_in (green_of p)) (suc n - p.first_child) (green_of e) (t.draft.parents (suc n) e p at (omega arith) above).child,
 )

@@ -10,7 +10,7 @@ use Rattle.rowan_green.specs.Term.{NodeTerm, Term}
 use Rattle.rowan_green.specs.Path.{Path, term_children, subterm, begins}
 use Rattle.rowan_cursor.specs.Moves.{parent_path, children_of, numbers, below, child_count, child_paths, following, preceding, is_node, is_node_at, first_at, first_leaf_path, last_leaf_path, next_leaf_path, prev_leaf_path}
 use Rattle.rowan_cursor.specs.Pass.{Lists, row, of_some, after, before, entered, rest, reached, upto, leaf_list, element_list, ComesBehind, ComesNext, ComesBefore, ComesBack, first_inside, last_inside}
-use Rattle.rowan_cursor.specs.Table.{IsFilling, IsTable, green_of, index_of, root_of, path_at}
+use Rattle.rowan_cursor.specs.Table.{IsDraft, IsTable, green_of, index_of, root_of, path_at}
 use Rattle.rowan_cursor.specs.declared.tree.Entry.{Entry}
 use Rattle.rowan_cursor.proofs.PathLemmas.{last-split, parent_path-child, following-child, preceding-child, begins-rest, begins-own, begins-same, not-begins, subterm-child, below-first, below-none}
 use Rattle.rowan_cursor.proofs.LeafLemmas.{after-child, rest-child, rest-none, before-child, upto-child, upto-none, upto-all, leaf_list-node, element_list-term, filter_same, filter_row-const, filter-row, find-first, find-last, last_at, first_leaf-below, last_leaf-below, next_leaf-rest, prev_leaf-before}
@@ -270,7 +270,7 @@ ends_apart : (p : Path) (i : ℕ) → p ++ i ∷ [] ≡ [] → ⊥
 ends_apart [] i e = cc
 ends_apart (j ∷ p) i e = cc
 
-same_number : (es : List Entry) → IsFilling es → (k m n : ℕ) → m < k → m < length es → n < length es → path_at es m ≡ path_at es n → m ≡ n
+same_number : (es : List Entry) → IsDraft (length es) es → (k m n : ℕ) → m < k → m < length es → n < length es → path_at es m ≡ path_at es n → m ≡ n
 same_number es f zero m n b i j h = absurd (omega arith)
 same_number es f (suc k) m n b i j h =
     let d = slice_get-some es m i in
@@ -279,8 +279,8 @@ same_number es f (suc k) m n b i j h =
       | inl x ↦ elim (cases_lt 0 n) [
         | inl y ↦ (
             let ends = same_from_push (path_at es d.0.parent) (path_at es e.0.parent) (index_of es m d.0) (index_of es n e.0) (sym (path_at-child es f m d.0 d.1 x) ∙ h ∙ path_at-child es f n e.0 e.1 y) in
-            let less : d.0.parent < m = f.earlier m d.0 d.1 x in
-            let lesser : e.0.parent < n = f.earlier n e.0 e.1 y in
+            let less : d.0.parent < m = (f.earlier m d.0 d.1 x).0 in
+            let lesser : e.0.parent < n = (f.earlier n e.0 e.1 y).0 in
             let parents : d.0.parent ≡ e.0.parent = same_number es f k d.0.parent e.0.parent (omega arith) (omega arith) (omega arith) ends.0 in
             let above = slice_get-some es d.0.parent (omega arith) in
             let one = f.parents m d.0 above.0 d.1 x above.1 in
@@ -299,7 +299,7 @@ same_number es f (suc k) m n b i j h =
     ]
 
 pub apart_paths : (es : List Entry) → IsTable es → (m n : ℕ) → m < length es → n < length es → m ≢ n → path_at es m ≢ path_at es n
-apart_paths es t m n i j apart h = apart (same_number es t.filling (suc m) m n (omega arith) i j h)
+apart_paths es t m n i j apart h = apart (same_number es t.draft (suc m) m n (omega arith) i j h)
 
 -- something stands at each path of a table
 pub stands_at : (es : List Entry) → IsTable es → (n : ℕ) → n < length es → (u : Term) × (subterm (Node (root_of es)) (path_at es n) ≡ Some u)

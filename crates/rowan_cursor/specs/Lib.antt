@@ -2,7 +2,6 @@ pub mod Climb
 pub mod Cursor
 pub mod CursorCode
 pub mod CursorView
-pub mod Draft
 pub mod Equal
 pub mod Moves
 pub mod Pass

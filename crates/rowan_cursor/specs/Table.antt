@@ -82,18 +82,18 @@ pub record IsChildOf (p : Entry) (n : ℕ) (e : Entry) : Type 0 where
   pub child : option_map into_node (slice_get (children_in (green_of p)) (n - p.first_child)) ≡ Some (green_of e)
   pub start : offset_of e ≡ offset_of p + child_start (children_in (green_of p)) (n - p.first_child)
 
--- the first entries of a table, as they stand in it
-pub record IsFilling (es : List Entry) : Type 0 where
+-- entries of which the first `done` know their first child; the children of the others are not there yet
+pub record IsDraft (done : ℕ) (es : List Entry) : Type 0 where
   pub some : 0 < length es
   pub top : (e : Entry) → slice_get es 0 ≡ Some e → IsTop es e
   pub ends : (n : ℕ) (e : Entry) → slice_get es n ≡ Some e → offset_of e + len_in (green_of e) ≤ byte_limit
-  pub firsts : (n : ℕ) (e : Entry) → slice_get es n ≡ Some e → e.first_child ≡ counts (take n es) + 1
-  pub earlier : (n : ℕ) (e : Entry) → slice_get es n ≡ Some e → 0 < n → e.parent < n
+  pub firsts : (n : ℕ) (e : Entry) → slice_get es n ≡ Some e → n < done → e.first_child ≡ counts (take n es) + 1
+  pub earlier : (n : ℕ) (e : Entry) → slice_get es n ≡ Some e → 0 < n → (e.parent < n) × (e.parent < done)
   pub parents : (n : ℕ) (e p : Entry) → slice_get es n ≡ Some e → 0 < n → slice_get es e.parent ≡ Some p → IsChildOf p n e
 
--- a table with all children of each entry
+-- a table: each entry knows its first child, and all children of each are there
 pub record IsTable (es : List Entry) : Type 0 where
-  pub filling : IsFilling es
+  pub draft : IsDraft (length es) es
   pub whole : length es ≡ counts es + 1
 
 -- the entries from one number up to another stand at these paths, in this order
@@ -126,3 +126,9 @@ pub record IsEntry (es : List Entry) (n : ℕ) (e : Entry) : Type 0 where
 -- the entry with this number is that of a node
 abbrev pub IsNodeEntry : List Entry → ℕ → Type 0
 IsNodeEntry es n = is_node_at (root_of es) (path_at es n) ≡ true
+
+-- the entries that were added are those of these terms, in this order
+pub record GrowsBy (old new : List Entry) (ts : List Term) : Type 0 where
+  pub row : List Entry
+  pub grown : new ≡ old ++ row
+  pub greens : map green_of row ≡ map into_node ts

@@ -2,8 +2,7 @@
 ghost use Rattle.std.specs.Prelude.{◌≡◌, ◌+◌, ◌<◌, ◌++◌, [], ◌∷◌, IfOk, IfErr, OnOk, Some, length, map, take, slice_get};
 ghost use Rattle.rowan_green.specs.Lent.{into_node, pointee};
 ghost use Rattle.rowan_green.specs.Term.{Term};
-ghost use Rattle.rowan_cursor.specs.Draft.{IsDraft, GrowsBy};
-ghost use Rattle.rowan_cursor.specs.Table.{children_in, counts, green_in, green_of, offset_in, root_of};
+ghost use Rattle.rowan_cursor.specs.Table.{IsDraft, GrowsBy, children_in, counts, green_in, green_of, offset_in, root_of};
 ghost use Rattle.rowan_cursor.specs.declared.tree.Entry.{Entry};
 
 use super::{Entry, Kept, Tree};

@@ -1,6 +1,5 @@
 use Rattle.std.proofs.Common.{◌≡◌, ◌+◌, ◌≤◌, length, take}
-use Rattle.rowan_cursor.specs.Draft.{IsDraft}
-use Rattle.rowan_cursor.specs.Table.{root_of, counts}
+use Rattle.rowan_cursor.specs.Table.{IsDraft, root_of, counts}
 use Rattle.rowan_cursor.proofs.FillLemmas.{left_from}
 use Rattle.rowan_cursor.proofs.tree.Tree.new.Given as goal
 

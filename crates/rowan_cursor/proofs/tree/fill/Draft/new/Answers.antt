@@ -1,5 +1,5 @@
 use Rattle.std.proofs.Common.{◌≡◌, [], ◌∷◌, ◌++◌, refl, sym, ◌∙◌, ap, subst}
-use Rattle.rowan_cursor.specs.Draft.{IsDraft}
+use Rattle.rowan_cursor.specs.Table.{IsDraft}
 use Rattle.rowan_cursor.specs.declared.tree.Entry.{Entry}
 use Rattle.rowan_cursor.specs.declared.tree.Kept.TheVariants.{OfNode}
 use Rattle.rowan_cursor.proofs.FillLemmas.{IsDraft-one}

@@ -4,8 +4,7 @@ use Rattle.std.proofs.lemmas.Option.{slice_get_read}
 use Rattle.rowan_green.specs.Lent.{pointee}
 use Rattle.rowan_green.specs.Search.{child_start}
 use Rattle.rowan_green.specs.Term.{node_children}
-use Rattle.rowan_cursor.specs.Draft.{IsDraft}
-use Rattle.rowan_cursor.specs.Table.{children_in, green_in, offset_in, offset_of}
+use Rattle.rowan_cursor.specs.Table.{IsDraft, children_in, green_in, offset_in, offset_of}
 use Rattle.rowan_cursor.specs.declared.tree.Entry.{Entry}
 use Rattle.rowan_cursor.proofs.FillLemmas.{IsNextChild, IsDraft-push, next_child, GrowsBy-next, start_within}
 use Rattle.rowan_cursor.proofs.tree.fill.Draft.push_child.Goals as goal

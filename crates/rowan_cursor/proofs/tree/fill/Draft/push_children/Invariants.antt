@@ -1,7 +1,6 @@
 use Rattle.std.proofs.Common.{◌≡◌, ◌+◌, Some, take}
 use Rattle.std.specs.Prelude.{slice_get}
-use Rattle.rowan_cursor.specs.Draft.{IsDraft, GrowsBy}
-use Rattle.rowan_cursor.specs.Table.{children_in, green_of}
+use Rattle.rowan_cursor.specs.Table.{IsDraft, GrowsBy, children_in, green_of}
 use Rattle.rowan_cursor.specs.declared.tree.Entry.{Entry}
 use Rattle.rowan_cursor.proofs.tree.fill.Draft.push_children.Given as goal
 
