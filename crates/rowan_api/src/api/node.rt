@@ -1,6 +1,7 @@
 ghost use Rattle.std.specs.Prelude.{◌≡◌, [], IfOk, IfErr, Some};
+ghost use Rattle.std.specs.Option.{option_map};
 ghost use Rattle.rowan_green.specs.declared.utility_types.NodeOrToken.TheVariants.{Node};
-ghost use Rattle.rowan_green.specs.Term.{Term, term_kind};
+ghost use Rattle.rowan_green.specs.Term.{term_kind};
 ghost use Rattle.rowan_green.specs.Path.{range};
 ghost use Rattle.rowan_cursor.specs.Cursor.{term_at};
 
@@ -48,7 +49,7 @@ impl<L: Language> SyntaxNode<L> {
 
     /// The kind of the node.
     pub fn kind(&self) -> L::Kind
-        ensures { (t : Term) → term_at self.now ≡ Some t → result ≡ L.meaning (term_kind t) }
+        ensures { option_map (λ t. L.meaning (term_kind t)) (term_at self.now) ≡ Some result }
     {
         L::kind_from_raw(self.raw.kind())
     }

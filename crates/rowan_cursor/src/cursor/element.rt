@@ -2,7 +2,7 @@ ghost use Rattle.std.specs.Prelude.{◌≡◌, ◌<◌, [], IfOk, IfErr, IfSome,
 ghost use Rattle.std.specs.Option.{option_map};
 ghost use Rattle.rowan_green.specs.declared.utility_types.NodeOrToken.TheVariants.{Node};
 ghost use Rattle.rowan_green.specs.Path.{range};
-ghost use Rattle.rowan_green.specs.Term.{Term, term_kind};
+ghost use Rattle.rowan_green.specs.Term.{term_kind};
 ghost use Rattle.rowan_cursor.specs.Cursor.{term_at, last_place};
 ghost use Rattle.rowan_cursor.specs.CursorView.{element_of};
 ghost use Rattle.rowan_cursor.specs.Moves.{Element, place_of, cursor_at, element_at, parent_path, first_at, following, preceding, first_leaf_path, last_leaf_path, element_ancestors};
@@ -57,7 +57,7 @@ pub trait ElementCalls {
 
     /// The kind of the element.
     fn kind(&self) -> SyntaxKind
-        ensures { (t : Term) → term_at (place_of (element self.now)) ≡ Some t → result.0 ≡ term_kind t };
+        ensures { option_map term_kind (term_at (place_of (element self.now))) ≡ Some result.0 };
 
     /// The parent, or `None` of a root.
     fn parent(&self) -> Result<Option<SyntaxNode>, Fault>

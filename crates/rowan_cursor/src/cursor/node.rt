@@ -1,7 +1,7 @@
 ghost use Rattle.std.specs.Prelude.{◌≡◌, [], IfOk, IfErr, IfSome, Some, map, reverse, slice_get};
 ghost use Rattle.std.specs.Option.{option_map};
 ghost use Rattle.rowan_green.specs.declared.utility_types.NodeOrToken.TheVariants.{Node};
-ghost use Rattle.rowan_green.specs.Term.{NodeTerm, Term, term_kind};
+ghost use Rattle.rowan_green.specs.Term.{term_kind};
 ghost use Rattle.rowan_green.specs.Path.{range};
 ghost use Rattle.rowan_cursor.specs.Cursor.{StandsAt, term_at, last_place};
 ghost use Rattle.rowan_cursor.specs.CursorView.{cursor_of, HasNode};
@@ -81,7 +81,8 @@ impl SyntaxNode {
 
     /// The root of a new tree, which has the green node of this one. Refused as `new_root` is.
     pub fn clone_subtree(&self) -> Result<SyntaxNode, Fault>
-        ensures ok { IfOk result (λ n. (green : NodeTerm) → StandsAt self.now green → n ≡ record { root = green; path = [] }) }
+        ensures ok { IfOk result (λ n. StandsAt self.now n.root) }
+        ensures top { IfOk result (λ n. n.path ≡ []) }
         ensures err { IfErr result (λ e. e ≡ Fault.Memory) }
     {
         SyntaxNode::new_root(self.tree.allocator(), self.green().clone()?)
@@ -89,7 +90,7 @@ impl SyntaxNode {
 
     /// The kind of the node.
     pub fn kind(&self) -> SyntaxKind
-        ensures { (t : Term) → term_at self.now ≡ Some t → result.0 ≡ term_kind t }
+        ensures { option_map term_kind (term_at self.now) ≡ Some result.0 }
     {
         self.green().kind()
     }

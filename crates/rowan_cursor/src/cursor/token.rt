@@ -1,9 +1,9 @@
 ghost use Rattle.std.specs.Prelude.{◌≡◌, [], IfOk, IfErr, IfSome, Some, map};
 ghost use Rattle.std.specs.Option.{option_map, option_map_or};
 ghost use Rattle.rowan_green.specs.declared.utility_types.NodeOrToken.TheVariants.{Node};
-ghost use Rattle.rowan_green.specs.Term.{TokenTerm, Term, term_kind};
+ghost use Rattle.rowan_green.specs.Term.{term_kind};
 ghost use Rattle.rowan_green.specs.Path.{range};
-ghost use Rattle.rowan_cursor.specs.Cursor.{StandsAtToken, term_at, last_place};
+ghost use Rattle.rowan_cursor.specs.Cursor.{StandsAtToken, term_at, text_at, last_place};
 ghost use Rattle.rowan_cursor.specs.CursorView.{cursor_of, HasToken};
 ghost use Rattle.rowan_cursor.specs.Moves.{cursor_at, element_at, parent_path, first_at, following, preceding, first_leaf_path, last_leaf_path, next_leaf_path, prev_leaf_path, ancestor_paths, sibling_paths};
 
@@ -68,7 +68,7 @@ impl SyntaxToken {
 
     /// The kind of the token.
     pub fn kind(&self) -> SyntaxKind
-        ensures { (t : Term) → term_at self.now ≡ Some t → result.0 ≡ term_kind t }
+        ensures { option_map term_kind (term_at self.now) ≡ Some result.0 }
     {
         self.green().kind()
     }
@@ -89,7 +89,7 @@ impl SyntaxToken {
 
     /// The text of the token.
     pub fn text(&self) -> &str
-        ensures { (t : TokenTerm) → StandsAtToken self.now t → result.now ≡ t.text }
+        ensures { result.now ≡ text_at self.now }
     {
         self.green().text()
     }
