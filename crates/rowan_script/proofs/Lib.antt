@@ -1,4 +1,0 @@
-pub mod Counts
-pub mod Frames
-pub mod Lists
-pub mod SpliceLemmas
