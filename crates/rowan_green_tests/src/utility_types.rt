@@ -1,6 +1,8 @@
 //! Nodes or tokens, directions, events of walks, and the tokens at an offset.
 use rowan::{Direction, NodeOrToken, TokenAtOffset, WalkEvent};
+use std::alloc::{AllocError, Global};
 use std::collections::HashSet;
+use std::fmt::Debug;
 use std::mem;
 use std::test::Fail;
 
@@ -15,11 +17,16 @@ const ELEMENTS: [(Element, Option<u8>, Option<char>); 2] = [
 #[test]
 fn elements_are_nodes_or_tokens(rt: HostRuntime) {
     for (element, node, token) in ELEMENTS {
-        assert_eq!(rt; element.as_node().copied(), node);
-        assert_eq!(rt; element.as_token().copied(), token);
-        assert_eq!(rt; element.into_node(), node);
-        assert_eq!(rt; element.into_token(), token);
+        assert!(rt; element.as_node().copied() == node);
+        assert!(rt; element.as_token().copied() == token);
+        assert!(rt; element.into_node() == node);
+        assert!(rt; element.into_token() == token);
     }
+}
+
+/// Whether a value is debugged as this text.
+fn debugs<T: Debug>(alloc: Global, value: &T, text: &str) -> Result<bool, AllocError> {
+    Ok(format!(in alloc; "{value:?}")?.as_str() == text)
 }
 
 #[test]
@@ -28,8 +35,8 @@ fn elements_show_what_they_hold(rt: HostRuntime) -> Result<(), Fail> {
         (Element::Node(7), "7", "Node(7)"),
         (Element::Token('t'), "t", "Token('t')"),
     ] {
-        assert_eq!(rt; element.to_string(rt.alloc())?.as_str(), shown);
-        assert_eq!(rt; format!(in rt.alloc(); "{element:?}")?.as_str(), debugged);
+        assert!(rt; element.to_string(rt.alloc())?.as_str() == shown);
+        assert!(rt; debugs(rt.alloc(), &element, debugged)?);
     }
     Ok(())
 }
@@ -38,14 +45,14 @@ fn elements_show_what_they_hold(rt: HostRuntime) -> Result<(), Fail> {
 fn nodes_stand_before_tokens(rt: HostRuntime) {
     assert!(rt; Element::Node(7) < Element::Token('a'));
     assert!(rt; Element::Token('a') < Element::Token('b'));
-    assert_ne!(rt; Element::Node(7), Element::Node(8));
+    assert!(rt; Element::Node(7) != Element::Node(8));
 }
 
 #[test]
 fn directions_are_two(rt: HostRuntime) -> Result<(), Fail> {
     assert!(rt; Direction::Next < Direction::Prev);
     for (direction, shown) in [(Direction::Next, "Next"), (Direction::Prev, "Prev")] {
-        assert_eq!(rt; format!(in rt.alloc(); "{direction:?}")?.as_str(), shown);
+        assert!(rt; debugs(rt.alloc(), &direction, shown)?);
     }
     Ok(())
 }
@@ -59,7 +66,7 @@ fn elements_and_directions_are_keys(rt: HostRuntime) -> Result<(), Fail> {
             assert!(rt; !keys.insert((element, direction))?);
         }
     }
-    assert_eq!(rt; keys.len(), 4);
+    assert!(rt; keys.len() == 4);
     Ok(())
 }
 
@@ -69,9 +76,8 @@ fn events_keep_their_case(rt: HostRuntime) -> Result<(), Fail> {
         (WalkEvent::Enter(7u8), "Enter(7)", "Enter((7, true))"),
         (WalkEvent::Leave(11), "Leave(11)", "Leave((11, true))"),
     ] {
-        let paired = event.map(|value| (value, true));
-        assert_eq!(rt; format!(in rt.alloc(); "{paired:?}")?.as_str(), mapped);
-        assert_eq!(rt; format!(in rt.alloc(); "{event:?}")?.as_str(), shown);
+        assert!(rt; debugs(rt.alloc(), &event, shown)?);
+        assert!(rt; debugs(rt.alloc(), &event.map(|value| (value, true)), mapped)?);
     }
     Ok(())
 }
@@ -87,20 +93,20 @@ const FOUND: [(TokenAtOffset<u8>, &[u8]); 3] = [
 fn tokens_come_from_left_to_right(rt: HostRuntime) {
     for (mut found, tokens) in FOUND {
         for (index, token) in tokens.iter().enumerate() {
-            assert_eq!(rt; found.len(), tokens.len() - index);
-            assert_eq!(rt; found.next(), Some(*token));
+            assert!(rt; found.len() == tokens.len() - index);
+            assert!(rt; found.next() == Some(*token));
         }
-        assert_eq!(rt; found.len(), 0);
-        assert_eq!(rt; found.next(), None);
-        assert_eq!(rt; found.next(), None);
+        assert!(rt; found.len() == 0);
+        assert!(rt; found.next() == None);
+        assert!(rt; found.next() == None);
     }
 }
 
 #[test]
 fn a_bias_takes_one_of_two(rt: HostRuntime) -> Result<(), Fail> {
     for (found, tokens) in FOUND {
-        assert_eq!(rt; found.clone()?.left_biased(), tokens.first().copied());
-        assert_eq!(rt; found.right_biased(), tokens.last().copied());
+        assert!(rt; found.clone()?.left_biased() == tokens.first().copied());
+        assert!(rt; found.right_biased() == tokens.last().copied());
     }
     Ok(())
 }
@@ -111,7 +117,7 @@ fn tokens_are_mapped_from_left_to_right(rt: HostRuntime) -> Result<(), Fail> {
     for ((found, _), shown) in FOUND.into_iter().zip(shown) {
         let mut before = 0;
         let mapped = found.map(|token| (mem::replace(&mut before, token), token));
-        assert_eq!(rt; format!(in rt.alloc(); "{mapped:?}")?.as_str(), shown);
+        assert!(rt; debugs(rt.alloc(), &mapped, shown)?);
     }
     Ok(())
 }

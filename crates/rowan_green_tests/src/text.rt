@@ -16,20 +16,24 @@ const TEXTS: [(&str, u32); 5] = [
 #[test]
 fn sizes_are_lengths_in_bytes(rt: HostRuntime) {
     for (text, len) in TEXTS {
-        assert_eq!(rt; u32::from(TextSize::of(text)), len, "{text:?}");
-        assert_eq!(rt; text.text_len(), TextSize::from(len), "{text:?}");
+        assert!(rt; u32::from(TextSize::of(text)) == len);
+        assert!(rt; text.text_len() == TextSize::from(len));
     }
 }
 
 #[test]
-fn sizes_come_from_numbers(rt: HostRuntime) -> Result<(), Fail> {
-    assert_eq!(rt; TextSize::default(), TextSize::from(0));
+fn sizes_come_from_numbers(rt: HostRuntime) {
     for raw in [0, 7, u32::MAX] {
-        assert_eq!(rt; u32::from(TextSize::from(raw)), raw);
+        assert!(rt; u32::from(TextSize::from(raw)) == raw);
     }
+    assert!(rt; TextSize::default() == TextSize::from(0));
     assert!(rt; TextSize::from(7) < TextSize::from(11));
+}
+
+#[test]
+fn sizes_show_their_number(rt: HostRuntime) -> Result<(), Fail> {
     let shown = format!(in rt.alloc(); "{:?}", TextSize::from(7))?;
-    assert_eq!(rt; shown.as_str(), "7");
+    assert!(rt; shown.as_str() == "7");
     Ok(())
 }
 
@@ -47,10 +51,10 @@ fn ranges_run_from_start_to_end(rt: HostRuntime) {
     for (start, end, len) in RANGES {
         assert!(rt; start <= end);
         let range = TextRange::new(TextSize::from(start), TextSize::from(end));
-        assert_eq!(rt; u32::from(range.start()), start);
-        assert_eq!(rt; u32::from(range.end()), end);
-        assert_eq!(rt; u32::from(range.len()), len);
-        assert_eq!(rt; range.is_empty(), len == 0);
+        assert!(rt; u32::from(range.start()) == start);
+        assert!(rt; u32::from(range.end()) == end);
+        assert!(rt; u32::from(range.len()) == len);
+        assert!(rt; range.is_empty() == (len == 0));
     }
 }
 
@@ -59,10 +63,7 @@ fn ranges_lie_at_an_offset(rt: HostRuntime) {
     for (start, end, len) in RANGES {
         assert!(rt; start <= end && len <= u32::MAX - start);
         let range = TextRange::new(TextSize::from(start), TextSize::from(end));
-        assert_eq!(rt;
-            TextRange::at(TextSize::from(start), TextSize::from(len)),
-            range
-        );
+        assert!(rt; TextRange::at(TextSize::from(start), TextSize::from(len)) == range);
     }
 }
 
@@ -70,7 +71,7 @@ fn ranges_lie_at_an_offset(rt: HostRuntime) {
 fn ranges_show_both_ends(rt: HostRuntime) -> Result<(), Fail> {
     let range = TextRange::new(TextSize::from(3), TextSize::from(11));
     let shown = format!(in rt.alloc(); "{range:?}")?;
-    assert_eq!(rt; shown.as_str(), "3..11");
+    assert!(rt; shown.as_str() == "3..11");
     Ok(())
 }
 
@@ -88,12 +89,8 @@ const SUMS: [(u32, u32, Option<u32>, Option<u32>); 6] = [
 fn sums_and_differences_stay_within_the_limits(rt: HostRuntime) {
     for (a, b, sum, difference) in SUMS {
         let (a, b) = (TextSize::from(a), TextSize::from(b));
-        assert_eq!(rt; a.checked_add(b), sum.map(TextSize::from), "{a:?} + {b:?}");
-        assert_eq!(rt;
-            a.checked_sub(b),
-            difference.map(TextSize::from),
-            "{a:?} - {b:?}"
-        );
+        assert!(rt; a.checked_add(b) == sum.map(TextSize::from));
+        assert!(rt; a.checked_sub(b) == difference.map(TextSize::from));
     }
 }
 
@@ -102,6 +99,11 @@ fn range(rt: &impl Abort, ends: (u32, u32)) -> TextRange {
     let (start, end) = ends;
     assert!(rt; start <= end);
     TextRange::new(TextSize::from(start), TextSize::from(end))
+}
+
+/// The two ends of a range.
+fn ends(range: TextRange) -> (u32, u32) {
+    (u32::from(range.start()), u32::from(range.end()))
 }
 
 /// Two ranges, and whether the first contains the second.
@@ -117,12 +119,8 @@ const INNER: [((u32, u32), (u32, u32), bool); 6] = [
 #[test]
 fn ranges_contain_ranges(rt: HostRuntime) {
     for (outer, inner, is_inside) in INNER {
-        let (outer, inner) = (range(&rt, outer), range(&rt, inner));
-        assert_eq!(rt;
-            outer.contains_range(inner),
-            is_inside,
-            "{inner:?} in {outer:?}"
-        );
+        let outer = range(&rt, outer);
+        assert!(rt; outer.contains_range(range(&rt, inner)) == is_inside);
     }
 }
 
@@ -130,11 +128,7 @@ fn ranges_contain_ranges(rt: HostRuntime) {
 fn ranges_contain_their_ends(rt: HostRuntime) {
     let range = range(&rt, (3, 7));
     for (offset, is_inside) in [(2, false), (3, true), (5, true), (7, true), (8, false)] {
-        assert_eq!(rt;
-            range.contains_inclusive(TextSize::from(offset)),
-            is_inside,
-            "{offset}"
-        );
+        assert!(rt; range.contains_inclusive(TextSize::from(offset)) == is_inside);
     }
 }
 
@@ -151,18 +145,10 @@ const PAIRS: [((u32, u32), (u32, u32), Option<(u32, u32)>, Ordering); 8] = [
 ];
 
 #[test]
-fn ranges_intersect(rt: HostRuntime) {
-    for (a, b, common, _) in PAIRS {
+fn ranges_intersect_and_stand_in_order(rt: HostRuntime) {
+    for (a, b, common, order) in PAIRS {
         let (a, b) = (range(&rt, a), range(&rt, b));
-        let common = common.map(|ends| range(&rt, ends));
-        assert_eq!(rt; a.intersect(b), common, "{a:?} and {b:?}");
-    }
-}
-
-#[test]
-fn ranges_stand_in_order(rt: HostRuntime) {
-    for (a, b, _, order) in PAIRS {
-        let (a, b) = (range(&rt, a), range(&rt, b));
-        assert_eq!(rt; a.ordering(b), order, "{a:?} and {b:?}");
+        assert!(rt; a.intersect(b).map(ends) == common);
+        assert!(rt; a.ordering(b) == order);
     }
 }

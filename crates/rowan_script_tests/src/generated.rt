@@ -4,6 +4,7 @@ use crate::model::{Kept, Model};
 use crate::run::{with_cache, with_own_cache};
 use crate::step::{Checkpoints, Step, script};
 use rowan::{Fault, GreenNode, NodeCache};
+use std::alloc::Global;
 use std::test::Fail;
 
 /// The form of a list of calls.
@@ -85,26 +86,56 @@ const FORMS: [(Form, u32); 3] = [
     (Form::OneToken, 20),
 ];
 
+/// What the drawn runs share.
+#[derive(Drop)]
+struct Drawing {
+    alloc: Global,
+    checkpoints: Checkpoints,
+    draws: Draws,
+    cache: NodeCache,
+    /// What the cache has to hold.
+    kept: Kept,
+}
+
+impl Drawing {
+    fn new(alloc: Global) -> Result<Drawing, Fault> {
+        Ok(Drawing {
+            alloc,
+            checkpoints: Checkpoints::new(alloc, 50)?,
+            draws: Draws::new(),
+            cache: NodeCache::new(alloc),
+            kept: Kept::new(alloc),
+        })
+    }
+
+    /// Draws a list of calls, and says whether it is answered as the plain word says, with an own and with the shared cache.
+    fn is_answered(&mut self, form: Form) -> Result<bool, Fault> {
+        let mut model = Model::new(self.alloc, &self.checkpoints);
+        draw(&mut model, form, &mut self.draws, &mut self.kept)?;
+        let calls = script(self.alloc, model.steps(), &self.checkpoints)?;
+        let expected = model.finish()?;
+        Ok(
+            may_end(form, &expected.finished)
+                && with_own_cache(self.alloc, calls.as_slice())? == expected
+                && with_cache(self.alloc, calls.as_slice(), &mut self.cache)? == expected,
+        )
+    }
+
+    /// Whether the cache holds as much as it has to.
+    fn is_kept(&self) -> bool {
+        self.cache.token_count() == self.kept.token_count()
+            && self.cache.node_count() == self.kept.node_count()
+    }
+}
+
 #[test]
 fn drawn_runs_are_those_of_the_plain_word(rt: HostRuntime) -> Result<(), Fail> {
-    let checkpoints = Checkpoints::new(rt.alloc(), 50)?;
-    let mut draws = Draws::new();
-    let mut cache = NodeCache::new(rt.alloc());
-    let mut kept = Kept::new(rt.alloc());
+    let mut drawing = Drawing::new(rt.alloc())?;
     for (form, lists) in FORMS {
-        for _list in 0..lists {
-            let mut model = Model::new(rt.alloc(), &checkpoints);
-            draw(&mut model, form, &mut draws, &mut kept)?;
-            let calls = script(rt.alloc(), model.steps(), &checkpoints)?;
-            let expected = model.finish()?;
-            assert!(rt; may_end(form, &expected.finished), "{calls:?}");
-            let own = with_own_cache(rt.alloc(), calls.as_slice())?;
-            assert!(rt; own == expected, "{calls:?}");
-            let shared = with_cache(rt.alloc(), calls.as_slice(), &mut cache)?;
-            assert!(rt; shared == expected, "{calls:?}");
+        for list in 0..lists {
+            assert!(rt; drawing.is_answered(form)?, "list {list}");
         }
     }
-    assert_eq!(rt; cache.token_count(), kept.token_count());
-    assert_eq!(rt; cache.node_count(), kept.node_count());
+    assert!(rt; drawing.is_kept());
     Ok(())
 }

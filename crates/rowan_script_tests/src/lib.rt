@@ -1,8 +1,6 @@
-//! Tests of whole runs of a builder: calls from start to end, with the builder's own cache and with one that all runs share.
+//! Tests of scripts of builder calls: whole runs, with the builder's own cache and with one that many runs share.
 #![tactic(auto)]
 
-#[cfg(test)]
-mod cases;
 #[cfg(test)]
 mod draws;
 #[cfg(test)]
@@ -17,3 +15,5 @@ mod run;
 mod step;
 #[cfg(test)]
 mod word;
+#[cfg(test)]
+mod worked;

@@ -1,6 +1,6 @@
 //! Green trees for the tests, each from its kinds and texts.
 use rowan::{Fault, GreenElement, GreenNode, GreenToken, SyntaxKind};
-use std::alloc::Global;
+use std::alloc::{AllocError, Global};
 
 /// A token.
 pub fn token(alloc: Global, kind: u16, text: &str) -> Result<GreenToken, Fault> {
@@ -30,4 +30,9 @@ pub fn tree(alloc: Global) -> Result<GreenNode, Fault> {
     children.push(GreenElement::from(word(alloc, 8, "ab")?))?;
     children.push(leaf(alloc, 3, "é")?)?;
     node(alloc, 9, children)
+}
+
+/// Whether a node displays this text.
+pub fn displays(alloc: Global, node: &GreenNode, text: &str) -> Result<bool, AllocError> {
+    Ok(node.to_string(alloc)?.as_str() == text)
 }

@@ -1,5 +1,6 @@
 //! The refusals: their numbers and their messages.
 use rowan::Fault;
+use std::alloc::{AllocError, Global};
 use std::test::Fail;
 
 /// The refusals, each with its number.
@@ -21,18 +22,21 @@ const FAULTS: [(Fault, u8); 12] = [
 #[test]
 fn faults_have_their_numbers(rt: HostRuntime) {
     for (fault, number) in FAULTS {
-        assert_eq!(rt; fault.number(), number, "{fault:?}");
+        assert!(rt; fault.number() == number);
     }
+}
+
+/// Whether two refusals have one message, which says something.
+fn say_the_same(alloc: Global, fault: Fault, other: Fault) -> Result<bool, AllocError> {
+    let message = fault.to_string(alloc)?;
+    Ok(!message.is_empty() && message == other.to_string(alloc)?)
 }
 
 #[test]
 fn faults_have_messages_of_their_own(rt: HostRuntime) -> Result<(), Fail> {
     for (fault, _) in FAULTS {
-        let message = fault.to_string(rt.alloc())?;
-        assert!(rt; !message.is_empty(), "{fault:?}");
         for (other, _) in FAULTS {
-            let is_same = other.to_string(rt.alloc())? == message;
-            assert_eq!(rt; is_same, other == fault, "{other:?} and {fault:?}");
+            assert!(rt; say_the_same(rt.alloc(), fault, other)? == (fault == other));
         }
     }
     Ok(())

@@ -1,14 +1,8 @@
-//! Tests of green trees, their builder and the cursors over them.
+//! Tests of green trees: what the worked cases of `rowan_cases` cannot say.
 #![tactic(auto)]
 
 #[cfg(test)]
-mod builder;
-#[cfg(test)]
-mod cache;
-#[cfg(test)]
 mod children;
-#[cfg(test)]
-mod cursor;
 #[cfg(test)]
 mod edits;
 #[cfg(test)]

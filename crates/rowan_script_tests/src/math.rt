@@ -185,6 +185,12 @@ fn parse_with(alloc: Global, cache: &mut NodeCache) -> Result<GreenNode, Fault> 
 fn math_operations_are_parsed(rt: HostRuntime) -> Result<(), Fail> {
     let expected = tree(rt.alloc(), MATH.as_slice())?;
     assert!(rt; parse(rt.alloc())? == expected);
+    Ok(())
+}
+
+#[test]
+fn math_operations_are_parsed_over_a_cache(rt: HostRuntime) -> Result<(), Fail> {
+    let expected = tree(rt.alloc(), MATH.as_slice())?;
     let mut cache = NodeCache::new(rt.alloc());
     for _time in 0..2 {
         assert!(rt; parse_with(rt.alloc(), &mut cache)? == expected);
