@@ -89,16 +89,20 @@ const FOUND: [(TokenAtOffset<u8>, &[u8]); 3] = [
     (TokenAtOffset::Between(7, 11), &[7, 11]),
 ];
 
+/// Whether the tokens come so, one after the other.
+fn gives(mut found: TokenAtOffset<u8>, tokens: &[u8]) -> bool {
+    for (index, token) in tokens.iter().enumerate() {
+        if found.len() != tokens.len() - index || found.next() != Some(*token) {
+            return false;
+        }
+    }
+    found.len() == 0 && found.next().is_none() && found.next().is_none()
+}
+
 #[test]
 fn tokens_come_from_left_to_right(rt: HostRuntime) {
-    for (mut found, tokens) in FOUND {
-        for (index, token) in tokens.iter().enumerate() {
-            assert!(rt; found.len() == tokens.len() - index);
-            assert!(rt; found.next() == Some(*token));
-        }
-        assert!(rt; found.len() == 0);
-        assert!(rt; found.next() == None);
-        assert!(rt; found.next() == None);
+    for (found, tokens) in FOUND {
+        assert!(rt; gives(found, tokens));
     }
 }
 
@@ -111,10 +115,16 @@ fn a_bias_takes_one_of_two(rt: HostRuntime) -> Result<(), Fail> {
     Ok(())
 }
 
+/// Tokens at an offset, and what they show once each has the one before it.
+const MAPPED: [(TokenAtOffset<u8>, &str); 3] = [
+    (TokenAtOffset::None, "None"),
+    (TokenAtOffset::Single(7), "Single((0, 7))"),
+    (TokenAtOffset::Between(7, 11), "Between((0, 7), (7, 11))"),
+];
+
 #[test]
 fn tokens_are_mapped_from_left_to_right(rt: HostRuntime) -> Result<(), Fail> {
-    let shown = ["None", "Single((0, 7))", "Between((0, 7), (7, 11))"];
-    for ((found, _), shown) in FOUND.into_iter().zip(shown) {
+    for (found, shown) in MAPPED {
         let mut before = 0;
         let mapped = found.map(|token| (mem::replace(&mut before, token), token));
         assert!(rt; debugs(rt.alloc(), &mapped, shown)?);

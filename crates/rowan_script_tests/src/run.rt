@@ -4,7 +4,7 @@ use rowan::{Fault, GreenNode, GreenNodeBuilder, NodeCache};
 use std::alloc::Global;
 
 /// What a run answers: the outcome of each call, and then the tree or why there is none.
-#[derive(PartialEq, Debug, Drop)]
+#[derive(PartialEq, Drop)]
 pub struct Run {
     pub outcomes: Vec<Outcome>,
     pub finished: Result<GreenNode, Fault>,

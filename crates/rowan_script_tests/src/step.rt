@@ -4,7 +4,7 @@ use rowan::{Checkpoint, Fault, GreenNodeBuilder, SyntaxKind};
 use std::alloc::Global;
 
 /// A call of a builder, as a constant can hold it. Marks are numbered from 0.
-#[derive(Clone, Copy, PartialEq, Eq, Debug)]
+#[derive(Clone, Copy, PartialEq, Eq)]
 pub enum Step {
     Token(u16, &'static str),
     Start(u16),

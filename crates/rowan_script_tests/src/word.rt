@@ -4,7 +4,7 @@ use rowan::{Fault, GreenElement, GreenNode, GreenToken, NodeOrToken, SyntaxKind}
 use std::alloc::{AllocError, Global};
 
 /// An opening, a token or a closing.
-#[derive(Clone, Copy, PartialEq, Eq, Debug)]
+#[derive(Clone, Copy, PartialEq, Eq)]
 pub enum Symbol {
     Open(u16),
     Leaf(u16, &'static str),
