@@ -1,10 +1,9 @@
 //! Printed trees of a language with two kinds, of which one has many raw kinds.
-
-use rowan::{GreenNode, GreenNodeBuilder, Language, SyntaxKind, SyntaxNode};
+use rowan::{Fault, GreenNode, GreenNodeBuilder, Language, SyntaxKind, SyntaxNode};
 use std::alloc::Global;
 use std::test::Fail;
 
-// A language of groups, which have the raw kind 0, and leaves, which have all others.
+/// A language of groups, which have the raw kind 0, and leaves, which have all others.
 #[derive(Clone, Copy, PartialEq, Eq, PartialOrd, Ord, Hash, Debug)]
 struct Groups;
 
@@ -46,8 +45,8 @@ impl Language for Groups {
     }
 }
 
-// A group of leaves and of groups in brackets.
-fn group(alloc: Global, leaves: &[&str]) -> Result<GreenNode, Fail> {
+/// A group of leaves and of groups in brackets.
+fn group(alloc: Global, leaves: &[&str]) -> Result<GreenNode, Fault> {
     let mut builder = GreenNodeBuilder::new(alloc);
     builder.start_node(SyntaxKind(0))?;
     for leaf in leaves {
@@ -60,57 +59,69 @@ fn group(alloc: Global, leaves: &[&str]) -> Result<GreenNode, Fail> {
         }
     }
     builder.finish_node()?;
-    Ok(builder.finish().ok().ok_or("no node")?)
+    match builder.finish() {
+        Ok(group) => return Ok(group),
+        Err(unfinished) => return Err(unfinished.fault()),
+    }
 }
+
+fn root_of(alloc: Global, leaves: &[&str]) -> Result<SyntaxNode<Groups>, Fault> {
+    SyntaxNode::new_root(alloc, group(alloc, leaves)?)
+}
+
+/// Whether a group of these leaves prints these lines.
+fn prints(alloc: Global, leaves: &[&str], lines: &str) -> Result<bool, Fault> {
+    let root = root_of(alloc, leaves)?;
+    Ok(root.debug_tree(alloc)?.as_str() == lines)
+}
+
+const NESTED: &str = r#"GROUP@0..5
+  GROUP@0..5
+    LEAF@0..1 "("
+    GROUP@1..4
+      LEAF@1..2 "("
+      LEAF@2..3 "a"
+      LEAF@3..4 ")"
+    LEAF@4..5 ")"
+"#;
 
 #[test]
 fn prints_a_line_for_each_element(rt: HostRuntime) -> Result<(), Fail> {
-    let green = group(rt.alloc(), &["(", "(", "a", ")", ")"])?;
-    let root: SyntaxNode<Groups> = SyntaxNode::new_root(rt.alloc(), green)?;
-    let text = root.debug_tree(rt.alloc())?;
-    let lines =
-        "GROUP@0..5\n  GROUP@0..5\n    LEAF@0..1 \"(\"\n    GROUP@1..4\n      LEAF@1..2 \"(\"\n      LEAF@2..3 \"a\"\n      LEAF@3..4 \")\"\n    LEAF@4..5 \")\"\n";
-    assert_eq!(rt; text.as_str(), lines);
+    let leaves = ["(", "(", "a", ")", ")"];
+    assert!(rt; prints(rt.alloc(), leaves.as_slice(), NESTED)?);
     Ok(())
 }
 
+/// A leaf's text, and the lines of a group of it.
+const QUOTED: [(&str, &str); 5] = [
+    ("", "GROUP@0..0\n  LEAF@0..0 \"\"\n"),
+    ("\"\\\n'", "GROUP@0..4\n  LEAF@0..4 \"\\\"\\\\\\n'\"\n"),
+    (
+        "aaaaaaaaaaaaaaaaaaaaéaa",
+        "GROUP@0..24\n  LEAF@0..24 \"aaaaaaaaaaaaaaaaaaaaéaa\"\n",
+    ),
+    (
+        "aaaaaaaaaaaaaaaaaaaaéaaaaa",
+        "GROUP@0..27\n  LEAF@0..27 \"aaaaaaaaaaaaaaaaaaaaé ...\"\n",
+    ),
+    (
+        "aaaaaaaaaaaaaaaaaaaaaaaaa",
+        "GROUP@0..25\n  LEAF@0..25 \"aaaaaaaaaaaaaaaaaaaaa ...\"\n",
+    ),
+];
+
 #[test]
 fn quotes_and_cuts(rt: HostRuntime) -> Result<(), Fail> {
-    let cases = [
-        ("", "GROUP@0..0\n  LEAF@0..0 \"\"\n"),
-        ("\"\\\n'", "GROUP@0..4\n  LEAF@0..4 \"\\\"\\\\\\n'\"\n"),
-        (
-            "aaaaaaaaaaaaaaaaaaaaéaa",
-            "GROUP@0..24\n  LEAF@0..24 \"aaaaaaaaaaaaaaaaaaaaéaa\"\n",
-        ),
-        (
-            "aaaaaaaaaaaaaaaaaaaaéaaaaa",
-            "GROUP@0..27\n  LEAF@0..27 \"aaaaaaaaaaaaaaaaaaaaé ...\"\n",
-        ),
-        (
-            "aaaaaaaaaaaaaaaaaaaaaaaaa",
-            "GROUP@0..25\n  LEAF@0..25 \"aaaaaaaaaaaaaaaaaaaaa ...\"\n",
-        ),
-    ];
-    for (leaf, lines) in cases {
-        let root: SyntaxNode<Groups> = SyntaxNode::new_root(
-            rt.alloc(),
-            group(rt.alloc(), &[leaf])?,
-        )?;
-        let text = root.debug_tree(rt.alloc())?;
-        assert_eq!(rt; text.as_str(), lines);
+    for (leaf, lines) in QUOTED {
+        assert!(rt; prints(rt.alloc(), [leaf].as_slice(), lines)?);
     }
     Ok(())
 }
 
 #[test]
 fn shows_the_text(rt: HostRuntime) -> Result<(), Fail> {
-    let root: SyntaxNode<Groups> = SyntaxNode::new_root(
-        rt.alloc(),
-        group(rt.alloc(), &["(", "a b", ")", "é"])?,
-    )?;
-    let text = root.to_string(rt.alloc())?;
-    assert_eq!(rt; text.as_str(), "(a b)é");
-    assert_eq!(rt; root.kind(), Kind::Group);
+    let root = root_of(rt.alloc(), ["(", "a b", ")", "é"].as_slice())?;
+    assert!(rt; root.kind() == Kind::Group);
+    assert!(rt; root.to_string(rt.alloc())?.as_str() == "(a b)é");
     Ok(())
 }

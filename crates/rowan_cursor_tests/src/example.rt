@@ -1,6 +1,6 @@
 //! The example of README.md.
 use rowan::cursor::{ElementCalls, SyntaxNode};
-use rowan::{Fault, GreenNode, GreenNodeBuilder, SyntaxKind, TextRange};
+use rowan::{Fault, GreenNode, GreenNodeBuilder, SyntaxKind, TextRange, TextSize};
 use std::alloc::Global;
 use std::test::Fail;
 
@@ -34,8 +34,7 @@ fn second_child(alloc: Global, tree: GreenNode) -> Result<Option<TextRange>, Fau
 #[test]
 fn second_child_of_a_call(rt: HostRuntime) -> Result<(), Fail> {
     let tree = call(rt.alloc())?;
-    assert_eq!(rt; tree.to_string(rt.alloc())?.as_str(), "print()");
     let range = second_child(rt.alloc(), tree)?.ok_or("no second child")?;
-    assert_eq!(rt; (u32::from(range.start()), u32::from(range.end())), (5, 7));
+    assert!(rt; range == TextRange::new(TextSize::from(5), TextSize::from(7)));
     Ok(())
 }

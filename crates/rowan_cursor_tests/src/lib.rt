@@ -1,19 +1,15 @@
-//! Tests of the cursors over green trees.
+//! Tests of the cursors over green trees: what the worked cases of `rowan_cases` cannot say.
 #![tactic(auto)]
 
 #[cfg(test)]
 mod clones;
+#[cfg(test)]
+mod display;
 #[cfg(test)]
 mod elements;
 #[cfg(test)]
 mod example;
 #[cfg(test)]
 mod fixture;
-#[cfg(test)]
-mod paths;
-#[cfg(test)]
-mod siblings;
-#[cfg(test)]
-mod tokens;
 #[cfg(test)]
 mod twins;

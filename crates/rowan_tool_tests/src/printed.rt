@@ -1,7 +1,7 @@
-//! The trees that the program prints.
+//! The trees that the program prints of single tokens, and of a long text.
 use crate::streams::words;
 use rowan_tool::program::run;
-use std::alloc::Global;
+use std::alloc::{AllocError, Global};
 use std::test::Fail;
 
 /// What `tree` prints for a text.
@@ -13,65 +13,6 @@ fn printed(alloc: Global, text: &str) -> Result<String, Fail> {
         Ok(shown) => Ok(shown),
         Err(_) => Err(Fail::from("no text")),
     }
-}
-
-/// The tree of `(+ (* 15 2) 62)`.
-const SUM_OF_PRODUCT: &str = r#"ROOT@0..15
-  LIST@0..15
-    L_PAREN@0..1 "("
-    ATOM@1..2
-      WORD@1..2 "+"
-    WHITESPACE@2..3 " "
-    LIST@3..11
-      L_PAREN@3..4 "("
-      ATOM@4..5
-        WORD@4..5 "*"
-      WHITESPACE@5..6 " "
-      ATOM@6..8
-        WORD@6..8 "15"
-      WHITESPACE@8..9 " "
-      ATOM@9..10
-        WORD@9..10 "2"
-      R_PAREN@10..11 ")"
-    WHITESPACE@11..12 " "
-    ATOM@12..14
-      WORD@12..14 "62"
-    R_PAREN@14..15 ")"
-"#;
-
-#[test]
-fn sum_of_product(rt: HostRuntime) -> Result<(), Fail> {
-    let shown = printed(rt.alloc(), "(+ (* 15 2) 62)")?;
-    assert_eq!(rt; shown.as_str(), SUM_OF_PRODUCT);
-    Ok(())
-}
-
-#[test]
-fn empty_input(rt: HostRuntime) -> Result<(), Fail> {
-    assert_eq!(rt; printed(rt.alloc(), "")?.as_str(), "ROOT@0..0\n");
-    Ok(())
-}
-
-/// The tree of `(a `.
-const MISSING_PAREN: &str = r#"ROOT@0..3
-  LIST@0..3
-    L_PAREN@0..1 "("
-    ATOM@1..2
-      WORD@1..2 "a"
-    WHITESPACE@2..3 " "
-"#;
-
-/// The tree of `)`.
-const STRAY_PAREN: &str = r#"ROOT@0..1
-  ERROR@0..1
-    R_PAREN@0..1 ")"
-"#;
-
-#[test]
-fn stray_and_missing_parens(rt: HostRuntime) -> Result<(), Fail> {
-    assert_eq!(rt; printed(rt.alloc(), ")")?.as_str(), STRAY_PAREN);
-    assert_eq!(rt; printed(rt.alloc(), "(a ")?.as_str(), MISSING_PAREN);
-    Ok(())
 }
 
 /// Texts of one token, and the line of that token.
@@ -97,21 +38,24 @@ const TOKENS: [(&str, &str); 7] = [
 #[test]
 fn long_and_blank_words(rt: HostRuntime) -> Result<(), Fail> {
     for (text, line) in TOKENS {
-        let shown = printed(rt.alloc(), text)?;
-        assert!(rt; shown.as_str().ends_with(line), "{shown}");
+        assert!(rt; printed(rt.alloc(), text)?.as_str().ends_with(line));
     }
     Ok(())
+}
+
+fn blanks(alloc: Global, count: usize) -> Result<String, AllocError> {
+    let mut text = String::new(alloc);
+    for _ in 0..count {
+        text.push(' ')?;
+    }
+    Ok(text)
 }
 
 /// Reads of more than one buffer.
 #[test]
 fn long_texts_are_read_whole(rt: HostRuntime) -> Result<(), Fail> {
-    let mut text = String::new(rt.alloc());
-    for _ in 0..200_000 {
-        text.push(' ')?;
-    }
-    let shown = printed(rt.alloc(), text.as_str())?;
+    let text = blanks(rt.alloc(), 200_000)?;
     let line = "ROOT@0..200000\n  WHITESPACE@0..200000 \"                      ...\"\n";
-    assert_eq!(rt; shown.as_str(), line);
+    assert!(rt; printed(rt.alloc(), text.as_str())?.as_str() == line);
     Ok(())
 }

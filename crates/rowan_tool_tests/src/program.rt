@@ -1,7 +1,7 @@
 //! The program, over readers and writers that may fail.
 use crate::streams::{FailingReader, FailingWriter, words};
 use rowan_tool::program::{Stop, run};
-use std::alloc::Global;
+use std::alloc::{AllocError, Global};
 use std::io::ErrorKind;
 use std::test::Fail;
 
@@ -34,14 +34,23 @@ const LIST_TREE: &str = r#"ROOT@0..7
     R_PAREN@6..7 ")"
 "#;
 
+/// Whether `tree` over an input stops so and writes this.
+fn answers(
+    alloc: Global,
+    input: FailingReader<'_>,
+    expected: Result<(), Stop>,
+    text: &str,
+) -> Result<bool, Fail> {
+    let (outcome, written) = tree_over(alloc, input, 1_000)?;
+    Ok(outcome == expected && written.as_slice() == text.as_bytes())
+}
+
 #[test]
 fn interrupted_reads_are_made_again(rt: HostRuntime) -> Result<(), Fail> {
     for reads in 0..6 {
         let input = FailingReader::new(LIST.as_bytes(), reads, ErrorKind::Interrupted);
-        let (outcome, written) = tree_over(rt.alloc(), input, 1_000)?;
-        assert_eq!(rt; outcome, Ok(()), "after {reads} reads");
         assert!(rt;
-            written.as_slice() == LIST_TREE.as_bytes(),
+            answers(rt.alloc(), input, Ok(()), LIST_TREE)?,
             "after {reads} reads"
         );
     }
@@ -52,23 +61,28 @@ fn interrupted_reads_are_made_again(rt: HostRuntime) -> Result<(), Fail> {
 fn stops_at_each_failed_read(rt: HostRuntime) -> Result<(), Fail> {
     for reads in 0..4 {
         let input = FailingReader::new(LIST.as_bytes(), reads, ErrorKind::PermissionDenied);
-        let (outcome, written) = tree_over(rt.alloc(), input, 1_000)?;
-        assert_eq!(rt; outcome, Err(Stop::CannotRead), "after {reads} reads");
-        assert!(rt; written.is_empty(), "after {reads} reads");
+        let expected = Err(Stop::CannotRead);
+        assert!(rt;
+            answers(rt.alloc(), input, expected, "")?,
+            "after {reads} reads"
+        );
     }
     Ok(())
 }
 
-/// What was written before a failed write is the beginning of the tree. The last call that fails is the flush.
+/// Whether `tree` with a write that fails after so many stops for it, with the beginning of the tree written.
+fn stops_at_write(alloc: Global, writes: usize) -> Result<bool, Fail> {
+    let input = FailingReader::new(LIST.as_bytes(), 1_000, ErrorKind::PermissionDenied);
+    let (outcome, written) = tree_over(alloc, input, writes)?;
+    Ok(outcome == Err(Stop::CannotWrite) && LIST_TREE.as_bytes().starts_with(written.as_slice()))
+}
+
+/// The last call that fails is the flush.
 #[test]
 fn stops_at_each_failed_write(rt: HostRuntime) -> Result<(), Fail> {
-    let all = LIST_TREE.as_bytes();
-    for writes in 0..=all.len().div_ceil(3) {
-        let input = FailingReader::new(LIST.as_bytes(), 1_000, ErrorKind::PermissionDenied);
-        let (outcome, written) = tree_over(rt.alloc(), input, writes)?;
-        assert_eq!(rt; outcome, Err(Stop::CannotWrite), "after {writes} writes");
+    for writes in 0..=LIST_TREE.len().div_ceil(3) {
         assert!(rt;
-            all.starts_with(written.as_slice()),
+            stops_at_write(rt.alloc(), writes)?,
             "after {writes} writes"
         );
     }
@@ -88,9 +102,7 @@ const NO_TEXTS: [&[u8]; 5] = [
 fn refuses_bytes_that_are_no_text(rt: HostRuntime) -> Result<(), Fail> {
     for bytes in NO_TEXTS {
         let input = FailingReader::new(bytes, 1_000, ErrorKind::PermissionDenied);
-        let (outcome, written) = tree_over(rt.alloc(), input, 1_000)?;
-        assert_eq!(rt; outcome, Err(Stop::NotUtf8), "{bytes:?}");
-        assert!(rt; written.is_empty(), "{bytes:?}");
+        assert!(rt; answers(rt.alloc(), input, Err(Stop::NotUtf8), "")?);
     }
     Ok(())
 }
@@ -106,16 +118,19 @@ const NO_COMMANDS: [&[&str]; 7] = [
     &["tree", ""],
 ];
 
+/// Whether the program refuses these arguments, and neither reads nor writes.
+fn is_usage(alloc: Global, list: &[&str]) -> Result<bool, AllocError> {
+    let args = words(alloc, list)?;
+    let mut input = FailingReader::new(LIST.as_bytes(), 0, ErrorKind::PermissionDenied);
+    let mut output = FailingWriter::new(alloc, 0);
+    let outcome = run(alloc, args.as_slice(), &mut input, &mut output);
+    Ok(outcome == Err(Stop::Usage) && input.left == 0 && output.written.is_empty())
+}
+
 #[test]
 fn refuses_other_arguments(rt: HostRuntime) -> Result<(), Fail> {
     for list in NO_COMMANDS {
-        let args = words(rt.alloc(), list)?;
-        let mut input = FailingReader::new(LIST.as_bytes(), 0, ErrorKind::PermissionDenied);
-        let mut output = FailingWriter::new(rt.alloc(), 0);
-        let outcome = run(rt.alloc(), args.as_slice(), &mut input, &mut output);
-        assert_eq!(rt; outcome, Err(Stop::Usage), "{list:?}");
-        assert_eq!(rt; input.left, 0, "{list:?}");
-        assert!(rt; output.written.is_empty(), "{list:?}");
+        assert!(rt; is_usage(rt.alloc(), list)?);
     }
     Ok(())
 }
@@ -133,7 +148,7 @@ const STOPS: [(Stop, u8, &str); 6] = [
 #[test]
 fn program_refusals(rt: HostRuntime) {
     for (stop, status, line) in STOPS {
-        assert_eq!(rt; stop.status(), status, "{stop:?}");
-        assert_eq!(rt; stop.line(), line, "{stop:?}");
+        assert!(rt; stop.status() == status);
+        assert!(rt; stop.line() == line);
     }
 }
