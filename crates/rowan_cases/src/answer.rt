@@ -48,14 +48,6 @@ pub struct Answered<'a> {
 }
 
 impl<'a> Answer<'a> {
-    /// The answer to a call that can be refused.
-    pub fn to_call(outcome: Result<(), Fault>) -> Answer<'a> {
-        match outcome {
-            Ok(()) => Answer::Accepted,
-            Err(fault) => Answer::Refused(fault),
-        }
-    }
-
     /// The answer that tells what a cache keeps.
     pub fn counts(cache: &NodeCache) -> Answer<'a> {
         Answer::Counts(cache.token_count(), cache.node_count())

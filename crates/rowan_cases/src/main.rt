@@ -15,6 +15,7 @@ mod instruction;
 mod operand;
 mod place;
 mod program_run;
+mod run;
 mod runner;
 mod standing;
 mod stored;

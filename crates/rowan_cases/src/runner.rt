@@ -44,6 +44,23 @@ pub fn answers_of<'s>(alloc: Global, file: &'s CaseFile<'_>) -> Result<Vec<Answe
     Ok(answers)
 }
 
+/// The answers to all lines of a case file without `Cache` lines, where all its cases share one cache.
+pub fn answers_over<'s>(
+    alloc: Global,
+    file: &'s CaseFile<'_>,
+    cache: &mut NodeCache,
+) -> Result<Vec<Answered<'s>>, Fault> {
+    let mut answers = Vec::new(alloc);
+    for case in file.cases.as_slice() {
+        answers.push(Answered {
+            line: case.number,
+            answer: Answer::Case(case.name),
+        })?;
+        answer_lines(alloc, cache, case.lines.as_slice(), &mut answers)?;
+    }
+    Ok(answers)
+}
+
 /// The cache of that number, which is made where the file first names it.
 fn shared_cache<'c>(
     alloc: Global,

@@ -3,8 +3,9 @@
 use crate::case_file::CaseFile;
 use crate::compare::{Comparison, compare};
 use crate::program_run::StoredRun;
-use crate::runner;
+use crate::{operand, runner};
 use anyhow::{Context, Result};
+use rowan::NodeCache;
 use std::fs;
 use std::rt::Files;
 
@@ -16,9 +17,13 @@ pub fn is_as_wanted(rt: &(impl Files + Print + AllocGlobal), argument: &str) -> 
     }
 }
 
-/// Compares what a name stands for, and prints what was found: `NAME` is a case file, `FOLDER.run` whole runs of the program,
-/// and `FOLDER.COMMAND` texts with what the program prints of them.
+/// Compares what a name stands for, and prints what was found: `NAME` is a case file, `shared:LIMIT:NAME` one whose cases share a
+/// cache, `FOLDER.run` whole runs of the program, and `FOLDER.COMMAND` texts with what the program prints of them.
 fn is_equal(rt: &(impl Files + Print + AllocGlobal), name: &str) -> Result<bool> {
+    if let Some(shared) = name.strip_prefix("shared:") {
+        let (limit, name) = shared.split_once(':').context("a limit is missing")?;
+        return is_equal_over_one_cache(rt, limit, name);
+    }
     match name.split_once('.') {
         Some((folder, ending)) => are_runs_equal(rt, folder, ending),
         None => is_case_file_equal(rt, name),
@@ -33,6 +38,26 @@ fn is_case_file_equal(rt: &(impl Files + Print + AllocGlobal), name: &str) -> Re
     let answers = runner::answers_of(alloc, &file)?;
     let comparison = compare(alloc, answers.as_slice(), wanted.as_str())?;
     println!(rt; "{name}: {comparison}")?;
+    Ok(matches!(comparison, Comparison::Equal { .. }))
+}
+
+/// Compares the answers to a case file whose cases all share one cache.
+fn is_equal_over_one_cache(
+    rt: &(impl Files + Print + AllocGlobal),
+    limit: &str,
+    name: &str,
+) -> Result<bool> {
+    let alloc = rt.alloc();
+    let text = read_text(rt, name, "case")?;
+    let wanted = read_text(rt, name, "out")?;
+    let file = CaseFile::parse(alloc, text.as_str()).context(format_args!("reading {name}.case"))?;
+    let mut cache = NodeCache::with_limit(alloc, operand::number(limit)? as usize);
+    let answers = runner::answers_over(alloc, &file, &mut cache)?;
+    let comparison = compare(alloc, answers.as_slice(), wanted.as_str())?;
+    let (tokens, nodes) = (cache.token_count(), cache.node_count());
+    println!(rt;
+        "shared:{limit}:{name}: {comparison}; the cache keeps {tokens} tokens, {nodes} nodes"
+    )?;
     Ok(matches!(comparison, Comparison::Equal { .. }))
 }
 

@@ -4,15 +4,13 @@ use rowan::{Checkpoint, Fault, GreenNodeBuilder, SyntaxKind};
 use std::alloc::Global;
 
 /// A call of a builder, as a constant can hold it. Marks are numbered from 0.
-#[derive(Clone, Copy, PartialEq, Eq)]
+#[derive(Clone, Copy)]
 pub enum Step {
     Token(u16, &'static str),
     Start(u16),
     Finish,
     Mark,
     StartAtMark(usize, u16),
-    /// Opens a node at a checkpoint of another builder, which holds so many elements.
-    StartAtCount(usize, u16),
 }
 
 /// Checkpoints of another builder, by the number of elements that it holds.
@@ -40,11 +38,7 @@ impl Checkpoints {
 }
 
 /// The calls of a script.
-pub fn script(
-    alloc: Global,
-    steps: &[Step],
-    checkpoints: &Checkpoints,
-) -> Result<Vec<Call>, Fault> {
+pub fn script(alloc: Global, steps: &[Step]) -> Result<Vec<Call>, Fault> {
     let mut calls = Vec::new(alloc);
     for step in steps {
         let call = match *step {
@@ -55,9 +49,6 @@ pub fn script(
             Step::Finish => Call::FinishNode,
             Step::Mark => Call::Mark,
             Step::StartAtMark(mark, kind) => Call::StartNodeAt(mark, SyntaxKind(kind)),
-            Step::StartAtCount(count, kind) => {
-                Call::StartNodeAtCheckpoint(checkpoints.at(count)?, SyntaxKind(kind))
-            }
         };
         calls.push(call)?;
     }

@@ -57,16 +57,12 @@ const UNTAKEN_MARK: [(Step, Answer); 5] = [
     (Finish, Accepted),
 ];
 
-fn calls(
-    alloc: Global,
-    answered: &[(Step, Answer)],
-    checkpoints: &Checkpoints,
-) -> Result<Vec<Call>, Fault> {
+fn calls(alloc: Global, answered: &[(Step, Answer)]) -> Result<Vec<Call>, Fault> {
     let mut steps = Vec::new(alloc);
     for (step, _) in answered {
         steps.push(*step)?;
     }
-    script(alloc, steps.as_slice(), checkpoints)
+    script(alloc, steps.as_slice())
 }
 
 fn outcome(answer: Answer, checkpoints: &Checkpoints) -> Result<Outcome, Fault> {
@@ -99,7 +95,7 @@ fn is_answered(
     symbols: &[Symbol],
 ) -> Result<bool, Fault> {
     let checkpoints = Checkpoints::new(alloc, 3)?;
-    let calls = calls(alloc, answered, &checkpoints)?;
+    let calls = calls(alloc, answered)?;
     let expected = expected(alloc, answered, symbols, &checkpoints)?;
     let mut cache = NodeCache::new(alloc);
     Ok(
