@@ -17,7 +17,7 @@ impl Language for Groups {
     type Kind = Kind;
 
     ghost use Rattle.std.specs.Prelude.{◌==◌, codes, if◌then◌else◌};
-    ghost use Rattle.rowan_api_tests.specs.declared.printed.Kind.TheVariants.{Group, Leaf};
+    ghost use Rattle.rowan_tool_tests.specs.declared.language.Kind.TheVariants.{Group, Leaf};
 
     ghost meaning = { λ raw. if raw == 0 then Group else Leaf };
 

@@ -1,5 +1,0 @@
-//! Tests of the typed layer.
-#![tactic(auto)]
-
-#[cfg(test)]
-mod printed;
