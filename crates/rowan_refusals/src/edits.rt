@@ -45,24 +45,58 @@ fn spliced(alloc: Global, node: &GreenNode, child: &GreenToken) -> Result<GreenN
     node.splice_children(0..1, vec![in alloc; leaf(child)?, leaf(child)?]?)
 }
 
+/// Makes an edit, and says what came of it.
+fn tell_edit<F: FnMut() -> Result<GreenNode, Fault>>(
+    log: &Transcript<'_>,
+    call: &str,
+    name: &str,
+    make: F,
+) -> Result<(), Stop>
+    requires { F.IsAlwaysCallable make }
+{
+    let edited = log.ask(call, make)?;
+    log.tell(name, &Shape(&edited))
+}
+
+/// A child past the last one is not replaced.
+fn tell_no_edit(log: &Transcript<'_>, node: &GreenNode, child: &GreenToken) -> Result<(), Stop> {
+    let equal = log.ask(
+        "replace_child past the last",
+        || node.replace_child(2, leaf(child)?),
+    )?;
+    log.tell("equal", &(equal == *node))
+}
+
 pub fn child_edits(log: &Transcript<'_>) -> Result<(), Stop> {
     let alloc = log.alloc();
     let a = log.ask("GreenToken::new", || GreenToken::new(alloc, TOKEN, "a"))?;
     let b = log.ask("GreenToken::new", || GreenToken::new(alloc, TOKEN, "b"))?;
     let node = log.ask("GreenNode::new", || pair(alloc, &a, &b))?;
-    let replaced = log.ask("replace_child", || node.replace_child(0, leaf(&b)?))?;
-    log.tell("replaced", &Shape(&replaced))?;
-    let equal = log.ask(
-        "replace_child past the last",
-        || node.replace_child(2, leaf(&b)?),
-    )?;
-    log.tell("equal", &(equal == node))?;
-    let inserted = log.ask("insert_child", || with_last(&node, leaf(&b)?))?;
-    log.tell("inserted", &Shape(&inserted))?;
-    let removed = log.ask("remove_child", || without(&node, 0))?;
-    log.tell("removed", &Shape(&removed))?;
-    let spliced = log.ask("splice_children", || spliced(alloc, &node, &b))?;
-    log.tell("spliced", &Shape(&spliced))?;
+    tell_edits(log, &node, &b)?;
     log.tell("as before", &Shape(&node))?;
     log.phase(Phase::Dropping)
+}
+
+fn tell_edits(log: &Transcript<'_>, node: &GreenNode, b: &GreenToken) -> Result<(), Stop> {
+    let alloc = log.alloc();
+    tell_edit(
+        log,
+        "replace_child",
+        "replaced",
+        || node.replace_child(0, leaf(b)?),
+    )?;
+    tell_no_edit(log, node, b)?;
+    tell_edit(
+        log,
+        "insert_child",
+        "inserted",
+        || with_last(node, leaf(b)?),
+    )?;
+    tell_edit(log, "remove_child", "removed", || without(node, 0))?;
+    tell_edit(
+        log,
+        "splice_children",
+        "spliced",
+        || spliced(alloc, node, b),
+    )
 }

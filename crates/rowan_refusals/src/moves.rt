@@ -3,7 +3,7 @@
 use crate::calls::Call::{self, Finish, Start, Token};
 use crate::calls::tree_of;
 use crate::transcript::{Phase, Stop, Transcript};
-use rowan::cursor::SyntaxNode;
+use rowan::cursor::{SyntaxNode, SyntaxToken};
 use rowan::script::element_at;
 use rowan::{Direction, Fault};
 use rowan_tool::sexp::parse;
@@ -54,13 +54,19 @@ pub fn tokens_beside_empty_nodes(log: &Transcript<'_>) -> Result<(), Stop> {
     log.phase(Phase::Moving)?;
     log.tell("first_token", &first.first_token())?;
     log.tell("last_token", &first.last_token())?;
-    let a = found(between.first_token())?;
-    log.tell("next_token", &a.next_token())?;
-    log.tell("prev_token", &a.prev_token())?;
-    let b = found(between.last_token())?;
-    log.tell("next_token", &b.next_token())?;
-    log.tell("prev_token", &b.prev_token())?;
+    tell_neighbours(log, between.first_token())?;
+    tell_neighbours(log, between.last_token())?;
     log.phase(Phase::Dropping)
+}
+
+/// Says what stands beside a token that has to be there.
+fn tell_neighbours(
+    log: &Transcript<'_>,
+    token: Result<Option<SyntaxToken>, Fault>,
+) -> Result<(), Stop> {
+    let token = found(token)?;
+    log.tell("next_token", &token.next_token())?;
+    log.tell("prev_token", &token.prev_token())
 }
 
 /// A token, a list, a blank and an atom.
@@ -87,6 +93,17 @@ pub fn siblings_among_tokens(log: &Transcript<'_>) -> Result<(), Stop> {
         log.tell("child", &child)?;
     }
     let list = found(root.first_child())?;
+    tell_atom(log, &list)?;
+    tell_siblings_of_first_token(log, &root)?;
+    tell_ancestors_of_first_token(log, &list)?;
+    for places in PLACES {
+        log.tell("element_at", &element_at(&root, places))?;
+    }
+    log.phase(Phase::Dropping)
+}
+
+/// Says what stands around the atom behind the list.
+fn tell_atom(log: &Transcript<'_>, list: &SyntaxNode) -> Result<(), Stop> {
     let atom = found(list.next_sibling())?;
     log.tell("next_sibling", &atom)?;
     log.tell("index", &atom.index())?;
@@ -94,17 +111,23 @@ pub fn siblings_among_tokens(log: &Transcript<'_>) -> Result<(), Stop> {
     for sibling in atom.siblings(Direction::Prev) {
         log.tell("sibling", &sibling)?;
     }
-    let a = found(root.first_token())?;
-    for sibling in a.siblings_with_tokens(Direction::Next) {
+    Ok(())
+}
+
+fn tell_siblings_of_first_token(log: &Transcript<'_>, root: &SyntaxNode) -> Result<(), Stop> {
+    let token = found(root.first_token())?;
+    for sibling in token.siblings_with_tokens(Direction::Next) {
         log.tell("sibling_with_tokens", &sibling)?;
     }
-    for ancestor in found(list.first_token())?.ancestors() {
+    Ok(())
+}
+
+fn tell_ancestors_of_first_token(log: &Transcript<'_>, list: &SyntaxNode) -> Result<(), Stop> {
+    let token = found(list.first_token())?;
+    for ancestor in token.ancestors() {
         log.tell("ancestor", &ancestor)?;
     }
-    for places in PLACES {
-        log.tell("element_at", &element_at(&root, places))?;
-    }
-    log.phase(Phase::Dropping)
+    Ok(())
 }
 
 /// A token and two lists without children.
@@ -127,15 +150,27 @@ fn hash_of(node: &SyntaxNode) -> u64 {
 pub fn equal_empty_twins(log: &Transcript<'_>) -> Result<(), Stop> {
     let root = root_of(log, TWINS.as_slice())?;
     log.phase(Phase::Moving)?;
-    let first = found(root.first_child())?;
-    let second = found(root.last_child())?;
-    log.tell("indexes", &(first.index(), second.index()))?;
-    log.tell("equal", &(first == second))?;
-    log.tell("hashed equally", &(hash_of(&first) == hash_of(&second)))?;
+    tell_twins(log, &root)?;
     for child in root.children() {
         log.tell("child", &child)?;
     }
     log.phase(Phase::Dropping)
+}
+
+/// Says how the first and the last child are alike.
+fn tell_twins(log: &Transcript<'_>, root: &SyntaxNode) -> Result<(), Stop> {
+    let first = found(root.first_child())?;
+    let second = found(root.last_child())?;
+    log.tell("indexes", &(first.index(), second.index()))?;
+    log.tell("equal", &(first == second))?;
+    log.tell("hashed equally", &(hash_of(&first) == hash_of(&second)))
+}
+
+/// The list in the list of a sum.
+fn inner_list(root: &SyntaxNode) -> Result<SyntaxNode, Stop> {
+    let outer = found(root.first_child())?;
+    let operator = found(outer.first_child())?;
+    found(operator.next_sibling())
 }
 
 pub fn cloned_subtree(log: &Transcript<'_>) -> Result<(), Stop> {
@@ -144,19 +179,27 @@ pub fn cloned_subtree(log: &Transcript<'_>) -> Result<(), Stop> {
     let green = parsed.green();
     let root = log.ask("new_root", || SyntaxNode::new_root(alloc, green.clone()?))?;
     log.phase(Phase::Moving)?;
-    let outer = found(root.first_child())?;
-    let inner = found(found(outer.first_child())?.next_sibling())?;
+    let inner = inner_list(&root)?;
     log.tell("inner list", &inner)?;
     log.phase(Phase::Making)?;
+    clone_twice(log, &inner)
+}
+
+/// Clones a subtree twice, and says what the clones are.
+fn clone_twice(log: &Transcript<'_>, inner: &SyntaxNode) -> Result<(), Stop> {
     let first = log.ask("clone_subtree", || inner.clone_subtree())?;
     let second = log.ask("clone_subtree", || inner.clone_subtree())?;
     log.phase(Phase::Moving)?;
-    log.tell("clone", &first)?;
-    log.tell("index", &first.index())?;
-    log.tell("parent", &first.parent())?;
-    log.tell("equal to the list", &(first == inner))?;
+    tell_clone(log, &first)?;
+    log.tell("equal to the list", &(first == *inner))?;
     log.tell("equal to the other clone", &(first == second))?;
     log.tell("first_child", &first.first_child())?;
-    log.tell("as before", &inner)?;
+    log.tell("as before", inner)?;
     log.phase(Phase::Dropping)
+}
+
+fn tell_clone(log: &Transcript<'_>, clone: &SyntaxNode) -> Result<(), Stop> {
+    log.tell("clone", clone)?;
+    log.tell("index", &clone.index())?;
+    log.tell("parent", &clone.parent())
 }

@@ -2,9 +2,9 @@
 
 use crate::shape::Shape;
 use crate::transcript::{Phase, Stop, Transcript};
-use rowan::{Fault, NodeCache};
+use rowan::{Fault, NodeCache, SyntaxNode};
 use rowan_tool::program;
-use rowan_tool::sexp::{self, parse, parse_with};
+use rowan_tool::sexp::{self, Lang, parse, parse_with};
 
 const SUM: &str = "(+ (* 15 2) 62)";
 
@@ -14,12 +14,18 @@ fn print_parse(log: &Transcript<'_>, text: &str) -> Result<(), Stop> {
     let parsed = log.ask("parse", || parse(alloc, text))?;
     log.tell("tree", &Shape(parsed.green()))?;
     let root = log.ask("syntax", || parsed.syntax(alloc))?;
+    print_tree(log, &root)?;
+    log.tell("as before", &Shape(parsed.green()))?;
+    log.phase(Phase::Dropping)
+}
+
+/// Prints a tree and its text.
+fn print_tree(log: &Transcript<'_>, root: &SyntaxNode<Lang>) -> Result<(), Stop> {
+    let alloc = log.alloc();
     let printed = log.ask("debug_tree", || root.debug_tree(alloc))?;
     log.tell("printed", &printed)?;
     let text = log.ask("to_string", || Ok(root.to_string(alloc)?))?;
-    log.tell("text", &text)?;
-    log.tell("as before", &Shape(parsed.green()))?;
-    log.phase(Phase::Dropping)
+    log.tell("text", &text)
 }
 
 pub fn sum_of_product(log: &Transcript<'_>) -> Result<(), Stop> {
