@@ -259,3 +259,16 @@ impl<'cache, H: CacheHome> Unfinished<'cache, H> {
         GreenNodeBuilder { home, inner }
     }
 }
+
+/// Why there is no tree: so `builder.finish()?` stands in a function that answers a `Fault`. For a builder with a lent cache the
+/// checker needs `builder.finish().map_err(Fault::from)?`. The builder is dropped, which gives a lent cache back.
+impl<H: CacheHome> From<Unfinished<'_, H>> for Fault {
+    ghost from_gives = { λ u fault. fault ≡ fault_of u };
+
+    fn from(unfinished: Unfinished<'_, H>) -> Fault
+        ensures fault { result ≡ fault_of unfinished.entry }
+        ensures left { H.left unfinished.exit.0.now (returned unfinished.entry).cache }
+    {
+        unfinished.fault
+    }
+}
