@@ -68,6 +68,8 @@ impl<'cache> GreenNodeBuilder<'cache, OwnCache> {
         ensures empty { value_of result ≡ new_builder (empty_cache 3) }
         ensures text { text_so_far result ≡ [] }
     {
+        // A reference that outlives the call may point to a slice of no elements, but to no other value of no bytes: so the
+        // empty array is taken from an empty slice.
         let nowhere: &'cache mut [NoHome] = &mut [];
         let Some(home) = nowhere.first_chunk_mut::<0>() else {
             unreachable!()
