@@ -12,6 +12,7 @@ pub mod Sound
 pub mod StreamLemmas
 pub mod TableLemmas
 pub mod Terms
+pub mod TextLemmas
 pub mod WeaveLemmas
 pub mod Words
 pub mod WrapLemmas

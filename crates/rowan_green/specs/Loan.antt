@@ -1,5 +1,5 @@
 -- A builder and the cache that is lent to it: which cache it is, and what is left there when the builder ends.
-use Rattle.std.specs.Prelude.{◌≡◌, List, Result, Ok, Err}
+use Rattle.std.specs.Prelude.{◌≡◌, ℕ, List, [], Result, Ok, Err}
 use Rattle.std.specs.Borrow.{Fml, GName, MutBor, follows_so}
 use Rattle.std.specs.Result.{OnOk, OnErr}
 use mathlib.Core.Option as maybe
@@ -9,7 +9,7 @@ use Rattle.rowan_green.specs.declared.fault.Fault.{Fault}
 use Rattle.rowan_green.specs.contracts.node_cache.NodeCache.{the_row}
 use Rattle.rowan_green.specs.Builder.{BuilderValue}
 use Rattle.rowan_green.specs.Cache.{CacheValue}
-use Rattle.rowan_green.specs.Word.{Symbol}
+use Rattle.rowan_green.specs.Word.{Symbol, word_text}
 
 abbrev pub value_of : {H : Type 0} → GreenNodeBuilder H BuilderValue → BuilderValue
 value_of b = b.inner
@@ -19,6 +19,15 @@ word_of b = (value_of b).word
 
 abbrev pub cache_of : {H : Type 0} → GreenNodeBuilder H BuilderValue → CacheValue
 cache_of b = (value_of b).cache
+
+-- the texts of the tokens that were added so far, one after the other
+abbrev pub text_so_far : {H : Type 0} → GreenNodeBuilder H BuilderValue → List ℕ
+text_so_far b = word_text (word_of b)
+
+-- this text where the call was accepted, and none where it was refused
+abbrev pub if_accepted : {A E : Type 0} → Result A E → List ℕ → List ℕ
+if_accepted (Ok x) text = text
+if_accepted (Err e) text = []
 
 -- the name of the `&mut` by which the builder has its cache's home
 abbrev pub loan_of : {H : Type 0} → GreenNodeBuilder H BuilderValue → GName

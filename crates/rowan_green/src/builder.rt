@@ -2,13 +2,14 @@
 mod loan;
 mod owning;
 
-ghost use Rattle.std.specs.Prelude.{◌≡◌, ◌<◌, length, IfOk, IfErr, OnOk, OnErr};
+ghost use Rattle.std.specs.Prelude.{◌≡◌, ◌<◌, [], ◌++◌, length, IfOk, IfErr, OnOk, OnErr};
 ghost use Rattle.std.specs.Borrow.{sem};
 ghost use Rattle.std.specs.Fn.{FnOnceReturnsAtMut};
 ghost use Rattle.rowan_green.specs.Builder.{new_builder, adds, opens, FinishesNode, WrapsAt};
 ghost use Rattle.rowan_green.specs.Cache.{empty_cache, first_seen};
 ghost use Rattle.rowan_green.specs.Fits.{byte_limit};
-ghost use Rattle.rowan_green.specs.Loan.{value_of, word_of, cache_of, loan_of, returned, fault_of, returned_loan, LeavesCacheUnlessRefused, KeepsLoan, LeavesCacheOfRun};
+ghost use Rattle.rowan_green.specs.Term.{node_text};
+ghost use Rattle.rowan_green.specs.Loan.{value_of, word_of, cache_of, text_so_far, if_accepted, loan_of, returned, fault_of, returned_loan, LeavesCacheUnlessRefused, KeepsLoan, LeavesCacheOfRun};
 ghost use Rattle.rowan_green.specs.Stream.{BuildsOn};
 ghost use Rattle.rowan_green.specs.Word.{WhyNoToken, HasNoneOpen, WhyNotClosed, HasCount, IsPast, IsBeforeOpening, WhyNotWrapped, IsFinished, WhyUnfinished};
 
@@ -64,7 +65,8 @@ impl<H: CacheHome, B: HoldsCache> Drop for GreenNodeBuilder<'_, H, B> {
 impl<'cache> GreenNodeBuilder<'cache, OwnCache> {
     /// A builder with nothing in it, and with a cache of its own. Takes no memory.
     pub fn new(alloc: Global) -> GreenNodeBuilder<'cache, OwnCache>
-        ensures { value_of result ≡ new_builder (empty_cache 3) }
+        ensures empty { value_of result ≡ new_builder (empty_cache 3) }
+        ensures text { text_so_far result ≡ [] }
     {
         let nowhere: &'cache mut [NoHome] = &mut [];
         let Some(home) = nowhere.first_chunk_mut::<0>() else {
@@ -81,6 +83,7 @@ impl<'cache> GreenNodeBuilder<'cache, OwnCache> {
     /// back with the same word and the same cache. Takes no memory.
     pub fn finish(self) -> Result<GreenNode, Unfinished<'cache, OwnCache>>
         ensures ok { IfOk result (IsFinished (word_of self.entry)) }
+        ensures text { IfOk result (λ tree. node_text tree ≡ text_so_far self.entry) }
         ensures err { IfErr result (λ u. WhyUnfinished (word_of self.entry) (fault_of u)) }
         ensures unchanged { IfErr result (λ u. returned u ≡ value_of self.entry) }
     {
@@ -97,6 +100,7 @@ impl<'cache> GreenNodeBuilder<'cache> {
     pub fn with_cache(alloc: Global, cache: &'cache mut NodeCache) -> GreenNodeBuilder<'cache>
         ensures loan { loan_of result ≡ cache.entry.ghost_name }
         ensures empty { value_of result ≡ new_builder cache.old }
+        ensures text { text_so_far result ≡ [] }
         ensures first { first_seen cache.old.limit cache.old.seen ≡ cache.old.seen }
     {
         let kept = cache.take();
@@ -113,6 +117,7 @@ impl<'cache> GreenNodeBuilder<'cache> {
         ensures* rests { sem 𝓛 (LeavesCacheUnlessRefused self.entry result) }
         ensures loan { IfErr result (λ u. returned_loan u ≡ loan_of self.entry) }
         ensures ok { IfOk result (IsFinished (word_of self.entry)) }
+        ensures text { IfOk result (λ tree. node_text tree ≡ text_so_far self.entry) }
         ensures err { IfErr result (λ u. WhyUnfinished (word_of self.entry) (fault_of u)) }
         ensures unchanged { IfErr result (λ u. returned u ≡ value_of self.entry) }
     {
@@ -133,6 +138,7 @@ impl<H: CacheHome> GreenNodeBuilder<'_, H> {
     pub fn token(&mut self, kind: SyntaxKind, text: &str) -> Result<(), Fault>
         ensures loan { loan_of self.new ≡ loan_of self.old }
         ensures ok { OnOk result (value_of self.new ≡ adds (value_of self.old) (record { kind = kind.0; text = text.now })) }
+        ensures text { text_so_far self.new ≡ text_so_far self.old ++ if_accepted result text.now }
         ensures err { IfErr result (WhyNoToken text.now) }
         ensures too_long { byte_limit < length text.now → result ≡ Err Fault.TextTooLong }
         ensures unchanged { OnErr result (value_of self.new ≡ value_of self.old) }
@@ -145,6 +151,7 @@ impl<H: CacheHome> GreenNodeBuilder<'_, H> {
     pub fn start_node(&mut self, kind: SyntaxKind) -> Result<(), Fault>
         ensures loan { loan_of self.new ≡ loan_of self.old }
         ensures ok { OnOk result (value_of self.new ≡ opens (value_of self.old) kind.0) }
+        ensures text { text_so_far self.new ≡ text_so_far self.old }
         ensures err { IfErr result (λ e. e ≡ Fault.Memory) }
         ensures unchanged { OnErr result (value_of self.new ≡ value_of self.old) }
         ensures stream { BuildsOn (value_of self.old) (value_of self.new) }
@@ -159,6 +166,7 @@ impl<H: CacheHome> GreenNodeBuilder<'_, H> {
     pub fn finish_node(&mut self) -> Result<(), Fault>
         ensures loan { loan_of self.new ≡ loan_of self.old }
         ensures ok { OnOk result (FinishesNode (value_of self.old) (value_of self.new)) }
+        ensures text { text_so_far self.new ≡ text_so_far self.old }
         ensures err { IfErr result (WhyNotClosed (word_of self.old)) }
         ensures nothing_open { HasNoneOpen (word_of self.old) → result ≡ Err Fault.NothingOpen }
         ensures unchanged { OnErr result (value_of self.new ≡ value_of self.old) }
@@ -180,6 +188,7 @@ impl<H: CacheHome> GreenNodeBuilder<'_, H> {
     pub fn start_node_at(&mut self, checkpoint: Checkpoint, kind: SyntaxKind) -> Result<(), Fault>
         ensures loan { loan_of self.new ≡ loan_of self.old }
         ensures ok { OnOk result (WrapsAt (value_of self.old) checkpoint kind.0 (value_of self.new)) }
+        ensures text { text_so_far self.new ≡ text_so_far self.old }
         ensures err { IfErr result (WhyNotWrapped (word_of self.old) checkpoint) }
         ensures past { IsPast (word_of self.old) checkpoint → result ≡ Err Fault.CheckpointPast }
         ensures before { IsBeforeOpening (word_of self.old) checkpoint → result ≡ Err Fault.CheckpointBefore }

@@ -4,7 +4,8 @@ ghost use Rattle.rowan_green.specs.declared.utility_types.NodeOrToken.TheVariant
 ghost use Rattle.rowan_green.specs.Builder.{new_builder, adds, opens, FinishesNode, WrapsAt};
 ghost use Rattle.rowan_green.specs.Fits.{byte_limit};
 ghost use Rattle.rowan_green.specs.Weave.{last_place};
-ghost use Rattle.rowan_green.specs.Word.{WhyNoToken, HasNoneOpen, WhyNotClosed, HasCount, IsPast, IsBeforeOpening, WhyNotWrapped, IsFinished, WhyUnfinished};
+ghost use Rattle.rowan_green.specs.Word.{WhyNoToken, HasNoneOpen, WhyNotClosed, HasCount, IsPast, IsBeforeOpening, WhyNotWrapped, IsFinished, WhyUnfinished, word_text};
+ghost use Rattle.rowan_green.specs.Term.{node_text};
 
 use crate::builder::Checkpoint;
 use crate::builder::loan::HoldsCache;
@@ -152,6 +153,7 @@ impl OwningBuilder {
     // The finished tree and the cache; or the builder, and why it has none.
     pub(super) fn finish(self) -> Result<(GreenNode, NodeCache), (OwningBuilder, Fault)>
         ensures ok { IfOk result (λ p. IsFinished self.word p.0 × (p.1 ≡ self.cache)) }
+        ensures text { IfOk result (λ p. node_text p.0 ≡ word_text self.word) }
         ensures err { IfErr result (λ p. (p.0 ≡ self) × WhyUnfinished self.word p.1) }
     {
         if self.finished.len() != 1 {

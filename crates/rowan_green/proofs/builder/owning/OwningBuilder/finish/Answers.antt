@@ -2,6 +2,7 @@ use Rattle.std.proofs.Common.{◌∷◌, [], refl, sym, ◌∙◌, ap, arith}
 use Rattle.rowan_green.specs.declared.utility_types.NodeOrToken.TheVariants.{Node, Token}
 use Rattle.rowan_green.specs.Cache.{elements}
 use Rattle.rowan_green.proofs.BuilderLemmas.{elements-length, elements-first, elements-last}
+use Rattle.rowan_green.proofs.TextLemmas.{text-finished}
 use Rattle.rowan_green.proofs.WeaveLemmas.{HasTerms-weave}
 use Rattle.rowan_green.proofs.builder.owning.OwningBuilder.finish.Goals as goal
 
@@ -34,3 +35,10 @@ returns-clause-ok c =
           (elements-last s.finished.items c.pop.new.self.items c.in-Some.last (Node c.in-Node.node) (omega (arith, c.if-len-ne1.false, c.len.ensures, s.finished.ok.0)) c.in-Some.ensures.items c.in-Node.is),
       ap (λ b. b.cache) c.self.view_is,
     )
+
+pub returns-clause-text : goal.returns-clause-text
+returns-clause-text c =
+    let s = c.self.inside in
+    text-finished c.args.self.word c.in-Node.node
+    (HasTerms-weave s.parents.items (elements s.finished.items) (Node c.in-Node.node ∷ []) c.args.self.word (ap (λ b. b.word) c.self.view_is)
+    (elements-last s.finished.items c.pop.new.self.items c.in-Some.last (Node c.in-Node.node) (omega (arith, c.if-len-ne1.false, c.len.ensures, s.finished.ok.0)) c.in-Some.ensures.items c.in-Node.is))
