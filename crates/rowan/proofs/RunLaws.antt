@@ -1,122 +1,124 @@
--- Laws of runs: what a run makes of the cache, of the word, and of its text.
-use Rattle.std.proofs.Common.{◌≡◌, ℕ, List, [], ◌∷◌, ◌++◌, Ok, map, Some, refl, sym, ◌∙◌, ap, append_assoc}
-use Rattle.std.proofs.lemmas.Grind.{fold-append}
+-- Laws of runs: what calls make of the word, of its tokens and its text, and of the cache.
+use Rattle.std.proofs.Common.{◌≡◌, ℕ, List, [], ◌∷◌, ◌++◌, Ok, map, Some, refl, sym, ◌∙◌, ap, subst, append_assoc}
+use Rattle.std.proofs.lemmas.Grind.{fold-append, flat_map-append}
 use Rattle.std.proofs.lemmas.List.{append-nil}
-use Rattle.std.specs.Prelude.{string_bytes}
-use Rattle.rowan_green.specs.declared.utility_types.NodeOrToken.TheVariants.{Node as node_term}
+use Rattle.std.specs.List.{flat_map}
+use Rattle.rowan_green.specs.declared.fault.Fault.{Fault}
+use Rattle.rowan_green.specs.declared.utility_types.NodeOrToken.TheVariants.{Node as node_term, Token as token_term}
 use Rattle.rowan_green.specs.Builder.{BuilderValue}
-use Rattle.rowan_green.specs.Cache.{asked}
-use Rattle.rowan_green.specs.Term.{Term, joined_text}
-use Rattle.rowan_green.specs.Word.{Symbol, Open, Leaf, Close, Bare, Whole, whole_terms, word_text, Wraps}
+use Rattle.rowan_green.specs.Cache.{CacheValue, asked}
+use Rattle.rowan_green.specs.Stream.{asked_for, BuildsOn}
+use Rattle.rowan_green.specs.Term.{TokenTerm, NodeTerm, node, Forest, empty, node_then, token_then, Term}
+use Rattle.rowan_green.specs.Word.{Symbol, Open, Leaf, Close, node_word, forest_word, Item, Bare, Whole, spelled, HasParts, whole_terms, IsFinished, word_text, Wraps}
+use Rattle.rowan_green.proofs.StreamLemmas.{BuildsOn-same, BuildsOn-trans, BuildsOn-adds, BuildsOn-opens, BuildsOn-finishes, BuildsOn-wraps}
 use Rattle.rowan_green.proofs.WeaveLemmas.{whole_terms-append}
-use Rattle.rowan_green.proofs.Words.{word_text-append, word_text-parts}
 use Rattle.rowan.specs.declared.script.calls.Call.{Call}
 use Rattle.rowan.specs.declared.script.calls.Call.TheVariants.{Token, StartNode, FinishNode, Mark, StartNodeAt, StartNodeAtCheckpoint}
 use Rattle.rowan.specs.declared.script.calls.Outcome.{Outcome}
 use Rattle.rowan.specs.declared.script.calls.Outcome.TheVariants.{Accepted, Marked, Refused}
-use Rattle.rowan_green.specs.declared.fault.Fault.{Fault}
-use Rattle.rowan_green.specs.Stream.{asked_for, BuildsOn}
-use Rattle.rowan_green.proofs.StreamLemmas.{BuildsOn-same, BuildsOn-trans, BuildsOn-adds, BuildsOn-opens, BuildsOn-finishes, BuildsOn-wraps}
-use Rattle.rowan.specs.Run.{Run, Accepts, Gives, with_mark, RunFrom}
-use Rattle.rowan.specs.Asked.{asked_if_accepted, asked_by, stream_from, added_text, accepted_text}
+use Rattle.rowan.specs.Rewriting.{token_of, Accepts, Gives, with_mark, InTurn, Rewrites}
+use Rattle.rowan.specs.Asked.{asked_if_accepted, asked_by, asked_in_turn, added_tokens, accepted_tokens, accepted_text}
+use Rattle.rowan.specs.Run.{Run}
+use Rattle.rowan.specs.Tokens.{word_tokens, node_tokens, forest_tokens}
 use Rattle.rowan.proofs.Exact.{Closes-unique, Wraps-unique}
-
--- ---- the cache
-
-cache-accepted : (marks : List ℕ) (old : BuilderValue) (call : Call) (new : BuilderValue) (a : Accepts marks old call new) → new.cache ≡ asked_for old.cache (asked_if_accepted marks old call new a)
-cache-accepted marks old (Token kind text) new a = ap (λ b. b.cache) a
-cache-accepted marks old (StartNode kind) new a = ap (λ b. b.cache) a
-cache-accepted marks old FinishNode new a = a.interns
-cache-accepted marks old Mark new a = absurd a
-cache-accepted marks old (StartNodeAt mark kind) new a = a.2.same_cache
-cache-accepted marks old (StartNodeAtCheckpoint c kind) new a = a.same_cache
-
-cache-step : (marks : List ℕ) (old : BuilderValue) (call : Call) (outcome : Outcome) (new : BuilderValue) (g : Gives marks old call outcome new) → new.cache ≡ asked_for old.cache (asked_by marks old call outcome new g)
-cache-step marks old call Accepted new g = cache-accepted marks old call new g
-cache-step marks old call (Marked c) new g = ap (λ b. b.cache) g.2
-cache-step marks old call (Refused fault) new g = ap (λ b. b.cache) g.1
-
-pub cache-run : (calls : List Call) (outcomes : List Outcome) (marks : List ℕ) (old new : BuilderValue) (run : RunFrom marks old calls outcomes new) → new.cache ≡ asked_for old.cache (stream_from marks old calls outcomes new run)
-cache-run [] [] marks old new run = ap (λ b. b.cache) run
-cache-run [] (outcome ∷ outcomes) marks old new run = absurd run
-cache-run (call ∷ calls) [] marks old new run = absurd run
-cache-run (call ∷ calls) (outcome ∷ outcomes) marks old new run =
-    let here = asked_by marks old call outcome run.0 run.1.gives in
-    let rest = stream_from (with_mark marks outcome) run.0 calls outcomes new run.2 in
-    cache-run calls outcomes (with_mark marks outcome) run.0 new run.2 ∙ ap (λ cache. asked_for cache rest) (cache-step marks old call outcome run.0 run.1.gives) ∙ sym (fold-append asked old.cache here rest)
 
 -- ---- the word
 
-word-accepted : (marks : List ℕ) (old old' : BuilderValue) (call : Call) (new new' : BuilderValue) → old.word ≡ old'.word → Accepts marks old call new → Accepts marks old' call new' → new.word ≡ new'.word
-word-accepted marks old old' (Token kind text) new new' same a a' =
-    ap (λ b. b.word) a ∙ ap (λ w. w ++ Leaf (record { kind = kind.0; text = string_bytes text }) ∷ []) same ∙ sym (ap (λ b. b.word) a')
-word-accepted marks old old' (StartNode kind) new new' same a a' =
-    ap (λ b. b.word) a ∙ ap (λ w. w ++ Open kind.0 ∷ []) same ∙ sym (ap (λ b. b.word) a')
-word-accepted marks old old' FinishNode new new' same a a' =
-    a.closes.closed ∙ ap (λ w. w ++ Close ∷ []) same ∙ sym a'.closes.closed
-word-accepted marks old old' Mark new new' same a a' = absurd a
-word-accepted marks old old' (StartNodeAt mark kind) new new' same a a' =
+word-accepted : (marks : List ℕ) (w w' : List Symbol) (call : Call) (v v' : List Symbol) → w ≡ w' → Accepts marks w call v → Accepts marks w' call v' → v ≡ v'
+word-accepted marks w w' (Token kind text) v v' same a a' = a ∙ ap (λ u. u ++ Leaf (token_of kind text) ∷ []) same ∙ sym a'
+word-accepted marks w w' (StartNode kind) v v' same a a' = a ∙ ap (λ u. u ++ Open kind.0 ∷ []) same ∙ sym a'
+word-accepted marks w w' FinishNode v v' same a a' = a.1.closed ∙ ap (λ u. u ++ Close ∷ []) same ∙ sym a'.1.closed
+word-accepted marks w w' Mark v v' same a a' = absurd a
+word-accepted marks w w' (StartNodeAt mark kind) v v' same a a' =
     let found : Some a.0 ≡ Some a'.0 = sym a.1 ∙ a'.1 in
     let at : a.0 ≡ a'.0 = cc in
-    Wraps-unique old.word old'.word new.word new'.word a.0 a'.0 kind.0 same at a.2.wraps a'.2.wraps
-word-accepted marks old old' (StartNodeAtCheckpoint c kind) new new' same a a' =
-    Wraps-unique old.word old'.word new.word new'.word c c kind.0 same refl a.wraps a'.wraps
+    Wraps-unique w w' v v' a.0 a'.0 kind.0 same at a.2 a'.2
+word-accepted marks w w' (StartNodeAtCheckpoint c kind) v v' same a a' = Wraps-unique w w' v v' c c kind.0 same refl a a'
 
-word-step : (marks : List ℕ) (old old' : BuilderValue) (call : Call) (outcome : Outcome) (new new' : BuilderValue) → old.word ≡ old'.word → Gives marks old call outcome new → Gives marks old' call outcome new' → new.word ≡ new'.word
-word-step marks old old' call Accepted new new' same g g' = word-accepted marks old old' call new new' same g g'
-word-step marks old old' call (Marked c) new new' same g g' = ap (λ b. b.word) g.2 ∙ same ∙ sym (ap (λ b. b.word) g'.2)
-word-step marks old old' call (Refused fault) new new' same g g' = ap (λ b. b.word) g.1 ∙ same ∙ sym (ap (λ b. b.word) g'.1)
+word-step : (marks : List ℕ) (w w' : List Symbol) (call : Call) (outcome : Outcome) (v v' : List Symbol) → w ≡ w' → Gives marks w call outcome v → Gives marks w' call outcome v' → v ≡ v'
+word-step marks w w' call Accepted v v' same g g' = word-accepted marks w w' call v v' same g g'
+word-step marks w w' call (Marked c) v v' same g g' = g.2 ∙ same ∙ sym g'.2
+word-step marks w w' call (Refused fault) v v' same g g' = g.1 ∙ same ∙ sym g'.1
 
-pub word-run : (calls : List Call) (outcomes : List Outcome) (marks : List ℕ) (old old' new new' : BuilderValue) → old.word ≡ old'.word → RunFrom marks old calls outcomes new → RunFrom marks old' calls outcomes new' → new.word ≡ new'.word
-word-run [] [] marks old old' new new' same run run' = ap (λ b. b.word) run ∙ same ∙ sym (ap (λ b. b.word) run')
-word-run [] (outcome ∷ outcomes) marks old old' new new' same run run' = absurd run
-word-run (call ∷ calls) [] marks old old' new new' same run run' = absurd run
-word-run (call ∷ calls) (outcome ∷ outcomes) marks old old' new new' same run run' =
-    word-run calls outcomes (with_mark marks outcome) run.0 run'.0 new new' (word-step marks old old' call outcome run.0 run'.0 same run.1.gives run'.1.gives) run.2 run'.2
+pub word-turns : (calls : List Call) (outcomes : List Outcome) (marks : List ℕ) (w w' v v' : List Symbol) → w ≡ w' → InTurn marks w calls outcomes v → InTurn marks w' calls outcomes v' → v ≡ v'
+word-turns [] [] marks w w' v v' same run run' = run ∙ same ∙ sym run'
+word-turns [] (outcome ∷ outcomes) marks w w' v v' same run run' = absurd run
+word-turns (call ∷ calls) [] marks w w' v v' same run run' = absurd run
+word-turns (call ∷ calls) (outcome ∷ outcomes) marks w w' v v' same run run' =
+    word-turns calls outcomes (with_mark marks outcome) run.0 run'.0 v v' (word-step marks w w' call outcome run.0 run'.0 same run.1.gives run'.1.gives) run.2 run'.2
 
 -- ---- what is asked of the cache
 
-asked-accepted : (marks : List ℕ) (old old' : BuilderValue) (call : Call) (new new' : BuilderValue) (a : Accepts marks old call new) (a' : Accepts marks old' call new') → old.word ≡ old'.word → asked_if_accepted marks old call new a ≡ asked_if_accepted marks old' call new' a'
-asked-accepted marks old old' (Token kind text) new new' a a' same = refl
-asked-accepted marks old old' (StartNode kind) new new' a a' same = refl
-asked-accepted marks old old' FinishNode new new' a a' same =
-    ap (λ n. node_term n ∷ []) (Closes-unique old.word old'.word new.word new'.word a.node a'.node same a.closes a'.closes)
-asked-accepted marks old old' Mark new new' a a' same = refl
-asked-accepted marks old old' (StartNodeAt mark kind) new new' a a' same = refl
-asked-accepted marks old old' (StartNodeAtCheckpoint c kind) new new' a a' same = refl
+asked-accepted : (marks : List ℕ) (w w' : List Symbol) (call : Call) (v v' : List Symbol) (a : Accepts marks w call v) (a' : Accepts marks w' call v') → w ≡ w' → asked_if_accepted marks w call v a ≡ asked_if_accepted marks w' call v' a'
+asked-accepted marks w w' (Token kind text) v v' a a' same = refl
+asked-accepted marks w w' (StartNode kind) v v' a a' same = refl
+asked-accepted marks w w' FinishNode v v' a a' same = ap (λ n. node_term n ∷ []) (Closes-unique w w' v v' a.0 a'.0 same a.1 a'.1)
+asked-accepted marks w w' Mark v v' a a' same = refl
+asked-accepted marks w w' (StartNodeAt mark kind) v v' a a' same = refl
+asked-accepted marks w w' (StartNodeAtCheckpoint c kind) v v' a a' same = refl
 
-asked-step : (marks : List ℕ) (old old' : BuilderValue) (call : Call) (outcome : Outcome) (new new' : BuilderValue) (g : Gives marks old call outcome new) (g' : Gives marks old' call outcome new') → old.word ≡ old'.word → asked_by marks old call outcome new g ≡ asked_by marks old' call outcome new' g'
-asked-step marks old old' call Accepted new new' g g' same = asked-accepted marks old old' call new new' g g' same
-asked-step marks old old' call (Marked c) new new' g g' same = refl
-asked-step marks old old' call (Refused fault) new new' g g' same = refl
+asked-step : (marks : List ℕ) (w w' : List Symbol) (call : Call) (outcome : Outcome) (v v' : List Symbol) (g : Gives marks w call outcome v) (g' : Gives marks w' call outcome v') → w ≡ w' → asked_by marks w call outcome v g ≡ asked_by marks w' call outcome v' g'
+asked-step marks w w' call Accepted v v' g g' same = asked-accepted marks w w' call v v' g g' same
+asked-step marks w w' call (Marked c) v v' g g' same = refl
+asked-step marks w w' call (Refused fault) v v' g g' same = refl
 
-pub asked-run : (calls : List Call) (outcomes : List Outcome) (marks : List ℕ) (old old' new new' : BuilderValue) (run : RunFrom marks old calls outcomes new) (run' : RunFrom marks old' calls outcomes new') → old.word ≡ old'.word → stream_from marks old calls outcomes new run ≡ stream_from marks old' calls outcomes new' run'
-asked-run [] [] marks old old' new new' run run' same = refl
-asked-run [] (outcome ∷ outcomes) marks old old' new new' run run' same = absurd run
-asked-run (call ∷ calls) [] marks old old' new new' run run' same = absurd run
-asked-run (call ∷ calls) (outcome ∷ outcomes) marks old old' new new' run run' same =
-    let rest = stream_from (with_mark marks outcome) run.0 calls outcomes new run.2 in
-    ap (λ ts. ts ++ rest) (asked-step marks old old' call outcome run.0 run'.0 run.1.gives run'.1.gives same)
-    ∙ ap (λ ts. asked_by marks old' call outcome run'.0 run'.1.gives ++ ts) (asked-run calls outcomes (with_mark marks outcome) run.0 run'.0 new new' run.2 run'.2 (word-step marks old old' call outcome run.0 run'.0 same run.1.gives run'.1.gives))
+pub asked-turns : (calls : List Call) (outcomes : List Outcome) (marks : List ℕ) (w w' v v' : List Symbol) (run : InTurn marks w calls outcomes v) (run' : InTurn marks w' calls outcomes v') → w ≡ w' → asked_in_turn marks w calls outcomes v run ≡ asked_in_turn marks w' calls outcomes v' run'
+asked-turns [] [] marks w w' v v' run run' same = refl
+asked-turns [] (outcome ∷ outcomes) marks w w' v v' run run' same = absurd run
+asked-turns (call ∷ calls) [] marks w w' v v' run run' same = absurd run
+asked-turns (call ∷ calls) (outcome ∷ outcomes) marks w w' v v' run run' same =
+    let rest = asked_in_turn (with_mark marks outcome) run.0 calls outcomes v run.2 in
+    ap (λ ts. ts ++ rest) (asked-step marks w w' call outcome run.0 run'.0 run.1.gives run'.1.gives same)
+    ∙ ap (λ ts. asked_by marks w' call outcome run'.0 run'.1.gives ++ ts) (asked-turns calls outcomes (with_mark marks outcome) run.0 run'.0 v v' run.2 run'.2 (word-step marks w w' call outcome run.0 run'.0 same run.1.gives run'.1.gives))
 
--- ---- the text
+-- ---- the tokens
 
-text-wrap : (w v : List Symbol) (c k : ℕ) → Wraps w c k v → word_text v ≡ word_text w
-text-wrap w v c k a =
+word_tokens-append : (v w : List Symbol) → word_tokens (v ++ w) ≡ word_tokens v ++ word_tokens w
+word_tokens-append [] w = refl
+word_tokens-append (Open k ∷ v) w = word_tokens-append v w
+word_tokens-append (Leaf t ∷ v) w = ap (λ ts. t ∷ ts) (word_tokens-append v w)
+word_tokens-append (Close ∷ v) w = word_tokens-append v w
+
+-- the tokens of items: those of their whole terms
+abbrev term_tokens : Term → List TokenTerm
+term_tokens (node_term n) = node_tokens n
+term_tokens (token_term t) = t ∷ []
+
+mutual
+  word_tokens-node : (n : NodeTerm) → word_tokens (node_word n) ≡ node_tokens n
+  word_tokens-node (node k f) = word_tokens-append (forest_word f) (Close ∷ []) ∙ append-nil (word_tokens (forest_word f)) ∙ word_tokens-forest f
+
+  word_tokens-forest : (f : Forest) → word_tokens (forest_word f) ≡ forest_tokens f
+  word_tokens-forest empty = refl
+  word_tokens-forest (node_then n f) =
+      word_tokens-append (node_word n) (forest_word f) ∙ ap (λ ts. ts ++ word_tokens (forest_word f)) (word_tokens-node n) ∙ ap (λ ts. node_tokens n ++ ts) (word_tokens-forest f)
+  word_tokens-forest (token_then t f) = ap (λ ts. t ∷ ts) (word_tokens-forest f)
+
+word_tokens-spelled : (items : List Item) → word_tokens (spelled items) ≡ flat_map term_tokens (whole_terms items)
+word_tokens-spelled [] = refl
+word_tokens-spelled (Bare k ∷ items) = word_tokens-spelled items
+word_tokens-spelled (Whole (node_term n) ∷ items) =
+    word_tokens-append (node_word n) (spelled items) ∙ ap (λ ts. ts ++ word_tokens (spelled items)) (word_tokens-node n) ∙ ap (λ ts. node_tokens n ++ ts) (word_tokens-spelled items)
+word_tokens-spelled (Whole (token_term t) ∷ items) = ap (λ ts. t ∷ ts) (word_tokens-spelled items)
+
+word_tokens-parts : (w : List Symbol) (items : List Item) → HasParts w items → word_tokens w ≡ flat_map term_tokens (whole_terms items)
+word_tokens-parts w items h = ap word_tokens h.spells ∙ word_tokens-spelled items
+
+tokens-wrap : (w v : List Symbol) (c k : ℕ) → Wraps w c k v → word_tokens v ≡ word_tokens w
+tokens-wrap w v c k a =
     let terms : whole_terms (a.before ++ Bare k ∷ map Whole a.after) ≡ whole_terms (a.before ++ map Whole a.after) = whole_terms-append a.before (Bare k ∷ map Whole a.after) ∙ sym (whole_terms-append a.before (map Whole a.after)) in
-    word_text-parts v (a.before ++ Bare k ∷ map Whole a.after) a.opened ∙ ap joined_text terms ∙ sym (word_text-parts w (a.before ++ map Whole a.after) a.parts)
+    word_tokens-parts v (a.before ++ Bare k ∷ map Whole a.after) a.opened ∙ ap (λ ts. flat_map term_tokens ts) terms ∙ sym (word_tokens-parts w (a.before ++ map Whole a.after) a.parts)
 
-text-accepted : (marks : List ℕ) (old : BuilderValue) (call : Call) (new : BuilderValue) → Accepts marks old call new → word_text new.word ≡ word_text old.word ++ added_text call Accepted
-text-accepted marks old (Token kind text) new a =
-    ap (λ b. word_text b.word) a ∙ word_text-append old.word (Leaf _ ∷ []) ∙ ap (λ t. word_text old.word ++ t) (append-nil _)
-text-accepted marks old (StartNode kind) new a = ap (λ b. word_text b.word) a ∙ word_text-append old.word (Open kind.0 ∷ [])
-text-accepted marks old FinishNode new a = ap word_text a.closes.closed ∙ word_text-append old.word (Close ∷ [])
-text-accepted marks old Mark new a = absurd a
-text-accepted marks old (StartNodeAt mark kind) new a = text-wrap old.word new.word a.0 kind.0 a.2.wraps ∙ sym (append-nil (word_text old.word))
-text-accepted marks old (StartNodeAtCheckpoint c kind) new a = text-wrap old.word new.word c kind.0 a.wraps ∙ sym (append-nil (word_text old.word))
+tokens-accepted : (marks : List ℕ) (w : List Symbol) (call : Call) (v : List Symbol) → Accepts marks w call v → word_tokens v ≡ word_tokens w ++ added_tokens call Accepted
+tokens-accepted marks w (Token kind text) v a = ap word_tokens a ∙ word_tokens-append w (Leaf (token_of kind text) ∷ [])
+tokens-accepted marks w (StartNode kind) v a = ap word_tokens a ∙ word_tokens-append w (Open kind.0 ∷ [])
+tokens-accepted marks w FinishNode v a = ap word_tokens a.1.closed ∙ word_tokens-append w (Close ∷ [])
+tokens-accepted marks w Mark v a = absurd a
+tokens-accepted marks w (StartNodeAt mark kind) v a = tokens-wrap w v a.0 kind.0 a.2 ∙ sym (append-nil (word_tokens w))
+tokens-accepted marks w (StartNodeAtCheckpoint c kind) v a = tokens-wrap w v c kind.0 a ∙ sym (append-nil (word_tokens w))
 
 -- a call that was not accepted adds nothing
-added-other : (call : Call) (outcome : Outcome) → (outcome ≡ Accepted → ⊥) → added_text call outcome ≡ []
+added-other : (call : Call) (outcome : Outcome) → (outcome ≡ Accepted → ⊥) → added_tokens call outcome ≡ []
 added-other (Token kind text) Accepted other = absurd (other refl)
 added-other (Token kind text) (Marked c) other = refl
 added-other (Token kind text) (Refused fault) other = refl
@@ -126,46 +128,86 @@ added-other Mark outcome other = refl
 added-other (StartNodeAt mark kind) outcome other = refl
 added-other (StartNodeAtCheckpoint c kind) outcome other = refl
 
-text-stays : (old new : BuilderValue) (call : Call) (outcome : Outcome) → new ≡ old → (outcome ≡ Accepted → ⊥) → word_text new.word ≡ word_text old.word ++ added_text call outcome
-text-stays old new call outcome stays other =
-    ap (λ b. word_text b.word) stays ∙ sym (append-nil (word_text old.word)) ∙ ap (λ t. word_text old.word ++ t) (sym (added-other call outcome other))
+tokens-stay : (w v : List Symbol) (call : Call) (outcome : Outcome) → v ≡ w → (outcome ≡ Accepted → ⊥) → word_tokens v ≡ word_tokens w ++ added_tokens call outcome
+tokens-stay w v call outcome stays other =
+    ap word_tokens stays ∙ sym (append-nil (word_tokens w)) ∙ ap (λ ts. word_tokens w ++ ts) (sym (added-other call outcome other))
 
-text-step : (marks : List ℕ) (old : BuilderValue) (call : Call) (outcome : Outcome) (new : BuilderValue) → Gives marks old call outcome new → word_text new.word ≡ word_text old.word ++ added_text call outcome
-text-step marks old call Accepted new g = text-accepted marks old call new g
-text-step marks old call (Marked c) new g = text-stays old new call (Marked c) g.2 (λ e. cc)
-text-step marks old call (Refused fault) new g = text-stays old new call (Refused fault) g.1 (λ e. cc)
+tokens-step : (marks : List ℕ) (w : List Symbol) (call : Call) (outcome : Outcome) (v : List Symbol) → Gives marks w call outcome v → word_tokens v ≡ word_tokens w ++ added_tokens call outcome
+tokens-step marks w call Accepted v g = tokens-accepted marks w call v g
+tokens-step marks w call (Marked c) v g = tokens-stay w v call (Marked c) g.2 (λ e. cc)
+tokens-step marks w call (Refused fault) v g = tokens-stay w v call (Refused fault) g.1 (λ e. cc)
 
-pub text-run : (calls : List Call) (outcomes : List Outcome) (marks : List ℕ) (old new : BuilderValue) → RunFrom marks old calls outcomes new → word_text new.word ≡ word_text old.word ++ accepted_text calls outcomes
-text-run [] [] marks old new run = ap (λ b. word_text b.word) run ∙ sym (append-nil (word_text old.word))
-text-run [] (outcome ∷ outcomes) marks old new run = absurd run
-text-run (call ∷ calls) [] marks old new run = absurd run
-text-run (call ∷ calls) (outcome ∷ outcomes) marks old new run =
-    text-run calls outcomes (with_mark marks outcome) run.0 new run.2
-    ∙ ap (λ t. t ++ accepted_text calls outcomes) (text-step marks old call outcome run.0 run.1.gives)
-    ∙ append_assoc (word_text old.word) (added_text call outcome) (accepted_text calls outcomes)
+tokens-turns : (calls : List Call) (outcomes : List Outcome) (marks : List ℕ) (w v : List Symbol) → InTurn marks w calls outcomes v → word_tokens v ≡ word_tokens w ++ accepted_tokens calls outcomes
+tokens-turns [] [] marks w v run = ap word_tokens run ∙ sym (append-nil (word_tokens w))
+tokens-turns [] (outcome ∷ outcomes) marks w v run = absurd run
+tokens-turns (call ∷ calls) [] marks w v run = absurd run
+tokens-turns (call ∷ calls) (outcome ∷ outcomes) marks w v run =
+    tokens-turns calls outcomes (with_mark marks outcome) run.0 v run.2
+    ∙ ap (λ ts. ts ++ accepted_tokens calls outcomes) (tokens-step marks w call outcome run.0 run.1.gives)
+    ∙ append_assoc (word_tokens w) (added_tokens call outcome) (accepted_tokens calls outcomes)
+
+pub tokens-rewritten : (w v : List Symbol) (calls : List Call) (outcomes : List Outcome) → Rewrites w calls outcomes v → word_tokens v ≡ word_tokens w ++ accepted_tokens calls outcomes
+tokens-rewritten w v calls outcomes r = tokens-turns calls outcomes [] w v r.in_turn
+
+-- the tokens of a finished tree are those of its word
+tokens-finished : (w : List Symbol) (n : NodeTerm) → IsFinished w n → word_tokens w ≡ node_tokens n
+tokens-finished w n h =
+    word_tokens-parts w h.items h.parts ∙ ap (λ ts. flat_map term_tokens ts) h.terms ∙ append-nil (node_tokens n)
+
+pub tokens-tree : (w : List Symbol) (calls : List Call) (outcomes : List Outcome) (n : NodeTerm) → Rewrites [] calls outcomes w → IsFinished w n → node_tokens n ≡ accepted_tokens calls outcomes
+tokens-tree w calls outcomes n r h = sym (tokens-finished w n h) ∙ tokens-rewritten [] w calls outcomes r
+
+-- ---- the text
+
+-- the text of a word is the texts of its tokens
+word_text-tokens : (w : List Symbol) → word_text w ≡ flat_map (λ t. t.text) (word_tokens w)
+word_text-tokens [] = refl
+word_text-tokens (Open k ∷ w) = word_text-tokens w
+word_text-tokens (Leaf t ∷ w) = ap (λ bs. t.text ++ bs) (word_text-tokens w)
+word_text-tokens (Close ∷ w) = word_text-tokens w
+
+pub text-rewritten : (w v : List Symbol) (calls : List Call) (outcomes : List Outcome) → Rewrites w calls outcomes v → word_text v ≡ word_text w ++ accepted_text calls outcomes
+text-rewritten w v calls outcomes r =
+    let text = λ (ts : List TokenTerm). flat_map (λ t. t.text) ts in
+    word_text-tokens v ∙ ap text (tokens-rewritten w v calls outcomes r) ∙ flat_map-append (λ t. t.text) (word_tokens w) (accepted_tokens calls outcomes)
+    ∙ ap (λ bs. bs ++ accepted_text calls outcomes) (sym (word_text-tokens w))
 
 -- ---- what is left in the cache
 
-builds-accepted : (marks : List ℕ) (old : BuilderValue) (call : Call) (new : BuilderValue) → Accepts marks old call new → BuildsOn old new
-builds-accepted marks old (Token kind text) new a = BuildsOn-adds {E = Fault} old new (Ok tt) (record { kind = kind.0; text = string_bytes text }) a tt
-builds-accepted marks old (StartNode kind) new a = BuildsOn-opens {E = Fault} old new (Ok tt) kind.0 a tt
-builds-accepted marks old FinishNode new a = BuildsOn-finishes {E = Fault} old new (Ok tt) a tt
-builds-accepted marks old Mark new a = absurd a
-builds-accepted marks old (StartNodeAt mark kind) new a = BuildsOn-wraps {E = Fault} old new (Ok tt) a.0 kind.0 a.2 tt
-builds-accepted marks old (StartNodeAtCheckpoint c kind) new a = BuildsOn-wraps {E = Fault} old new (Ok tt) c kind.0 a tt
+-- the value of a builder that came to this word and asked its cache for these terms meanwhile
+abbrev arrived : CacheValue → List Symbol → List Term → BuilderValue
+arrived cache v ts = record { word = v; cache = asked_for cache ts }
 
-builds-step : (marks : List ℕ) (old : BuilderValue) (call : Call) (outcome : Outcome) (new : BuilderValue) → Gives marks old call outcome new → BuildsOn old new
-builds-step marks old call Accepted new g = builds-accepted marks old call new g
-builds-step marks old call (Marked c) new g = BuildsOn-same old new g.2
-builds-step marks old call (Refused fault) new g = BuildsOn-same old new g.1
+builds-accepted : (marks : List ℕ) (old : BuilderValue) (call : Call) (v : List Symbol) (a : Accepts marks old.word call v) → BuildsOn old (arrived old.cache v (asked_if_accepted marks old.word call v a))
+builds-accepted marks old (Token kind text) v a =
+    BuildsOn-adds {E = Fault} old (arrived old.cache v (token_term (token_of kind text) ∷ [])) (Ok tt) (token_of kind text) (ap (λ u. arrived old.cache u (token_term (token_of kind text) ∷ [])) a) tt
+builds-accepted marks old (StartNode kind) v a =
+    BuildsOn-opens {E = Fault} old (arrived old.cache v []) (Ok tt) kind.0 (ap (λ u. arrived old.cache u []) a) tt
+builds-accepted marks old FinishNode v a =
+    BuildsOn-finishes {E = Fault} old (arrived old.cache v (node_term a.0 ∷ [])) (Ok tt) (record { node = a.0; closes = a.1; interns = refl }) tt
+builds-accepted marks old Mark v a = absurd a
+builds-accepted marks old (StartNodeAt mark kind) v a =
+    BuildsOn-wraps {E = Fault} old (arrived old.cache v []) (Ok tt) a.0 kind.0 (record { wraps = a.2; same_cache = refl }) tt
+builds-accepted marks old (StartNodeAtCheckpoint c kind) v a =
+    BuildsOn-wraps {E = Fault} old (arrived old.cache v []) (Ok tt) c kind.0 (record { wraps = a; same_cache = refl }) tt
 
-pub builds-from : (calls : List Call) (outcomes : List Outcome) (marks : List ℕ) (old new : BuilderValue) → RunFrom marks old calls outcomes new → BuildsOn old new
-builds-from [] [] marks old new run = BuildsOn-same old new run
-builds-from [] (outcome ∷ outcomes) marks old new run = absurd run
-builds-from (call ∷ calls) [] marks old new run = absurd run
-builds-from (call ∷ calls) (outcome ∷ outcomes) marks old new run =
-    BuildsOn-trans old run.0 new (builds-step marks old call outcome run.0 run.1.gives) (builds-from calls outcomes (with_mark marks outcome) run.0 new run.2)
+builds-step : (marks : List ℕ) (old : BuilderValue) (call : Call) (outcome : Outcome) (v : List Symbol) (g : Gives marks old.word call outcome v) → BuildsOn old (arrived old.cache v (asked_by marks old.word call outcome v g))
+builds-step marks old call Accepted v g = builds-accepted marks old call v g
+builds-step marks old call (Marked c) v g = BuildsOn-same old (arrived old.cache v []) (ap (λ u. arrived old.cache u []) g.2)
+builds-step marks old call (Refused fault) v g = BuildsOn-same old (arrived old.cache v []) (ap (λ u. arrived old.cache u []) g.1)
+
+builds-turns : (calls : List Call) (outcomes : List Outcome) (marks : List ℕ) (old : BuilderValue) (v : List Symbol) (run : InTurn marks old.word calls outcomes v) → BuildsOn old (arrived old.cache v (asked_in_turn marks old.word calls outcomes v run))
+builds-turns [] [] marks old v run = BuildsOn-same old (arrived old.cache v []) (ap (λ u. arrived old.cache u []) run)
+builds-turns [] (outcome ∷ outcomes) marks old v run = absurd run
+builds-turns (call ∷ calls) [] marks old v run = absurd run
+builds-turns (call ∷ calls) (outcome ∷ outcomes) marks old v run =
+    let here = asked_by marks old.word call outcome run.0 run.1.gives in
+    let next = arrived old.cache run.0 here in
+    let rest = asked_in_turn (with_mark marks outcome) run.0 calls outcomes v run.2 in
+    let whole = BuildsOn-trans old next (arrived next.cache v rest) (builds-step marks old call outcome run.0 run.1.gives) (builds-turns calls outcomes (with_mark marks outcome) next v run.2) in
+    subst (λ cache. BuildsOn old (record { word = v; cache = cache })) (sym (fold-append asked old.cache here rest)) whole
 
 -- a run is calls of the builder
 pub builds-run : (old new : BuilderValue) (calls : List Call) (outcomes : List Outcome) → Run old calls outcomes new → BuildsOn old new
-builds-run old new calls outcomes run = builds-from calls outcomes [] old new run.steps
+builds-run old new calls outcomes run =
+    subst (λ cache. BuildsOn old (record { word = new.word; cache = cache })) (sym run.interns) (builds-turns calls outcomes [] old new.word run.words.in_turn)

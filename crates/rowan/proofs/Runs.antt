@@ -1,12 +1,18 @@
 -- Runs, call by call.
-use Rattle.std.proofs.Common.{◌≡◌, ◌+◌, ◌<◌, List, [], ◌∷◌, ◌++◌, ℕ, fold, length, take, get_or, refl, sym, ◌∙◌, ap, subst}
+use Rattle.std.proofs.Common.{◌≡◌, ◌+◌, ◌<◌, List, [], ◌∷◌, ◌++◌, ℕ, fold, length, take, get_or, refl, sym, ◌∙◌, ap, subst, append_assoc}
 use Rattle.std.proofs.lemmas.Grind.{fold-append}
-use Rattle.std.proofs.lemmas.List.{take_more}
+use Rattle.std.proofs.lemmas.List.{append-nil, take_more}
 use Rattle.rowan_green.specs.Builder.{BuilderValue}
+use Rattle.rowan_green.specs.Cache.{asked}
+use Rattle.rowan_green.specs.Stream.{asked_for}
+use Rattle.rowan_green.specs.Term.{Term}
+use Rattle.rowan_green.specs.Word.{Symbol}
 use Rattle.rowan.specs.declared.script.calls.Call.{Call}
 use Rattle.rowan.specs.declared.script.calls.Outcome.{Outcome}
 use Rattle.rowan.specs.declared.script.calls.Outcome.TheVariants.{Accepted, Marked, Refused}
-use Rattle.rowan.specs.Run.{Step, with_mark, RunFrom}
+use Rattle.rowan.specs.Rewriting.{Step, with_mark, InTurn}
+use Rattle.rowan.specs.Asked.{asked_by, asked_in_turn, stream}
+use Rattle.rowan.specs.Run.{Advances, Run}
 
 -- ---- marks
 
@@ -31,27 +37,50 @@ with_marks-more before after outcomes more outcome so_far e one =
 
 -- ---- runs
 
--- one more call behind a run
-RunFrom-append : (calls : List Call) (outcomes : List Outcome) (marks : List ℕ) (old new last : BuilderValue) (call : Call) (outcome : Outcome)
-    → RunFrom marks old calls outcomes new
-    → Step (with_marks marks outcomes) new call outcome last
-    → RunFrom marks old (calls ++ call ∷ []) (outcomes ++ outcome ∷ []) last
-RunFrom-append [] [] marks old new last call outcome run step =
-    (last, subst (λ b. Step marks b call outcome last) run step, refl)
-RunFrom-append [] (o ∷ outcomes) marks old new last call outcome run step = absurd run
-RunFrom-append (x ∷ calls) [] marks old new last call outcome run step = absurd run
-RunFrom-append (x ∷ calls) (o ∷ outcomes) marks old new last call outcome run step =
-    (run.0, run.1, RunFrom-append calls outcomes (with_mark marks o) run.0 new last call outcome run.2 step)
+-- calls that go from w to u in turn, and ask the cache for these terms
+Asks : List ℕ → List Symbol → List Call → List Outcome → List Symbol → List Term → Type 0
+Asks marks w calls outcomes u ts =
+    (turns : InTurn marks w calls outcomes u) × (asked_in_turn marks w calls outcomes u turns ≡ ts)
+
+-- one more call behind calls in turn, with what all of them ask for
+InTurn-append : (calls : List Call) (outcomes : List Outcome) (marks : List ℕ) (w v u : List Symbol) (call : Call) (outcome : Outcome)
+    (turns : InTurn marks w calls outcomes v)
+    (step : Step (with_marks marks outcomes) v call outcome u)
+    → Asks marks w (calls ++ call ∷ []) (outcomes ++ outcome ∷ []) u (asked_in_turn marks w calls outcomes v turns ++ asked_by (with_marks marks outcomes) v call outcome u step.gives)
+unfolding Asks
+InTurn-append [] [] marks w v u call outcome turns step =
+    subst (λ x. Asks marks x (call ∷ []) (outcome ∷ []) u (asked_by marks v call outcome u step.gives)) turns ((u, step, refl), append-nil (asked_by marks v call outcome u step.gives))
+InTurn-append [] (o ∷ outcomes) marks w v u call outcome turns step = absurd turns
+InTurn-append (x ∷ calls) [] marks w v u call outcome turns step = absurd turns
+InTurn-append (x ∷ calls) (o ∷ outcomes) marks w v u call outcome turns step =
+    let here = asked_by marks w x o turns.0 turns.1.gives in
+    let rest = asked_in_turn (with_mark marks o) turns.0 calls outcomes v turns.2 in
+    let more = InTurn-append calls outcomes (with_mark marks o) turns.0 v u call outcome turns.2 step in
+    ((turns.0, turns.1, more.0), ap (λ ts. here ++ ts) more.1 ∙ sym (append_assoc here rest (asked_by (with_marks marks (o ∷ outcomes)) v call outcome u step.gives)))
+
+Run-append : (calls : List Call) (outcomes : List Outcome) (old new last : BuilderValue) (call : Call) (outcome : Outcome)
+    → Run old calls outcomes new
+    → Advances (with_marks [] outcomes) new call outcome last
+    → Run old (calls ++ call ∷ []) (outcomes ++ outcome ∷ []) last
+unfolding Asks
+Run-append calls outcomes old new last call outcome run one =
+    let before = stream run.words in
+    let here = asked_by (with_marks [] outcomes) new.word call outcome last.word one.step.gives in
+    let more = InTurn-append calls outcomes [] old.word new.word last.word call outcome run.words.in_turn one.step in
+    record {
+      words = record { in_turn = more.0 };
+      interns = one.interns ∙ ap (λ cache. asked_for cache here) run.interns ∙ sym (fold-append asked old.cache before here) ∙ ap (asked_for old.cache) (sym more.1);
+    }
 
 -- the run of the first calls goes on by the next of them
-pub RunFrom-more : (calls : List Call) (i : ℕ) (outcomes more : List Outcome) (marks : List ℕ) (old new last : BuilderValue) (call : Call) (outcome : Outcome)
+pub Run-more : (calls : List Call) (i : ℕ) (outcomes more : List Outcome) (marks : List ℕ) (old new last : BuilderValue) (call : Call) (outcome : Outcome)
     → i < length calls
     → call ≡ get_or calls i call
     → more ≡ outcomes ++ outcome ∷ []
     → marks ≡ with_marks [] outcomes
-    → RunFrom [] old (take i calls) outcomes new
-    → Step marks new call outcome last
-    → RunFrom [] old (take (i + 1) calls) more last
-RunFrom-more calls i outcomes more marks old new last call outcome below at e taken run step =
+    → Run old (take i calls) outcomes new
+    → Advances marks new call outcome last
+    → Run old (take (i + 1) calls) more last
+Run-more calls i outcomes more marks old new last call outcome below at e taken run one =
     let longer : take (i + 1) calls ≡ take i calls ++ call ∷ [] = take_more calls i call below ∙ ap (λ x. take i calls ++ x ∷ []) (sym at) in
-    subst (λ xs. RunFrom [] old xs more last) (sym longer) (subst (λ os. RunFrom [] old (take i calls ++ call ∷ []) os last) (sym e) (RunFrom-append (take i calls) outcomes [] old new last call outcome run (subst (λ ms. Step ms new call outcome last) taken step)))
+    subst (λ xs. Run old xs more last) (sym longer) (subst (λ os. Run old (take i calls ++ call ∷ []) os last) (sym e) (Run-append (take i calls) outcomes old new last call outcome run (subst (λ ms. Advances ms new call outcome last) taken one)))

@@ -1,45 +1,60 @@
--- What a run asks the cache for, and the text that it adds.
-use Rattle.std.specs.Prelude.{ℕ, List, [], ◌∷◌, ◌++◌, string_bytes}
+-- What a rewriting asks a builder's cache for, and the tokens and the text that it adds.
+use Rattle.std.specs.Prelude.{ℕ, List, [], ◌∷◌, ◌++◌}
+use Rattle.std.specs.List.{flat_map}
 use Rattle.rowan_green.specs.declared.utility_types.NodeOrToken.TheVariants.{Node as node_term, Token as token_term}
-use Rattle.rowan_green.specs.Builder.{BuilderValue}
-use Rattle.rowan_green.specs.Term.{Term}
+use Rattle.rowan_green.specs.Term.{TokenTerm, Term}
+use Rattle.rowan_green.specs.Word.{Symbol}
 use Rattle.rowan.specs.declared.script.calls.Call.{Call}
 use Rattle.rowan.specs.declared.script.calls.Call.TheVariants.{Token, StartNode, FinishNode, Mark, StartNodeAt, StartNodeAtCheckpoint}
 use Rattle.rowan.specs.declared.script.calls.Outcome.{Outcome}
 use Rattle.rowan.specs.declared.script.calls.Outcome.TheVariants.{Accepted, Marked, Refused}
-use Rattle.rowan.specs.Run.{Accepts, Gives, with_mark, RunFrom, Run}
+use Rattle.rowan.specs.Rewriting.{token_of, Accepts, Gives, with_mark, InTurn, Rewrites}
+
+-- ---- what is asked of the cache
 
 -- an accepted call asks for the token that it adds, or for the node that it closes
-abbrev pub asked_if_accepted : (marks : List ℕ) (old : BuilderValue) (call : Call) (new : BuilderValue) → Accepts marks old call new → List Term
-asked_if_accepted marks old (Token kind text) new added = token_term (record { kind = kind.0; text = string_bytes text }) ∷ []
-asked_if_accepted marks old (StartNode kind) new opened = []
-asked_if_accepted marks old FinishNode new finished = node_term finished.node ∷ []
-asked_if_accepted marks old Mark new none = []
-asked_if_accepted marks old (StartNodeAt mark kind) new wrapped = []
-asked_if_accepted marks old (StartNodeAtCheckpoint c kind) new wrapped = []
+abbrev pub asked_if_accepted : (marks : List ℕ) (w : List Symbol) (call : Call) (v : List Symbol)
+    → Accepts marks w call v → List Term
+asked_if_accepted marks w (Token kind text) v added = token_term (token_of kind text) ∷ []
+asked_if_accepted marks w (StartNode kind) v opened = []
+asked_if_accepted marks w FinishNode v closed = node_term closed.0 ∷ []
+asked_if_accepted marks w Mark v none = []
+asked_if_accepted marks w (StartNodeAt mark kind) v wrapped = []
+asked_if_accepted marks w (StartNodeAtCheckpoint c kind) v wrapped = []
 
 -- and another asks for nothing
-abbrev pub asked_by : (marks : List ℕ) (old : BuilderValue) (call : Call) (outcome : Outcome) (new : BuilderValue) → Gives marks old call outcome new → List Term
-asked_by marks old call Accepted new accepts = asked_if_accepted marks old call new accepts
-asked_by marks old call (Marked c) new stays = []
-asked_by marks old call (Refused fault) new stays = []
+abbrev pub asked_by : (marks : List ℕ) (w : List Symbol) (call : Call) (outcome : Outcome) (v : List Symbol)
+    → Gives marks w call outcome v → List Term
+asked_by marks w call Accepted v accepts = asked_if_accepted marks w call v accepts
+asked_by marks w call (Marked c) v stays = []
+asked_by marks w call (Refused fault) v stays = []
 
-abbrev pub stream_from : (marks : List ℕ) (old : BuilderValue) (calls : List Call) (outcomes : List Outcome) (new : BuilderValue) → RunFrom marks old calls outcomes new → List Term
-stream_from marks old [] [] new run = []
-stream_from marks old (call ∷ calls) (outcome ∷ outcomes) new run =
-    asked_by marks old call outcome run.0 run.1.gives ++ stream_from (with_mark marks outcome) run.0 calls outcomes new run.2
-stream_from marks old [] (outcome ∷ outcomes) new run = []
-stream_from marks old (call ∷ calls) [] new run = []
+abbrev pub asked_in_turn : (marks : List ℕ) (w : List Symbol) (calls : List Call) (outcomes : List Outcome) (v : List Symbol)
+    → InTurn marks w calls outcomes v → List Term
+asked_in_turn marks w [] [] v run = []
+asked_in_turn marks w (call ∷ calls) (outcome ∷ outcomes) v run =
+    asked_by marks w call outcome run.0 run.1.gives
+    ++ asked_in_turn (with_mark marks outcome) run.0 calls outcomes v run.2
+asked_in_turn marks w [] (outcome ∷ outcomes) v run = []
+asked_in_turn marks w (call ∷ calls) [] v run = []
 
--- the terms that a run asks the cache for, in order: the accepted tokens and the finished nodes
-abbrev pub stream : {old new : BuilderValue} {calls : List Call} {outcomes : List Outcome} → Run old calls outcomes new → List Term
-stream {old} {new} {calls} {outcomes} run = stream_from [] old calls outcomes new run.steps
+-- the terms that the calls ask the cache for, in order: the accepted tokens and the finished nodes
+abbrev pub stream : {w v : List Symbol} {calls : List Call} {outcomes : List Outcome}
+    → Rewrites w calls outcomes v → List Term
+stream {w} {v} {calls} {outcomes} r = asked_in_turn [] w calls outcomes v r.in_turn
 
-abbrev pub added_text : Call → Outcome → List ℕ
-added_text (Token kind text) Accepted = string_bytes text
-added_text call outcome = []
+-- ---- what is added
 
--- the texts of the accepted tokens, one after the other
+abbrev pub added_tokens : Call → Outcome → List TokenTerm
+added_tokens (Token kind text) Accepted = token_of kind text ∷ []
+added_tokens call outcome = []
+
+-- the accepted tokens, in order
+abbrev pub accepted_tokens : List Call → List Outcome → List TokenTerm
+accepted_tokens (call ∷ calls) (outcome ∷ outcomes) =
+    added_tokens call outcome ++ accepted_tokens calls outcomes
+accepted_tokens calls outcomes = []
+
+-- their texts, one after the other
 abbrev pub accepted_text : List Call → List Outcome → List ℕ
-accepted_text (call ∷ calls) (outcome ∷ outcomes) = added_text call outcome ++ accepted_text calls outcomes
-accepted_text calls outcomes = []
+accepted_text calls outcomes = flat_map (λ t. t.text) (accepted_tokens calls outcomes)

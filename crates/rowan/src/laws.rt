@@ -3,11 +3,14 @@ ghost use Rattle.std.specs.Prelude.{◌≡◌, List, [], ◌++◌};
 ghost use Rattle.rowan_green.specs.Builder.{BuilderValue};
 ghost use Rattle.rowan_green.specs.Cache.{first_seen};
 ghost use Rattle.rowan_green.specs.Stream.{asked_for, BuildsOn};
-ghost use Rattle.rowan_green.specs.Word.{word_text};
+ghost use Rattle.rowan_green.specs.Term.{NodeTerm};
+ghost use Rattle.rowan_green.specs.Word.{Symbol, IsFinished, word_text};
 ghost use Rattle.rowan.specs.declared.script.calls.Call.{Call};
 ghost use Rattle.rowan.specs.declared.script.calls.Outcome.{Outcome};
+ghost use Rattle.rowan.specs.Rewriting.{Rewrites};
+ghost use Rattle.rowan.specs.Asked.{stream, accepted_tokens, accepted_text};
 ghost use Rattle.rowan.specs.Run.{Run};
-ghost use Rattle.rowan.specs.Asked.{stream, accepted_text};
+ghost use Rattle.rowan.specs.Tokens.{word_tokens, node_tokens};
 
 pub use rowan_cursor::laws as cursor;
 pub use rowan_green::laws as green;
@@ -16,25 +19,54 @@ pub use rowan_green::laws as green;
 /// as each cache does, it keeps what is first seen of these followed by the stream, and a cache that kept nothing what is first
 /// seen of the stream.
 pub fn cache_keeps_the_stream()
-    ensures asked { (old new : BuilderValue) (calls : List Call) (outcomes : List Outcome) (run : Run old calls outcomes new) → new.cache ≡ asked_for old.cache (stream run) }
-    ensures first { (old new : BuilderValue) (calls : List Call) (outcomes : List Outcome) (run : Run old calls outcomes new) → first_seen old.cache.limit old.cache.seen ≡ old.cache.seen → new.cache.seen ≡ first_seen old.cache.limit (old.cache.seen ++ stream run) }
-    ensures from_empty { (old new : BuilderValue) (calls : List Call) (outcomes : List Outcome) (run : Run old calls outcomes new) → old.cache.seen ≡ [] → new.cache.seen ≡ first_seen old.cache.limit (stream run) }
+    ensures asked { (old new : BuilderValue) (calls : List Call) (outcomes : List Outcome)
+        (run : Run old calls outcomes new) → new.cache ≡ asked_for old.cache (stream run.words) }
+    ensures first { (old new : BuilderValue) (calls : List Call) (outcomes : List Outcome)
+        (run : Run old calls outcomes new)
+        → first_seen old.cache.limit old.cache.seen ≡ old.cache.seen
+        → new.cache.seen ≡ first_seen old.cache.limit (old.cache.seen ++ stream run.words) }
+    ensures from_empty { (old new : BuilderValue) (calls : List Call) (outcomes : List Outcome)
+        (run : Run old calls outcomes new)
+        → old.cache.seen ≡ []
+        → new.cache.seen ≡ first_seen old.cache.limit (stream run.words) }
 {}
 
 /// The calls and their outcomes alone determine the word after a run, and what the run asks the cache for: trees never depend
 /// on the cache.
 pub fn word_is_independent_of_the_cache()
-    ensures word { (old old' new new' : BuilderValue) (calls : List Call) (outcomes : List Outcome) → old.word ≡ old'.word → Run old calls outcomes new → Run old' calls outcomes new' → new.word ≡ new'.word }
-    ensures asked { (old old' new new' : BuilderValue) (calls : List Call) (outcomes : List Outcome) (run : Run old calls outcomes new) (run' : Run old' calls outcomes new') → old.word ≡ old'.word → stream run ≡ stream run' }
+    ensures word { (old old' new new' : BuilderValue) (calls : List Call) (outcomes : List Outcome)
+        → old.word ≡ old'.word
+        → Run old calls outcomes new
+        → Run old' calls outcomes new'
+        → new.word ≡ new'.word }
+    ensures asked { (old old' new new' : BuilderValue) (calls : List Call) (outcomes : List Outcome)
+        (run : Run old calls outcomes new) (run' : Run old' calls outcomes new')
+        → old.word ≡ old'.word
+        → stream run.words ≡ stream run'.words }
 {}
 
-/// A run adds the texts of the accepted tokens to the text of the word, in order.
+/// Calls add the accepted tokens to the tokens of the word, and their texts to its text, in order.
 pub fn run_adds_the_accepted_text()
-    ensures { (old new : BuilderValue) (calls : List Call) (outcomes : List Outcome) → Run old calls outcomes new → word_text new.word ≡ word_text old.word ++ accepted_text calls outcomes }
+    ensures tokens { (w v : List Symbol) (calls : List Call) (outcomes : List Outcome)
+        → Rewrites w calls outcomes v
+        → word_tokens v ≡ word_tokens w ++ accepted_tokens calls outcomes }
+    ensures text { (w v : List Symbol) (calls : List Call) (outcomes : List Outcome)
+        → Rewrites w calls outcomes v
+        → word_text v ≡ word_text w ++ accepted_text calls outcomes }
+{}
+
+/// The leaves of a tree that is finished from a word that began empty are the accepted tokens, each with its kind and its text,
+/// in the order of the calls.
+pub fn tree_has_the_accepted_tokens()
+    ensures { (w : List Symbol) (calls : List Call) (outcomes : List Outcome) (n : NodeTerm)
+        → Rewrites [] calls outcomes w
+        → IsFinished w n
+        → node_tokens n ≡ accepted_tokens calls outcomes }
 {}
 
 /// What the calls of a builder say of its cache holds of a run, too: the cache grew, and was asked for the subterms that ended
 /// meanwhile.
 pub fn run_builds_on()
-    ensures { (old new : BuilderValue) (calls : List Call) (outcomes : List Outcome) → Run old calls outcomes new → BuildsOn old new }
+    ensures { (old new : BuilderValue) (calls : List Call) (outcomes : List Outcome)
+        → Run old calls outcomes new → BuildsOn old new }
 {}

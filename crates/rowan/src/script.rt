@@ -5,7 +5,8 @@ mod places;
 ghost use Rattle.std.specs.Prelude.{◌≡◌, IfOk, IfErr, OnErr};
 ghost use Rattle.rowan_green.specs.Loan.{value_of, word_of, loan_of};
 ghost use Rattle.rowan_green.specs.Stream.{BuildsOn};
-ghost use Rattle.rowan.specs.Run.{Gives, Precedes, Run};
+ghost use Rattle.rowan.specs.Rewriting.{Rewrites};
+ghost use Rattle.rowan.specs.Run.{Advances, Run};
 
 use crate::builder::{CacheHome, Checkpoint, GreenNodeBuilder};
 use crate::fault::Fault;
@@ -25,11 +26,16 @@ pub fn replay<H: CacheHome>(
     builder: &mut GreenNodeBuilder<'_, H>,
     calls: &[Call],
 ) -> Result<Vec<Outcome>, Fault>
-    ensures loan { loan_of builder.new ≡ loan_of builder.old }
-    ensures ok { IfOk result (λ outcomes. Run (value_of builder.old) calls.now outcomes.items (value_of builder.new)) }
+    ensures ok { IfOk result (λ outcomes.
+        Rewrites (word_of builder.old) calls.now outcomes.items (word_of builder.new)) }
     ensures err { IfErr result (λ e. e ≡ Fault.Memory) }
     ensures unchanged { OnErr result (value_of builder.new ≡ value_of builder.old) }
+
+    // The builder's cache.
+    ensures run { IfOk result (λ outcomes.
+        Run (value_of builder.old) calls.now outcomes.items (value_of builder.new)) }
     ensures stream { BuildsOn (value_of builder.old) (value_of builder.new) }
+    ensures loan { loan_of builder.new ≡ loan_of builder.old }
 {
     let mut outcomes = Vec::with_capacity(alloc, calls.len())?;
     let mut marks = Vec::with_capacity(alloc, calls.len())?;
@@ -49,9 +55,8 @@ fn make_call<H: CacheHome>(
     marks: &[Checkpoint],
     call: &Call,
 ) -> Outcome
+    ensures advances { Advances marks.now (value_of builder.old) call.now result (value_of builder.new) }
     ensures loan { loan_of builder.new ≡ loan_of builder.old }
-    ensures gives { Gives marks.now (value_of builder.old) call.now result (value_of builder.new) }
-    ensures precedes { Precedes marks.now (word_of builder.old) call.now result }
 {
     match call {
         Call::Token(kind, text) => Outcome::from(builder.token(*kind, text)),

@@ -6,12 +6,13 @@ use Rattle.rowan_green.specs.declared.fault.Fault.{Fault}
 use Rattle.rowan_green.specs.declared.fault.Fault.TheVariants.{TextTooLong, TooManyChildren, CheckpointPast, CheckpointBefore, NothingOpen, NotOneElement, NotANode, OtherKind, NotFound, Memory, UnknownMark, NotOneList}
 use Rattle.rowan_green.specs.declared.utility_types.NodeOrToken.TheVariants.{Node, Token}
 use Rattle.rowan_green.specs.Fits.{byte_limit, ChildPasses, PassesLimit}
-use Rattle.rowan_green.specs.Term.{TokenTerm, NodeTerm, Term, node_of, node_text, node_len, term_text, term_len, joined_text, sum_of_lens}
-use Rattle.rowan_green.specs.Word.{Symbol, Open, Leaf, Close, term_word, Item, Bare, Whole, HasParts, whole_terms, HasTerms, word_text, Closes, WhyNotClosed, WhyUnfinished, IsFinished}
+use Rattle.rowan_green.specs.Term.{TokenTerm, NodeTerm, Term, node_of, node_len, term_text, term_len, joined_text, sum_of_lens}
+use Rattle.rowan_green.specs.Word.{Symbol, Open, Leaf, Close, term_word, Item, Bare, Whole, HasParts, whole_terms, HasTerms, word_text, Closes, WhyNotClosed, WhyUnfinished}
 use Rattle.rowan_green.proofs.Terms.{node_len-node_of, sum_of_lens-append, length-joined_text}
 use Rattle.rowan_green.proofs.WeaveLemmas.{whole_terms-append, whole_terms-open, spelled-close}
 use Rattle.rowan_green.proofs.StreamLemmas.{HasTerms-unique}
-use Rattle.rowan_green.proofs.Words.{parts-unique, parts-more, word_text-append, word_text-parts, word_text-terms}
+use Rattle.rowan_green.proofs.TextLemmas.{text-leaf, text-open, text-closes}
+use Rattle.rowan_green.proofs.Words.{parts-unique, parts-more, word_text-append, word_text-parts}
 use Rattle.rowan_tool.specs.declared.sexp.lang.SyntaxKind.{SyntaxKind}
 use Rattle.rowan_tool.specs.declared.sexp.lang.SyntaxKind.TheVariants.{L_PAREN, R_PAREN, WORD, WHITESPACE, ERROR, LIST, ATOM, ROOT}
 use Rattle.rowan_tool.specs.Sexp.{LexedToken, joined, IsTextOf}
@@ -115,9 +116,6 @@ module _ (w : List Symbol) (items : List Item) (parts : HasParts w items) where
   closing_refused UnknownMark filled opened small h = absurd h
   closing_refused NotOneList filled opened small h = absurd h
 
-pub word_text-closes : {m : NodeTerm} (v w : List Symbol) → Closes v m w → word_text w ≡ word_text v
-word_text-closes v w h = ap word_text h.closed ∙ word_text-append v (Close ∷ []) ∙ append-nil (word_text v)
-
 closed_parts : {m : NodeTerm} (v w : List Symbol) (h : Closes v m w) → HasParts w (h.before ++ Whole (Node (node_of h.kind h.children)) ∷ [])
 closed_parts v w h = record { spells = h.closed ∙ ap (λ u. u ++ Close ∷ []) h.parts.spells ∙ sym (spelled-close h.before h.kind h.children) }
 
@@ -134,24 +132,18 @@ IsInRoot-more v w n t h e text filled = record {
   ends = EndsWhole-append h.items t;
 }
 
-pub word_text-more : (v w : List Symbol) (t : Term) → w ≡ v ++ term_word t → word_text (term_word t) ≡ term_text t → word_text w ≡ word_text v ++ term_text t
-word_text-more v w t e text = ap word_text e ∙ word_text-append v (term_word t) ∙ ap (λ bs. word_text v ++ bs) text
-
 -- one more open list, which begins with a token
 pub IsInRoot-opens : (v u w : List Symbol) (n k : ℕ) (t : TokenTerm) → IsInRoot v n → u ≡ v ++ Open k ∷ [] → w ≡ u ++ Leaf t ∷ [] → 0 < length t.text → IsInRoot w (n + 1)
 IsInRoot-opens v u w n k t h e f filled = record {
   items = (h.items ++ Bare k ∷ []) ++ Whole (Token t) ∷ [];
   parts = parts-more u w (Leaf t ∷ []) (Bare root_kind ∷ (h.items ++ Bare k ∷ [])) (Whole (Token t)) (parts-more v u (Open k ∷ []) (Bare root_kind ∷ h.items) (Bare k) h.parts e refl) f refl;
   opened = omega (arith, bare_count-append (h.items ++ Bare k ∷ []) (Whole (Token t) ∷ []), bare_count-append h.items (Bare k ∷ []), h.opened);
-  few = omega (arith, h.few, ap length (word_text-opens v u w k t e f), length-append (word_text v) t.text);
+  few = omega (arith, h.few, ap length (text-leaf u w t f ∙ ap (λ bs. bs ++ t.text) (text-open v u k e)), length-append (word_text v) t.text);
   filled =
       subst AreFilled (sym (whole_terms-append (h.items ++ Bare k ∷ []) (Whole (Token t) ∷ []) ∙ ap (λ ts. ts ++ Token t ∷ []) (whole_terms-append h.items (Bare k ∷ []) ∙ append-nil (whole_terms h.items))))
       (AreFilled-join (whole_terms h.items) (Token t ∷ []) h.filled (filled, tt));
   ends = EndsWhole-append (h.items ++ Bare k ∷ []) (Token t);
 }
-  where
-    word_text-opens : (v u w : List Symbol) (k : ℕ) (t : TokenTerm) → u ≡ v ++ Open k ∷ [] → w ≡ u ++ Leaf t ∷ [] → word_text w ≡ word_text v ++ t.text
-    word_text-opens v u w k t e f = ap word_text f ∙ word_text-append u (Leaf t ∷ []) ∙ ap (λ bs. bs ++ (t.text ++ [])) (ap word_text e ∙ word_text-append v (Open k ∷ []) ∙ append-nil (word_text v)) ∙ ap (λ bs. word_text v ++ bs) (append-nil t.text)
 
 -- the innermost list closed
 pub IsInRoot-closes : {m : NodeTerm} (v w : List Symbol) (n : ℕ) → IsInRoot v n → 0 < n → Closes v m w → IsInRoot w (n - 1)
@@ -168,7 +160,7 @@ IsInRoot-closes v w n h some c = from c.before c.kind c.children (parts-unique v
           items = before ++ Whole node ∷ [];
           parts = subst (λ (x : Item). HasParts w (x ∷ (before ++ Whole node ∷ []))) first p;
           opened = omega (arith, bare_count-append before (Whole node ∷ []), ap bare_count same, bare_count-append before (Bare k ∷ map Whole ts), bare_count-map ts, h.opened);
-          few = omega (arith, h.few, ap length (word_text-closes v w c));
+          few = omega (arith, h.few, ap length (text-closes v w c));
           filled = subst AreFilled (sym (whole_terms-append before (Whole node ∷ []))) (AreFilled-join (whole_terms before) (node ∷ []) both.0 (filled_node ts both.1 (subst EndsWhole same h.ends), tt));
           ends = EndsWhole-append before node;
         }
@@ -191,26 +183,16 @@ IsTextOf-some LIST text h = absurd h
 IsTextOf-some ATOM text h = absurd h
 IsTextOf-some ROOT text h = absurd h
 
--- an opening has no text
-pub word_text-open : (v u : List Symbol) (k : ℕ) → u ≡ v ++ Open k ∷ [] → word_text u ≡ word_text v
-word_text-open v u k e = ap word_text e ∙ word_text-append v (Open k ∷ []) ∙ append-nil (word_text v)
-
 -- one more token
 pub IsInRoot-token : (v w : List Symbol) (n : ℕ) (t : TokenTerm) → IsInRoot v n → w ≡ v ++ Leaf t ∷ [] → 0 < length t.text → IsInRoot w n
 IsInRoot-token v w n t h e some = IsInRoot-more v w n (Token t) h e (append-nil t.text) some
 
-pub word_text-token : (v w : List Symbol) (t : TokenTerm) → w ≡ v ++ Leaf t ∷ [] → word_text w ≡ word_text v ++ t.text
-word_text-token v w t e = word_text-more v w (Token t) e (append-nil t.text)
-
-pub length-word_text-token : (v w : List Symbol) (t : TokenTerm) → w ≡ v ++ Leaf t ∷ [] → length (word_text w) ≡ length (word_text v) + length t.text
-length-word_text-token v w t e = ap length (word_text-token v w t e) ∙ length-append (word_text v) t.text
+pub length-text-leaf : (v w : List Symbol) (t : TokenTerm) → w ≡ v ++ Leaf t ∷ [] → length (word_text w) ≡ length (word_text v) + length t.text
+length-text-leaf v w t e = ap length (text-leaf v w t e) ∙ length-append (word_text v) t.text
 
 -- one more node, around one token
 pub IsInRoot-alone : (v w : List Symbol) (n k : ℕ) (t : TokenTerm) → IsInRoot v n → w ≡ v ++ Open k ∷ Leaf t ∷ Close ∷ [] → 0 < length t.text → IsInRoot w n
 IsInRoot-alone v w n k t h e some = IsInRoot-more v w n (Node (node_of k (Token t ∷ []))) h e refl (omega (arith, some, length-append t.text []))
-
-pub word_text-alone : (v w : List Symbol) (k : ℕ) (t : TokenTerm) → w ≡ v ++ Open k ∷ Leaf t ∷ Close ∷ [] → word_text w ≡ word_text v ++ t.text
-word_text-alone v w k t e = word_text-more v w (Node (node_of k (Token t ∷ []))) e refl ∙ ap (λ bs. word_text v ++ bs) (append-nil t.text)
 
 -- a node around one token, by its three symbols
 pub alone_word : (v u w x : List Symbol) (k : ℕ) (t : TokenTerm) → u ≡ v ++ Open k ∷ [] → w ≡ u ++ Leaf t ∷ [] → x ≡ w ++ Close ∷ [] → x ≡ v ++ Open k ∷ Leaf t ∷ Close ∷ []
@@ -220,7 +202,7 @@ alone_word v u w x k t e f g =
 -- an open node with one token in it can be closed
 pub alone_refused : (v u w : List Symbol) (n k : ℕ) (t : TokenTerm) (f : Fault) → IsInRoot v n → u ≡ v ++ Open k ∷ [] → w ≡ u ++ Leaf t ∷ [] → 0 < length t.text → length (word_text v) + length t.text ≤ byte_limit → WhyNotClosed w f → f ≡ Memory
 alone_refused v u w n k t f h e e' some room why =
-    IsInRoot-refuses w (n + 1) f (IsInRoot-opens v u w n k t h e e' some) (omega (arith, room, length-word_text-token u w t e', ap length (word_text-open v u k e))) why
+    IsInRoot-refuses w (n + 1) f (IsInRoot-opens v u w n k t h e e' some) (omega (arith, room, length-text-leaf u w t e', ap length (text-open v u k e))) why
 
 -- the root closed
 pub IsTree-closes : {m : NodeTerm} (v w : List Symbol) → IsInRoot v 0 → Closes v m w → IsTree w
@@ -231,9 +213,6 @@ IsTree-closes v w h c = from c.before c.kind c.children (parts-unique v (Bare ro
     from (b ∷ before) k ts e p =
         let same : h.items ≡ before ++ Bare k ∷ map Whole ts = cc in
         absurd (omega (arith, ap bare_count same, bare_count-append before (Bare k ∷ map Whole ts), h.opened))
-
-pub IsTree-finishes : (w : List Symbol) (n : NodeTerm) → IsFinished w n → node_text n ≡ word_text w
-IsTree-finishes w n h = sym (word_text-terms w (Node n ∷ []) h ∙ append-nil (node_text n))
 
 pub IsTree-refuses : (w : List Symbol) (f : Fault) → IsTree w → WhyUnfinished w f → ⊥
 IsTree-refuses w f h why = refuted f why
@@ -254,10 +233,6 @@ IsTree-refuses w f h why = refuted f why
     refuted Memory k = k
     refuted UnknownMark k = k
     refuted NotOneList k = k
-
--- a builder with the root open and nothing in it
-pub IsInRoot-starts : (w : List Symbol) → w ≡ Open root_kind ∷ [] → IsInRoot w 0
-IsInRoot-starts w e = record { items = []; parts = record { spells = e }; opened = refl; few = omega arith; filled = tt; ends = tt }
 
 -- the texts of the tokens so far, with the next one's
 pub joined-more : (tokens : List LexedToken) (i : ℕ) (nothing : LexedToken) → i < length tokens → joined (take (i + 1) tokens) ≡ joined (take i tokens) ++ (get_or tokens i nothing).1.now

@@ -1,5 +1,5 @@
 -- What the program's arguments ask for, and what it does for an input.
-use Rattle.std.specs.Prelude.{◌≡◌, ◌≢◌, ℕ, ◌≤◌, List, [], ◌∷◌, length, map, codes, string_bytes, Option, Some, String}
+use Rattle.std.specs.Prelude.{◌≡◌, ◌≢◌, ℕ, ◌≤◌, List, [], ◌∷◌, length, map, codes, string_bytes, Option, Some, IfSome, String}
 use Rattle.std.specs.Io.KnownBytes.{Appends}
 use Rattle.std.specs.declared.alloc.Global.{Global}
 use Rattle.rowan_tool.specs.declared.program.Command.{Command}
@@ -30,6 +30,10 @@ longest_input = byte_limit
 pub record IsReadWhole (bytes : List ℕ) (rest : Option (List ℕ)) : Type 0 where
   pub at_end : rest ≡ Some []
   pub within : length bytes ≤ longest_input
+
+-- where it is known which bytes an input holds, they were read to its end, within the limit, and are such bytes
+abbrev pub ReadsAll : (IsSuch : List ℕ → Type 0) (before after : Option (List ℕ)) → Type 0
+ReadsAll IsSuch before after = IfSome before (λ bytes. IsReadWhole bytes after × IsSuch bytes)
 
 -- one text was written after what the output held
 pub record IsAnswered (old new : Option (List ℕ)) : Type 0 where

@@ -98,7 +98,9 @@ pub record IsLexed (text : List ℕ) (tokens : List LexedToken) : Type 0 where
 
 -- the text is empty, or begins with a character that passes the test
 abbrev pub IsStopped : (ℕ → Bool) → List ℕ → Type 0
-IsStopped ends text = 0 < length text → (c : ℕ) × (rest : List ℕ) × (ends c ≡ true) × (text ≡ encode_utf8 c ++ rest)
+IsStopped ends text =
+    0 < length text
+    → (c : ℕ) × (rest : List ℕ) × (ends c ≡ true) × (text ≡ encode_utf8 c ++ rest)
 
 -- a token of this kind ends where this rest begins
 abbrev pub EndsBefore : SyntaxKind → List ℕ → Type 0

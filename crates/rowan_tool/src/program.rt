@@ -1,7 +1,7 @@
 //! The program `rowan`: what its arguments ask for, what it reads and writes, and why it stops.
 ghost use Rattle.std.specs.Prelude.{◌≡◌, ◌≢◌, ◌↔◌, ◌<◌, ◌≤◌, ◌++◌, length, take, Ok, Err, IfOk, IfErr, IfSome, IfNone, OnOk, IsUtf8, string_bytes, vec_len};
 ghost use Rattle.std.specs.Io.KnownBytes.{Appends, Consumes, IsAtEnd};
-ghost use Rattle.rowan_tool.specs.Program.{AsksFor, IsCommandLine, IsReadWhole, IsAnswered, longest_input, status_of, line_of};
+ghost use Rattle.rowan_tool.specs.Program.{AsksFor, IsCommandLine, IsReadWhole, ReadsAll, IsAnswered, longest_input, status_of, line_of};
 
 use crate::sexp;
 use rowan::Fault;
@@ -124,13 +124,10 @@ pub fn run<R: Read, W: Write>(
     ensures too_long { result ≡ Err Stop.TooLong →
         IfSome (R.remaining input.old) (λ bytes. longest_input < length bytes) }
     ensures not_utf8 { result ≡ Err Stop.NotUtf8 →
-        IfSome (R.remaining input.old) (λ bytes.
-        IsReadWhole bytes (R.remaining input.new) × ¬ IsUtf8 bytes) }
+        ReadsAll (λ bytes. ¬ IsUtf8 bytes) (R.remaining input.old) (R.remaining input.new) }
     ensures cannot_write { result ≡ Err Stop.CannotWrite →
-        IfSome (R.remaining input.old) (λ bytes.
-        IsReadWhole bytes (R.remaining input.new) × IsUtf8 bytes) }
-    ensures read { OnOk result (IfSome (R.remaining input.old) (λ bytes.
-        IsReadWhole bytes (R.remaining input.new) × IsUtf8 bytes)) }
+        ReadsAll IsUtf8 (R.remaining input.old) (R.remaining input.new) }
+    ensures read { OnOk result (ReadsAll IsUtf8 (R.remaining input.old) (R.remaining input.new)) }
     ensures written { OnOk result (IsAnswered (W.contents output.old) (W.contents output.new)) }
 {
     let Some(command) = Command::from_args(args) else {

@@ -2,11 +2,11 @@
 ghost use Rattle.std.specs.Prelude.{◌≡◌, ◌≢◌, ℕ, ◌+◌, ◌<◌, ◌≤◌, [], ◌∷◌, ◌++◌, length, IfOk, IfErr, OnOk};
 ghost use Rattle.rowan_green.specs.Cache.{first_seen};
 ghost use Rattle.rowan_green.specs.Fits.{byte_limit};
-ghost use Rattle.rowan_green.specs.Loan.{word_of, value_of, loan_of};
+ghost use Rattle.rowan_green.specs.Loan.{word_of, value_of, loan_of, text_so_far};
 ghost use Rattle.rowan_green.specs.Stream.{subterms, Grows, BuildsOn};
 ghost use Rattle.rowan_green.specs.declared.utility_types.NodeOrToken.TheVariants.{Node};
 ghost use Rattle.rowan_green.specs.Term.{node_text};
-ghost use Rattle.rowan_green.specs.Word.{Open, Leaf, Close, word_text};
+ghost use Rattle.rowan_green.specs.Word.{Open, Leaf, Close};
 ghost use Rattle.rowan_tool.specs.Parsing.{IsInRoot, IsTree};
 ghost use Rattle.rowan_tool.specs.Sexp.{IsTextOf, IsToken, joined, number_of};
 ghost use Rattle.std.specs.List.{AllByRecursion};
@@ -35,11 +35,14 @@ pub fn parse(alloc: Global, text: &str) -> Result<Parse, Fault>
 /// of its first ones there; one of a text past the limit leaves the cache as it was.
 pub fn parse_with(alloc: Global, text: &str, cache: &mut NodeCache) -> Result<Parse, Fault>
     ensures text { IfOk result (λ p. node_text p ≡ text.now) }
-    ensures interned { IfOk result (λ p. cache.new.seen ≡ first_seen cache.old.limit (cache.old.seen ++ subterms (Node p))) }
-    ensures grows { Grows cache.old cache.new }
     ensures err { IfErr result (λ e. e ≢ Fault.Memory → e ≡ Fault.TextTooLong) }
     ensures too_long { byte_limit < length text.now → result ≡ Err Fault.TextTooLong }
     ensures fits { result ≡ Err Fault.TextTooLong → byte_limit < length text.now }
+
+    // What is left in the cache.
+    ensures interned { IfOk result (λ p.
+        cache.new.seen ≡ first_seen cache.old.limit (cache.old.seen ++ subterms (Node p))) }
+    ensures grows { Grows cache.old cache.new }
     ensures unchanged { result ≡ Err Fault.TextTooLong → cache.new ≡ cache.old }
 {
     if text.len() > u32::MAX as usize {
@@ -59,11 +62,14 @@ fn build(builder: &mut GreenNodeBuilder<'_>, tokens: &[Token<'_>]) -> Result<(),
     requires empty { word_of builder.old ≡ [] }
     requires tokens { AllByRecursion IsToken tokens.now }
     requires room { length (joined tokens.now) ≤ byte_limit }
-    ensures loan { loan_of builder.new ≡ loan_of builder.old }
+
     ensures ok { OnOk result (IsTree (word_of builder.new)) }
-    ensures text { OnOk result (word_text (word_of builder.new) ≡ joined tokens.now) }
+    ensures text { OnOk result (text_so_far builder.new ≡ joined tokens.now) }
     ensures err { IfErr result (λ e. e ≡ Fault.Memory) }
+
+    // The builder's cache.
     ensures stream { BuildsOn (value_of builder.old) (value_of builder.new) }
+    ensures loan { loan_of builder.new ≡ loan_of builder.old }
 {
     builder.start_node(SyntaxKind::ROOT.to_raw())?;
     let mut open_lists = 0;
@@ -83,10 +89,13 @@ fn place(
 ) -> Result<usize, Fault>
     requires in_root { IsInRoot (word_of builder.old) open_lists }
     requires token { IsTextOf kind text.now }
-    requires room { length (word_text (word_of builder.old)) + length text.now ≤ byte_limit }
+    requires room { length (text_so_far builder.old) + length text.now ≤ byte_limit }
+
     ensures ok { IfOk result (λ n. IsInRoot (word_of builder.new) n) }
-    ensures text { OnOk result (word_text (word_of builder.new) ≡ word_text (word_of builder.old) ++ text.now) }
+    ensures text { OnOk result (text_so_far builder.new ≡ text_so_far builder.old ++ text.now) }
     ensures err { IfErr result (λ e. e ≡ Fault.Memory) }
+
+    // The builder's cache.
     ensures stream { BuildsOn (value_of builder.old) (value_of builder.new) }
     ensures loan { loan_of builder.new ≡ loan_of builder.old }
 {
@@ -125,10 +134,14 @@ fn place_alone(
 ) -> Result<(), Fault>
     requires in_root { (n : ℕ) × IsInRoot (word_of builder.old) n }
     requires nonempty { 0 < length text.now }
-    requires room { length (word_text (word_of builder.old)) + length text.now ≤ byte_limit }
+    requires room { length (text_so_far builder.old) + length text.now ≤ byte_limit }
+
     ensures ok { OnOk result (word_of builder.new ≡ word_of builder.old ++ Open (number_of node)
         ∷ Leaf (record { kind = number_of kind; text = text.now }) ∷ Close ∷ []) }
+    ensures text { OnOk result (text_so_far builder.new ≡ text_so_far builder.old ++ text.now) }
     ensures err { IfErr result (λ e. e ≡ Fault.Memory) }
+
+    // The builder's cache.
     ensures stream { BuildsOn (value_of builder.old) (value_of builder.new) }
     ensures loan { loan_of builder.new ≡ loan_of builder.old }
 {
@@ -140,10 +153,13 @@ fn place_alone(
 /// Closes the open lists at the end of the text.
 fn close_lists(builder: &mut GreenNodeBuilder<'_>, open_lists: usize) -> Result<(), Fault>
     requires in_root { IsInRoot (word_of builder.old) open_lists }
-    requires room { length (word_text (word_of builder.old)) ≤ byte_limit }
+    requires room { length (text_so_far builder.old) ≤ byte_limit }
+
     ensures ok { OnOk result (IsInRoot (word_of builder.new) 0) }
-    ensures text { OnOk result (word_text (word_of builder.new) ≡ word_text (word_of builder.old)) }
+    ensures text { text_so_far builder.new ≡ text_so_far builder.old }
     ensures err { IfErr result (λ e. e ≡ Fault.Memory) }
+
+    // The builder's cache.
     ensures stream { BuildsOn (value_of builder.old) (value_of builder.new) }
     ensures loan { loan_of builder.new ≡ loan_of builder.old }
 {
@@ -156,10 +172,13 @@ fn close_lists(builder: &mut GreenNodeBuilder<'_>, open_lists: usize) -> Result<
 /// Closes the root, in which no list is open.
 fn close_root(builder: &mut GreenNodeBuilder<'_>) -> Result<(), Fault>
     requires in_root { IsInRoot (word_of builder.old) 0 }
-    requires room { length (word_text (word_of builder.old)) ≤ byte_limit }
+    requires room { length (text_so_far builder.old) ≤ byte_limit }
+
     ensures ok { OnOk result (IsTree (word_of builder.new)) }
-    ensures text { OnOk result (word_text (word_of builder.new) ≡ word_text (word_of builder.old)) }
+    ensures text { text_so_far builder.new ≡ text_so_far builder.old }
     ensures err { IfErr result (λ e. e ≡ Fault.Memory) }
+
+    // The builder's cache.
     ensures stream { BuildsOn (value_of builder.old) (value_of builder.new) }
     ensures loan { loan_of builder.new ≡ loan_of builder.old }
 {

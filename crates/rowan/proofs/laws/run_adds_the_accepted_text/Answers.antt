@@ -1,5 +1,8 @@
-use Rattle.rowan.proofs.RunLaws.{text-run}
+use Rattle.rowan.proofs.RunLaws.{tokens-rewritten, text-rewritten}
 use Rattle.rowan.proofs.laws.run_adds_the_accepted_text.Goals as goal
 
-pub returns : goal.returns
-returns c = λ old new calls outcomes run. text-run calls outcomes _ old new run.steps
+pub returns-clause-tokens : goal.returns-clause-tokens
+returns-clause-tokens c = tokens-rewritten
+
+pub returns-clause-text : goal.returns-clause-text
+returns-clause-text c = text-rewritten

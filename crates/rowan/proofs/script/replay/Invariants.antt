@@ -1,12 +1,12 @@
 use Rattle.std.proofs.Common.{◌≡◌, ◌≤◌, [], length, take, vec_len, vec_capacity}
 use Rattle.rowan_green.specs.Loan.{value_of, loan_of}
-use Rattle.rowan.specs.Run.{RunFrom}
+use Rattle.rowan.specs.Run.{Run}
 use Rattle.rowan.proofs.Runs.{with_marks}
 use Rattle.rowan.proofs.script.replay.Given as goal
 
 abbrev pub invariant-loop-call : goal.invariant-loop-call
 invariant-loop-call g l = record {
-  run : RunFrom [] (value_of l.initial.builder) (take l.call-index l.calls) l.outcomes.items (value_of l.builder);
+  run : Run (value_of l.initial.builder) (take l.call-index l.calls) l.outcomes.items (value_of l.builder);
   loan : loan_of l.builder ≡ loan_of l.initial.builder;
   marks : l.marks.items ≡ with_marks [] l.outcomes.items;
   outcomes_room : length l.calls ≤ vec_capacity l.outcomes;

@@ -2,7 +2,7 @@ use Rattle.std.proofs.Common.{◌≡◌, ◌+◌, ◌-◌, length, ap, ◌∙◌
 use Rattle.std.proofs.lemmas.Result.{err_from_is_err_and}
 use Rattle.rowan_green.proofs.StreamLemmas.{BuildsOn-trans}
 use Rattle.rowan_tool.specs.Parsing.{IsInRoot}
-use Rattle.rowan_tool.proofs.ParsingLemmas.{IsInRoot-refuses, IsInRoot-closes, word_text-closes}
+use Rattle.rowan_tool.proofs.ParsingLemmas.{IsInRoot-refuses, IsInRoot-closes}
 use Rattle.rowan_tool.proofs.sexp.parser.close_lists.Goals as goal
 
 pub returns-in_err-finish_node-clause-err : goal.returns-in_err-finish_node-clause-err
@@ -20,7 +20,7 @@ loop-list-preserved c =
     let e : n - 1 ≡ c.args.open_lists - (c.loop-list._list + 1) = omega arith in
     record {
       in_root = subst (λ k. IsInRoot w k) e (IsInRoot-closes v w n c.loop-list.invariant.in_root (omega arith) closes);
-      same_text = word_text-closes v w closes ∙ c.loop-list.invariant.same_text;
+      same_text = c.finish_node.ensures.text ∙ c.loop-list.invariant.same_text;
       builds = BuildsOn-trans _ _ _ c.loop-list.invariant.builds c.finish_node.ensures.stream;
       same_loan = c.finish_node.ensures.loan ∙ c.loop-list.invariant.same_loan;
     }

@@ -3,14 +3,11 @@ use Rattle.std.proofs.lemmas.Result.{IfErr-weaker, on_ok_weaker}
 use Rattle.rowan_green.specs.declared.fault.Fault.{Fault}
 use Rattle.rowan_green.specs.declared.fault.Fault.TheVariants.{Memory}
 use Rattle.rowan_green.specs.Word.{WhyNotClosed}
-use Rattle.rowan_tool.proofs.ParsingLemmas.{IsInRoot-refuses, IsTree-closes, word_text-closes}
+use Rattle.rowan_tool.proofs.ParsingLemmas.{IsInRoot-refuses, IsTree-closes}
 use Rattle.rowan_tool.proofs.sexp.parser.close_root.Goals as goal
 
 pub returns-clause-ok : goal.returns-clause-ok
 returns-clause-ok c = on_ok_weaker c.finish_node.result (λ h. IsTree-closes c.args.builder.now.inner.word c.finish_node.new.self.inner.word c.requires.in_root h.closes) c.finish_node.ensures.ok
-
-pub returns-clause-text : goal.returns-clause-text
-returns-clause-text c = on_ok_weaker c.finish_node.result (λ h. word_text-closes c.args.builder.now.inner.word c.finish_node.new.self.inner.word h.closes) c.finish_node.ensures.ok
 
 pub returns-clause-err : goal.returns-clause-err
 returns-clause-err c =

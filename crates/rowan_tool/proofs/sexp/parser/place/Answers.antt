@@ -1,7 +1,7 @@
-use Rattle.std.proofs.Common.{◌++◌, ap, ◌∙◌, arith}
+use Rattle.std.proofs.Common.{ap, arith}
 use Rattle.std.proofs.lemmas.Result.{err_from_is_err_and}
 use Rattle.rowan_green.specs.Term.{TokenTerm}
-use Rattle.rowan_tool.proofs.ParsingLemmas.{IsTextOf-some, IsInRoot-opens, IsInRoot-closes, IsInRoot-refuses, IsInRoot-token, IsInRoot-alone, word_text-open, word_text-closes, word_text-token, word_text-alone, length-word_text-token}
+use Rattle.rowan_tool.proofs.ParsingLemmas.{IsTextOf-some, IsInRoot-opens, IsInRoot-closes, IsInRoot-refuses, IsInRoot-token, IsInRoot-alone, length-text-leaf}
 use Rattle.rowan_tool.proofs.sexp.parser.place.Goals as goal
 
 pub returns-in_err-finish_node-in-R_PAREN-clause-err : goal.returns-in_err-finish_node-in-R_PAREN-clause-err
@@ -12,7 +12,7 @@ returns-in_err-finish_node-in-R_PAREN-clause-err c =
     let w = c.token-in-R_PAREN.new.self.inner.word in
     rw (p.1, p.2) (IsInRoot-refuses w c.args.open_lists c.in_err-finish_node-in-R_PAREN.field-0.0
     (IsInRoot-token c.args.builder.now.inner.word w c.args.open_lists t c.requires.in_root (ap (λ b. b.word) c.in_ok-token-in-R_PAREN.ensures.ok) some)
-    (omega (arith, c.requires.room, length-word_text-token c.args.builder.now.inner.word w t (ap (λ b. b.word) c.in_ok-token-in-R_PAREN.ensures.ok)))
+    (omega (arith, c.requires.room, length-text-leaf c.args.builder.now.inner.word w t (ap (λ b. b.word) c.in_ok-token-in-R_PAREN.ensures.ok)))
     c.in_err-finish_node-in-R_PAREN.ensures.err)
 
 pub returns-in_ok-token-in-L_PAREN-clause-ok : goal.returns-in_ok-token-in-L_PAREN-clause-ok
@@ -20,12 +20,6 @@ returns-in_ok-token-in-L_PAREN-clause-ok c =
     let t : TokenTerm = record { kind = c.to_raw-in-L_PAREN.result.0; text = c.args.text.now } in
     let some = IsTextOf-some c.args.kind c.args.text.now c.requires.token in
     IsInRoot-opens c.args.builder.now.inner.word c.start_node.new.self.inner.word c.token.new.self.inner.word c.args.open_lists c.to_raw.result.0 t c.requires.in_root (ap (λ b. b.word) c.in_ok-start_node-in-L_PAREN.ensures.ok) (ap (λ b. b.word) c.in_ok-token-in-L_PAREN.ensures.ok) some
-
-pub returns-in_ok-token-in-L_PAREN-clause-text : goal.returns-in_ok-token-in-L_PAREN-clause-text
-returns-in_ok-token-in-L_PAREN-clause-text c =
-    let t : TokenTerm = record { kind = c.to_raw-in-L_PAREN.result.0; text = c.args.text.now } in
-    word_text-token c.start_node.new.self.inner.word c.token.new.self.inner.word t (ap (λ b. b.word) c.in_ok-token-in-L_PAREN.ensures.ok)
-    ∙ ap (λ bs. bs ++ c.args.text.now) (word_text-open c.args.builder.now.inner.word c.start_node.new.self.inner.word c.to_raw.result.0 (ap (λ b. b.word) c.in_ok-start_node-in-L_PAREN.ensures.ok))
 
 pub returns-in_ok-finish_node-in-R_PAREN-clause-ok : goal.returns-in_ok-finish_node-in-R_PAREN-clause-ok
 returns-in_ok-finish_node-in-R_PAREN-clause-ok c =
@@ -36,36 +30,18 @@ returns-in_ok-finish_node-in-R_PAREN-clause-ok c =
     (IsInRoot-token c.args.builder.now.inner.word w c.args.open_lists t c.requires.in_root (ap (λ b. b.word) c.in_ok-token-in-R_PAREN.ensures.ok) some)
     c.if-open_lists-gt0.true c.in_ok-finish_node-in-R_PAREN.ensures.ok.closes
 
-pub returns-in_ok-finish_node-in-R_PAREN-clause-text : goal.returns-in_ok-finish_node-in-R_PAREN-clause-text
-returns-in_ok-finish_node-in-R_PAREN-clause-text c =
-    let t : TokenTerm = record { kind = c.to_raw-in-R_PAREN.result.0; text = c.args.text.now } in
-    let w = c.token-in-R_PAREN.new.self.inner.word in
-    word_text-closes w c.finish_node.new.self.inner.word c.in_ok-finish_node-in-R_PAREN.ensures.ok.closes
-    ∙ word_text-token c.args.builder.now.inner.word w t (ap (λ b. b.word) c.in_ok-token-in-R_PAREN.ensures.ok)
-
 pub returns-in_ok-place_alone-in-R_PAREN-2-clause-ok : goal.returns-in_ok-place_alone-in-R_PAREN-2-clause-ok
 returns-in_ok-place_alone-in-R_PAREN-2-clause-ok c =
     let some = IsTextOf-some c.args.kind c.args.text.now c.requires.token in
     IsInRoot-alone c.args.builder.now.inner.word _ c.args.open_lists _ _ c.requires.in_root c.in_ok-place_alone-in-R_PAREN-2.ensures.ok some
-
-pub returns-in_ok-place_alone-in-R_PAREN-2-clause-text : goal.returns-in_ok-place_alone-in-R_PAREN-2-clause-text
-returns-in_ok-place_alone-in-R_PAREN-2-clause-text c = word_text-alone c.args.builder.now.inner.word _ _ _ c.in_ok-place_alone-in-R_PAREN-2.ensures.ok
 
 pub returns-in_ok-place_alone-in-WORD-clause-ok : goal.returns-in_ok-place_alone-in-WORD-clause-ok
 returns-in_ok-place_alone-in-WORD-clause-ok c =
     let some = IsTextOf-some c.args.kind c.args.text.now c.requires.token in
     IsInRoot-alone c.args.builder.now.inner.word _ c.args.open_lists _ _ c.requires.in_root c.in_ok-place_alone-in-WORD.ensures.ok some
 
-pub returns-in_ok-place_alone-in-WORD-clause-text : goal.returns-in_ok-place_alone-in-WORD-clause-text
-returns-in_ok-place_alone-in-WORD-clause-text c = word_text-alone c.args.builder.now.inner.word _ _ _ c.in_ok-place_alone-in-WORD.ensures.ok
-
 pub returns-in_ok-token-in_default-clause-ok : goal.returns-in_ok-token-in_default-clause-ok
 returns-in_ok-token-in_default-clause-ok c =
     let t : TokenTerm = record { kind = c.to_raw-in_default.result.0; text = c.args.text.now } in
     let some = IsTextOf-some c.args.kind c.args.text.now c.requires.token in
     IsInRoot-token c.args.builder.now.inner.word c.token-in_default.new.self.inner.word c.args.open_lists t c.requires.in_root (ap (λ b. b.word) c.in_ok-token-in_default.ensures.ok) some
-
-pub returns-in_ok-token-in_default-clause-text : goal.returns-in_ok-token-in_default-clause-text
-returns-in_ok-token-in_default-clause-text c =
-    let t : TokenTerm = record { kind = c.to_raw-in_default.result.0; text = c.args.text.now } in
-    word_text-token c.args.builder.now.inner.word c.token-in_default.new.self.inner.word t (ap (λ b. b.word) c.in_ok-token-in_default.ensures.ok)

@@ -1,0 +1,5 @@
+use Rattle.rowan.proofs.RunLaws.{tokens-tree}
+use Rattle.rowan.proofs.laws.tree_has_the_accepted_tokens.Goals as goal
+
+pub returns : goal.returns
+returns c = tokens-tree
