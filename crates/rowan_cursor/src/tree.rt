@@ -3,8 +3,6 @@
 mod elements;
 mod fill;
 mod rows;
-#[cfg(test)]
-mod tests;
 mod tokens;
 
 ghost use Rattle.std.specs.Prelude.{◌≡◌, ◌<◌, IfOk, IfErr, IfSome, length, reverse};

@@ -1,11 +1,8 @@
-ghost use Rattle.std.specs.Prelude.{◌≡◌, [], IfOk, IfErr, IfSome, Some, map, reverse, slice_get};
+ghost use Rattle.std.specs.Prelude.{◌≡◌, [], IfOk, IfErr, IfSome, Some};
 ghost use Rattle.std.specs.Option.{option_map};
-ghost use Rattle.rowan_green.specs.declared.utility_types.NodeOrToken.TheVariants.{Node};
-ghost use Rattle.rowan_green.specs.Term.{term_kind};
-ghost use Rattle.rowan_green.specs.Path.{range};
-ghost use Rattle.rowan_cursor.specs.Cursor.{StandsAt, term_at, last_place};
+ghost use Rattle.rowan_cursor.specs.Cursor.{StandsAt, index, kind, text_range};
 ghost use Rattle.rowan_cursor.specs.CursorView.{cursor_of, HasNode};
-ghost use Rattle.rowan_cursor.specs.Moves.{cursor_at, element_at, parent_path, first_at, child_paths, following, preceding, first_node_at, first_leaf_path, last_leaf_path, ancestor_paths, sibling_paths, nodes_at};
+ghost use Rattle.rowan_cursor.specs.Moves.{tree_top, parent, first_child, last_child, first_child_or_token, last_child_or_token, child_or_token_at_index, next_sibling, prev_sibling, next_sibling_or_token, prev_sibling_or_token, first_token, last_token, children, children_with_tokens, siblings, siblings_with_tokens, ancestors};
 
 use crate::cursor::ancestors::Climb;
 use crate::cursor::rows::Row;
@@ -90,21 +87,21 @@ impl SyntaxNode {
 
     /// The kind of the node.
     pub fn kind(&self) -> SyntaxKind
-        ensures { option_map term_kind (term_at self.now) ≡ Some result.0 }
+        ensures { kind self.now ≡ Some result.0 }
     {
         self.green().kind()
     }
 
     /// Where the node's text lies in the text of the root, in bytes.
     pub fn text_range(&self) -> TextRange
-        ensures { result ≡ range (Node self.now.root) self.now.path }
+        ensures { result ≡ text_range self.now }
     {
         self.tree.text_range(self.entry)
     }
 
     /// The place of the node among all children of its parent, tokens counted; 0 for a root.
     pub fn index(&self) -> usize
-        ensures { result ≡ last_place self.now.path }
+        ensures { result ≡ index self.now }
     {
         self.tree.index(self.entry)
     }
@@ -118,7 +115,7 @@ impl SyntaxNode {
 
     /// The root of the tree.
     pub fn tree_top(&self) -> Result<SyntaxNode, Fault>
-        ensures ok { IfOk result (λ n. n ≡ cursor_at self.now.root []) }
+        ensures ok { IfOk result (λ n. n ≡ tree_top self.now) }
         ensures err { IfErr result (λ e. e ≡ Fault.Memory) }
     {
         SyntaxNode::at(&self.tree, 0)
@@ -126,7 +123,7 @@ impl SyntaxNode {
 
     /// The parent, or `None` of a root.
     pub fn parent(&self) -> Result<Option<SyntaxNode>, Fault>
-        ensures ok { IfOk result (λ found. found ≡ option_map (cursor_at self.now.root) (parent_path self.now.path)) }
+        ensures ok { IfOk result (λ found. found ≡ parent self.now) }
         ensures err { IfErr result (λ e. e ≡ Fault.Memory) }
     {
         SyntaxNode::found(&self.tree, self.tree.parent(self.entry))
@@ -134,7 +131,7 @@ impl SyntaxNode {
 
     /// The first child that is a node.
     pub fn first_child(&self) -> Result<Option<SyntaxNode>, Fault>
-        ensures ok { IfOk result (λ found. found ≡ option_map (cursor_at self.now.root) (first_node_at self.now.root (child_paths self.now.root self.now.path))) }
+        ensures ok { IfOk result (λ found. found ≡ first_child self.now) }
         ensures err { IfErr result (λ e. e ≡ Fault.Memory) }
     {
         SyntaxNode::found(&self.tree, self.tree.first_child(self.entry))
@@ -142,7 +139,7 @@ impl SyntaxNode {
 
     /// The last child that is a node.
     pub fn last_child(&self) -> Result<Option<SyntaxNode>, Fault>
-        ensures ok { IfOk result (λ found. found ≡ option_map (cursor_at self.now.root) (first_node_at self.now.root (reverse (child_paths self.now.root self.now.path)))) }
+        ensures ok { IfOk result (λ found. found ≡ last_child self.now) }
         ensures err { IfErr result (λ e. e ≡ Fault.Memory) }
     {
         SyntaxNode::found(&self.tree, self.tree.last_child(self.entry))
@@ -150,7 +147,7 @@ impl SyntaxNode {
 
     /// The first child.
     pub fn first_child_or_token(&self) -> Result<Option<SyntaxElement>, Fault>
-        ensures ok { IfOk result (λ found. found ≡ option_map (element_at self.now.root) (first_at (child_paths self.now.root self.now.path))) }
+        ensures ok { IfOk result (λ found. found ≡ first_child_or_token self.now) }
         ensures err { IfErr result (λ e. e ≡ Fault.Memory) }
     {
         element::found(&self.tree, self.tree.first_child_or_token(self.entry))
@@ -158,7 +155,7 @@ impl SyntaxNode {
 
     /// The last child.
     pub fn last_child_or_token(&self) -> Result<Option<SyntaxElement>, Fault>
-        ensures ok { IfOk result (λ found. found ≡ option_map (element_at self.now.root) (first_at (reverse (child_paths self.now.root self.now.path)))) }
+        ensures ok { IfOk result (λ found. found ≡ last_child_or_token self.now) }
         ensures err { IfErr result (λ e. e ≡ Fault.Memory) }
     {
         element::found(&self.tree, self.tree.last_child_or_token(self.entry))
@@ -166,7 +163,7 @@ impl SyntaxNode {
 
     /// The child at an index among all children, or `None` past the last one.
     pub fn child_or_token_at_index(&self, index: usize) -> Result<Option<SyntaxElement>, Fault>
-        ensures ok { IfOk result (λ found. found ≡ option_map (element_at self.now.root) (slice_get (child_paths self.now.root self.now.path) index)) }
+        ensures ok { IfOk result (λ found. found ≡ child_or_token_at_index self.now index) }
         ensures err { IfErr result (λ e. e ≡ Fault.Memory) }
     {
         element::found(&self.tree, self.tree.child_at(self.entry, index))
@@ -174,7 +171,7 @@ impl SyntaxNode {
 
     /// The next sibling that is a node.
     pub fn next_sibling(&self) -> Result<Option<SyntaxNode>, Fault>
-        ensures ok { IfOk result (λ found. found ≡ option_map (cursor_at self.now.root) (first_node_at self.now.root (following self.now.root self.now.path))) }
+        ensures ok { IfOk result (λ found. found ≡ next_sibling self.now) }
         ensures err { IfErr result (λ e. e ≡ Fault.Memory) }
     {
         SyntaxNode::found(&self.tree, self.tree.next_sibling(self.entry))
@@ -182,7 +179,7 @@ impl SyntaxNode {
 
     /// The nearest sibling before this one that is a node.
     pub fn prev_sibling(&self) -> Result<Option<SyntaxNode>, Fault>
-        ensures ok { IfOk result (λ found. found ≡ option_map (cursor_at self.now.root) (first_node_at self.now.root (preceding self.now.root self.now.path))) }
+        ensures ok { IfOk result (λ found. found ≡ prev_sibling self.now) }
         ensures err { IfErr result (λ e. e ≡ Fault.Memory) }
     {
         SyntaxNode::found(&self.tree, self.tree.prev_sibling(self.entry))
@@ -190,7 +187,7 @@ impl SyntaxNode {
 
     /// The next sibling.
     pub fn next_sibling_or_token(&self) -> Result<Option<SyntaxElement>, Fault>
-        ensures ok { IfOk result (λ found. found ≡ option_map (element_at self.now.root) (first_at (following self.now.root self.now.path))) }
+        ensures ok { IfOk result (λ found. found ≡ next_sibling_or_token self.now) }
         ensures err { IfErr result (λ e. e ≡ Fault.Memory) }
     {
         element::found(&self.tree, self.tree.next_sibling_or_token(self.entry))
@@ -198,7 +195,7 @@ impl SyntaxNode {
 
     /// The sibling before this one.
     pub fn prev_sibling_or_token(&self) -> Result<Option<SyntaxElement>, Fault>
-        ensures ok { IfOk result (λ found. found ≡ option_map (element_at self.now.root) (first_at (preceding self.now.root self.now.path))) }
+        ensures ok { IfOk result (λ found. found ≡ prev_sibling_or_token self.now) }
         ensures err { IfErr result (λ e. e ≡ Fault.Memory) }
     {
         element::found(&self.tree, self.tree.prev_sibling_or_token(self.entry))
@@ -206,7 +203,7 @@ impl SyntaxNode {
 
     /// The first token of all that are in this node, also an empty one.
     pub fn first_token(&self) -> Result<Option<SyntaxToken>, Fault>
-        ensures ok { IfOk result (λ found. found ≡ option_map (cursor_at self.now.root) (first_leaf_path self.now.root self.now.path)) }
+        ensures ok { IfOk result (λ found. found ≡ first_token self.now) }
         ensures err { IfErr result (λ e. e ≡ Fault.Memory) }
     {
         SyntaxToken::found(&self.tree, self.tree.first_token(self.entry))
@@ -214,7 +211,7 @@ impl SyntaxNode {
 
     /// The last token of all that are in this node, also an empty one.
     pub fn last_token(&self) -> Result<Option<SyntaxToken>, Fault>
-        ensures ok { IfOk result (λ found. found ≡ option_map (cursor_at self.now.root) (last_leaf_path self.now.root self.now.path)) }
+        ensures ok { IfOk result (λ found. found ≡ last_token self.now) }
         ensures err { IfErr result (λ e. e ≡ Fault.Memory) }
     {
         SyntaxToken::found(&self.tree, self.tree.last_token(self.entry))
@@ -222,7 +219,7 @@ impl SyntaxNode {
 
     /// The node and the nodes above it, up to the root.
     pub fn ancestors(&self) -> Ancestors
-        ensures ok { IfOk result (λ left. left ≡ map (cursor_at self.now.root) (ancestor_paths self.now.path)) }
+        ensures ok { IfOk result (λ list. list ≡ ancestors self.now) }
         ensures err { IfErr result (λ e. e ≡ Fault.Memory) }
     {
         Ancestors::new(Climb::new(&self.tree, Some(self.entry)))
@@ -230,7 +227,7 @@ impl SyntaxNode {
 
     /// The children that are nodes.
     pub fn children(&self) -> SyntaxNodeChildren
-        ensures ok { IfOk result (λ left. left ≡ map (cursor_at self.now.root) (nodes_at self.now.root (child_paths self.now.root self.now.path))) }
+        ensures ok { IfOk result (λ list. list ≡ children self.now) }
         ensures err { IfErr result (λ e. e ≡ Fault.Memory) }
     {
         SyntaxNodeChildren::new(Row::children(&self.tree, self.entry))
@@ -238,7 +235,7 @@ impl SyntaxNode {
 
     /// The children.
     pub fn children_with_tokens(&self) -> SyntaxElementChildren
-        ensures ok { IfOk result (λ left. left ≡ map (element_at self.now.root) (child_paths self.now.root self.now.path)) }
+        ensures ok { IfOk result (λ list. list ≡ children_with_tokens self.now) }
         ensures err { IfErr result (λ e. e ≡ Fault.Memory) }
     {
         SyntaxElementChildren::new(Row::children(&self.tree, self.entry))
@@ -246,7 +243,7 @@ impl SyntaxNode {
 
     /// The node, and then its siblings in a direction that are nodes, nearest first. A root has none.
     pub fn siblings(&self, direction: Direction) -> Siblings
-        ensures ok { IfOk result (λ left. left ≡ map (cursor_at self.now.root) (nodes_at self.now.root (sibling_paths direction self.now.root self.now.path))) }
+        ensures ok { IfOk result (λ list. list ≡ siblings direction self.now) }
         ensures err { IfErr result (λ e. e ≡ Fault.Memory) }
     {
         Siblings::new(Row::siblings(&self.tree, self.entry, direction))
@@ -254,7 +251,7 @@ impl SyntaxNode {
 
     /// The node, and then its siblings in a direction, nearest first. A root has none.
     pub fn siblings_with_tokens(&self, direction: Direction) -> SiblingsWithTokens
-        ensures ok { IfOk result (λ left. left ≡ map (element_at self.now.root) (sibling_paths direction self.now.root self.now.path)) }
+        ensures ok { IfOk result (λ list. list ≡ siblings_with_tokens direction self.now) }
         ensures err { IfErr result (λ e. e ≡ Fault.Memory) }
     {
         SiblingsWithTokens::new(Row::siblings(&self.tree, self.entry, direction))

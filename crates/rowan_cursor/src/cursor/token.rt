@@ -1,11 +1,8 @@
-ghost use Rattle.std.specs.Prelude.{◌≡◌, [], IfOk, IfErr, IfSome, Some, map};
-ghost use Rattle.std.specs.Option.{option_map, option_map_or};
-ghost use Rattle.rowan_green.specs.declared.utility_types.NodeOrToken.TheVariants.{Node};
-ghost use Rattle.rowan_green.specs.Term.{term_kind};
-ghost use Rattle.rowan_green.specs.Path.{range};
-ghost use Rattle.rowan_cursor.specs.Cursor.{StandsAtToken, term_at, text_at, last_place};
+ghost use Rattle.std.specs.Prelude.{◌≡◌, IfOk, IfErr, IfSome, Some};
+ghost use Rattle.std.specs.Option.{option_map};
+ghost use Rattle.rowan_cursor.specs.Cursor.{StandsAtToken, index, kind, text_range, text_at};
 ghost use Rattle.rowan_cursor.specs.CursorView.{cursor_of, HasToken};
-ghost use Rattle.rowan_cursor.specs.Moves.{cursor_at, element_at, parent_path, first_at, following, preceding, first_leaf_path, last_leaf_path, next_leaf_path, prev_leaf_path, ancestor_paths, sibling_paths};
+ghost use Rattle.rowan_cursor.specs.Moves.{tree_top, parent, next_sibling_or_token, prev_sibling_or_token, first_token, last_token, next_token, prev_token, siblings_with_tokens, parent_ancestors};
 
 use crate::cursor::ancestors::Climb;
 use crate::cursor::rows::Row;
@@ -68,21 +65,21 @@ impl SyntaxToken {
 
     /// The kind of the token.
     pub fn kind(&self) -> SyntaxKind
-        ensures { option_map term_kind (term_at self.now) ≡ Some result.0 }
+        ensures { kind self.now ≡ Some result.0 }
     {
         self.green().kind()
     }
 
     /// Where the token's text lies in the text of the root, in bytes.
     pub fn text_range(&self) -> TextRange
-        ensures { result ≡ range (Node self.now.root) self.now.path }
+        ensures { result ≡ text_range self.now }
     {
         self.tree.text_range(self.entry)
     }
 
     /// The place of the token among all children of its parent.
     pub fn index(&self) -> usize
-        ensures { result ≡ last_place self.now.path }
+        ensures { result ≡ index self.now }
     {
         self.tree.index(self.entry)
     }
@@ -103,7 +100,7 @@ impl SyntaxToken {
 
     /// The root of the tree.
     pub fn tree_top(&self) -> Result<SyntaxNode, Fault>
-        ensures ok { IfOk result (λ n. n ≡ cursor_at self.now.root []) }
+        ensures ok { IfOk result (λ n. n ≡ tree_top self.now) }
         ensures err { IfErr result (λ e. e ≡ Fault.Memory) }
     {
         SyntaxNode::at(&self.tree, 0)
@@ -111,7 +108,7 @@ impl SyntaxToken {
 
     /// The parent.
     pub fn parent(&self) -> Result<Option<SyntaxNode>, Fault>
-        ensures ok { IfOk result (λ found. found ≡ option_map (cursor_at self.now.root) (parent_path self.now.path)) }
+        ensures ok { IfOk result (λ found. found ≡ parent self.now) }
         ensures err { IfErr result (λ e. e ≡ Fault.Memory) }
     {
         SyntaxNode::found(&self.tree, self.tree.parent(self.entry))
@@ -119,7 +116,7 @@ impl SyntaxToken {
 
     /// The next sibling.
     pub fn next_sibling_or_token(&self) -> Result<Option<SyntaxElement>, Fault>
-        ensures ok { IfOk result (λ found. found ≡ option_map (element_at self.now.root) (first_at (following self.now.root self.now.path))) }
+        ensures ok { IfOk result (λ found. found ≡ next_sibling_or_token self.now) }
         ensures err { IfErr result (λ e. e ≡ Fault.Memory) }
     {
         element::found(&self.tree, self.tree.next_sibling_or_token(self.entry))
@@ -127,7 +124,7 @@ impl SyntaxToken {
 
     /// The sibling before this one.
     pub fn prev_sibling_or_token(&self) -> Result<Option<SyntaxElement>, Fault>
-        ensures ok { IfOk result (λ found. found ≡ option_map (element_at self.now.root) (first_at (preceding self.now.root self.now.path))) }
+        ensures ok { IfOk result (λ found. found ≡ prev_sibling_or_token self.now) }
         ensures err { IfErr result (λ e. e ≡ Fault.Memory) }
     {
         element::found(&self.tree, self.tree.prev_sibling_or_token(self.entry))
@@ -135,7 +132,7 @@ impl SyntaxToken {
 
     /// The next token of the tree, also an empty one, whatever node it is in.
     pub fn next_token(&self) -> Result<Option<SyntaxToken>, Fault>
-        ensures ok { IfOk result (λ found. found ≡ option_map (cursor_at self.now.root) (next_leaf_path self.now.root self.now.path)) }
+        ensures ok { IfOk result (λ found. found ≡ next_token self.now) }
         ensures err { IfErr result (λ e. e ≡ Fault.Memory) }
     {
         SyntaxToken::found(&self.tree, self.tree.next_token(self.entry))
@@ -143,7 +140,7 @@ impl SyntaxToken {
 
     /// The token of the tree before this one, also an empty one, whatever node it is in.
     pub fn prev_token(&self) -> Result<Option<SyntaxToken>, Fault>
-        ensures ok { IfOk result (λ found. found ≡ option_map (cursor_at self.now.root) (prev_leaf_path self.now.root self.now.path)) }
+        ensures ok { IfOk result (λ found. found ≡ prev_token self.now) }
         ensures err { IfErr result (λ e. e ≡ Fault.Memory) }
     {
         SyntaxToken::found(&self.tree, self.tree.prev_token(self.entry))
@@ -151,14 +148,14 @@ impl SyntaxToken {
 
     // The token itself, by the way that a node takes to its first or last token.
     pub(super) fn first_token(&self) -> Result<Option<SyntaxToken>, Fault>
-        ensures ok { IfOk result (λ found. found ≡ option_map (cursor_at self.now.root) (first_leaf_path self.now.root self.now.path)) }
+        ensures ok { IfOk result (λ found. found ≡ first_token self.now) }
         ensures err { IfErr result (λ e. e ≡ Fault.Memory) }
     {
         SyntaxToken::found(&self.tree, self.tree.first_token(self.entry))
     }
 
     pub(super) fn last_token(&self) -> Result<Option<SyntaxToken>, Fault>
-        ensures ok { IfOk result (λ found. found ≡ option_map (cursor_at self.now.root) (last_leaf_path self.now.root self.now.path)) }
+        ensures ok { IfOk result (λ found. found ≡ last_token self.now) }
         ensures err { IfErr result (λ e. e ≡ Fault.Memory) }
     {
         SyntaxToken::found(&self.tree, self.tree.last_token(self.entry))
@@ -166,7 +163,7 @@ impl SyntaxToken {
 
     /// The nodes above the token: its parent, and so on up to the root.
     pub fn ancestors(&self) -> Ancestors
-        ensures ok { IfOk result (λ left. left ≡ map (cursor_at self.now.root) (option_map_or ancestor_paths (parent_path self.now.path) [])) }
+        ensures ok { IfOk result (λ list. list ≡ parent_ancestors self.now) }
         ensures err { IfErr result (λ e. e ≡ Fault.Memory) }
     {
         Ancestors::new(Climb::new(&self.tree, self.tree.parent(self.entry)))
@@ -174,7 +171,7 @@ impl SyntaxToken {
 
     /// The token, and then its siblings in a direction, nearest first.
     pub fn siblings_with_tokens(&self, direction: Direction) -> SiblingsWithTokens
-        ensures ok { IfOk result (λ left. left ≡ map (element_at self.now.root) (sibling_paths direction self.now.root self.now.path)) }
+        ensures ok { IfOk result (λ list. list ≡ siblings_with_tokens direction self.now) }
         ensures err { IfErr result (λ e. e ≡ Fault.Memory) }
     {
         SiblingsWithTokens::new(Row::siblings(&self.tree, self.entry, direction))

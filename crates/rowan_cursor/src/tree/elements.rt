@@ -4,7 +4,7 @@ ghost use Rattle.std.specs.Option.{option_map};
 ghost use Rattle.rowan_green.specs.declared.utility_types.NodeOrToken.TheVariants.{Node, Token};
 ghost use Rattle.rowan_green.specs.Lent.{pointee};
 ghost use Rattle.rowan_green.specs.Path.{offset, range, subterm};
-ghost use Rattle.rowan_cursor.specs.Cursor.{last_place};
+ghost use Rattle.rowan_cursor.specs.Cursor.{last_index};
 ghost use Rattle.rowan_cursor.specs.CursorView.{HasNode, HasToken};
 ghost use Rattle.rowan_cursor.specs.Moves.{child_paths};
 ghost use Rattle.rowan_cursor.specs.Table.{root_of, path_at};
@@ -119,7 +119,7 @@ impl Tree {
     /// The index among all children of the parent; 0 of the root.
     pub(crate) fn index(&self, number: usize) -> usize
         requires { number < length self.now.entries.items }
-        ensures { result ≡ last_place (path_at self.now.entries.items number) }
+        ensures { result ≡ last_index (path_at self.now.entries.items number) }
     {
         if number == 0 {
             return 0;
