@@ -1,13 +1,13 @@
-pub mod Climb
 pub mod Cursor
 pub mod CursorCode
-pub mod CursorView
 pub mod Equal
 pub mod Moves
 pub mod Pass
-pub mod Rows
 pub mod Table
+pub mod TablePass
 pub mod TableProp
+pub mod TableView
+pub mod Walks
 pub mod Yields
 pub mod YieldsCode
 pub use Rattle.rowan_green.specs.Term
