@@ -132,23 +132,26 @@ impl TextRange {
         TextRange { start: offset, end }
     }
 
-    /// Where the range starts.
+    /// Where the range starts, in bytes.
     pub fn start(self) -> TextSize
-        ensures { result ≡ self.start }
+        ensures offset { result ≡ self.start }
+        ensures order { result ≤ self.end }
     {
         self.start
     }
 
-    /// Where the range ends: the offset of the first byte behind it.
+    /// Where the range ends, in bytes: the offset of the first byte behind it.
     pub fn end(self) -> TextSize
-        ensures { result ≡ self.end }
+        ensures offset { result ≡ self.end }
+        ensures order { self.start ≤ result }
     {
         self.end
     }
 
     /// How many bytes the range has.
     pub fn len(self) -> TextSize
-        ensures { result ≡ self.end - self.start }
+        ensures difference { result ≡ self.end - self.start }
+        ensures reach { self.start + result ≡ self.end }
     {
         TextSize::from(self.end.raw - self.start.raw)
     }
