@@ -28,11 +28,13 @@ impl NodeDraft {
 
 impl GreenNode {
     /// The node with another child in place of the one at an index. Past the last child it is an equal node, and the new
-    /// child is dropped.
+    /// child is dropped. Refused with `TextTooLong` where its text would have more than 4,294,967,295 bytes, and else only for
+    /// want of memory.
     pub fn replace_child(&self, index: usize, new_child: GreenElement) -> Result<GreenNode, Fault>
         ensures ok { IfOk result (λ n. n ≡ node_of (node_kind self.now) (replaced (node_children self.now) index new_child)) }
         ensures within { OnOk result (AreWithin (replaced (node_children self.now) index new_child)) }
         ensures err { IfErr result (λ e. e ≢ Fault.Memory → PassesLimit (replaced (node_children self.now) index new_child) e) }
+        ensures text { IfErr result (λ e. e ≢ Fault.Memory → e ≡ Fault.TextTooLong) }
     {
         if index >= self.child_count() {
             return Ok(self.clone()?);
