@@ -3,7 +3,7 @@ ghost use Rattle.std.specs.Prelude.{◌≡◌, ℕ, ◌+◌, ◌-◌, ◌<◌, �
 ghost use Rattle.std.specs.Fmt.{decimal};
 ghost use Rattle.std.specs.Option.{SomeIff};
 ghost use Rattle.rowan_green.specs.Fits.{byte_limit};
-ghost use Rattle.rowan_green.specs.Span.{Holds, intersection};
+ghost use Rattle.rowan_green.specs.Span.{Holds, intersection, EndsBefore, Overlaps, StartsBehind};
 
 use std::cmp::{self, Ordering};
 use std::fmt;
@@ -181,7 +181,8 @@ impl TextRange {
     /// The offsets that both ranges hold, their ends among them: a range, which is empty where the two only touch. `None` where
     /// there are none.
     pub fn intersect(self, other: TextRange) -> Option<TextRange>
-        ensures { let common = intersection self other in SomeIff result (common.start ≤ common.end) common }
+        ensures { let common = intersection self other in
+            SomeIff result (common.start ≤ common.end) common }
     {
         let start = cmp::max(self.start, other.start);
         let end = cmp::min(self.end, other.end);
@@ -194,9 +195,9 @@ impl TextRange {
     /// `Less` where this range ends before the other starts, `Greater` the other way round, and `Equal` where they overlap. Ranges
     /// that only touch do not overlap.
     pub fn ordering(self, other: TextRange) -> Ordering
-        ensures less { (result ≡ Ordering.Less) ↔ (self.end ≤ other.start) }
-        ensures greater { (result ≡ Ordering.Greater) ↔ ((other.start < self.end) × (other.end ≤ self.start)) }
-        ensures equal { (result ≡ Ordering.Equal) ↔ ((other.start < self.end) × (self.start < other.end)) }
+        ensures less { (result ≡ Ordering.Less) ↔ EndsBefore self other }
+        ensures greater { (result ≡ Ordering.Greater) ↔ StartsBehind self other }
+        ensures equal { (result ≡ Ordering.Equal) ↔ Overlaps self other }
     {
         if self.end <= other.start {
             Ordering::Less

@@ -1,8 +1,9 @@
 ghost use Rattle.std.specs.Prelude.{◌≡◌, ◌+◌, ◌<◌, ◌≤◌, map, length};
-ghost use Rattle.rowan_green.specs.Search.{IsOnlyChoice, child_start, child_end, digits};
-ghost use Rattle.rowan_green.specs.Steps.{one_more, count_limit};
+ghost use Rattle.rowan_green.specs.Search.{IsOnlyChoice, digits};
+ghost use Rattle.rowan_green.specs.Span.{EndsBefore, Overlaps, StartsBehind};
+ghost use Rattle.rowan_green.specs.Steps.{one_more, Rises};
 ghost use Rattle.rowan_green.specs.Term.{sum_of_lens};
-ghost use Rattle.rowan_green.specs.View.{child_term, HasOffsetsFrom};
+ghost use Rattle.rowan_green.specs.View.{child_term, span_at, HasOffsetsFrom};
 
 use crate::green::node::GreenChild;
 use crate::steps::Steps;
@@ -17,8 +18,7 @@ impl GreenChild {
         requires place { index < length children.now }
         requires placed { HasOffsetsFrom 0 children.now }
         requires sum { text_len ≡ sum_of_lens (map child_term children.now) }
-        ensures start { result.start ≡ child_start (map child_term children.now) index }
-        ensures end { result.end ≡ child_end (map child_term children.now) index }
+        ensures { result ≡ span_at children.now index }
     {
         let start = children[index].rel_offset();
         let end = match children.get(index + 1) {
@@ -39,11 +39,12 @@ impl GreenChild {
         requires place { index < length children.now }
         requires placed { HasOffsetsFrom 0 children.now }
         requires sum { text_len ≡ sum_of_lens (map child_term children.now) }
-        ensures less { result ≡ Ordering.Less → child_end (map child_term children.now) index ≤ range.start }
-        ensures equal { result ≡ Ordering.Equal → (range.start < child_end (map child_term children.now) index)
-            × (child_start (map child_term children.now) index < range.end) }
-        ensures greater { result ≡ Ordering.Greater → (range.start < child_end (map child_term children.now) index)
-            × (range.end ≤ child_start (map child_term children.now) index) }
+        // How the child lies to the range.
+        ensures less { result ≡ Ordering.Less → EndsBefore (span_at children.now index) range }
+        ensures equal { result ≡ Ordering.Equal → Overlaps (span_at children.now index) range }
+        ensures greater { result ≡ Ordering.Greater → StartsBehind (span_at children.now index) range }
+
+        // One comparison is counted.
         ensures comparisons { steps.new.comparisons ≡ one_more steps.old.comparisons }
         ensures grows { steps.old.comparisons ≤ steps.new.comparisons }
         ensures visits { steps.new.visits ≡ steps.old.visits }
@@ -62,9 +63,13 @@ impl GreenChild {
     ) -> usize
         requires placed { HasOffsetsFrom 0 children.now }
         requires sum { text_len ≡ sum_of_lens (map child_term children.now) }
-        ensures choice { range.start ≤ range.end → IsOnlyChoice (map child_term children.now) range.start range.end result }
+        // Which child it is.
+        ensures choice { range.start ≤ range.end
+            → IsOnlyChoice (map child_term children.now) range.start range.end result }
+
+        // What is counted.
         ensures most { steps.new.comparisons ≤ steps.old.comparisons + digits (length children.now) }
-        ensures least { 0 < length children.now → steps.old.comparisons < count_limit → steps.old.comparisons < steps.new.comparisons }
+        ensures least { 0 < length children.now → Rises steps.old.comparisons steps.new.comparisons }
         ensures grows { steps.old.comparisons ≤ steps.new.comparisons }
         ensures visits { steps.new.visits ≡ steps.old.visits }
     {
