@@ -39,10 +39,14 @@ impl GreenChild {
         requires place { index < length children.now }
         requires placed { HasOffsetsFrom 0 children.now }
         requires sum { text_len ≡ sum_of_lens (map child_term children.now) }
+
         // How the child lies to the range.
-        ensures less { result ≡ Ordering.Less → EndsBefore (span_at children.now index) range }
-        ensures equal { result ≡ Ordering.Equal → Overlaps (span_at children.now index) range }
-        ensures greater { result ≡ Ordering.Greater → StartsBehind (span_at children.now index) range }
+        ensures less { let child = span_at children.now index in
+            result ≡ Ordering.Less → EndsBefore child range }
+        ensures equal { let child = span_at children.now index in
+            result ≡ Ordering.Equal → Overlaps child range }
+        ensures greater { let child = span_at children.now index in
+            result ≡ Ordering.Greater → StartsBehind child range }
 
         // One comparison is counted.
         ensures comparisons { steps.new.comparisons ≡ one_more steps.old.comparisons }
@@ -63,13 +67,16 @@ impl GreenChild {
     ) -> usize
         requires placed { HasOffsetsFrom 0 children.now }
         requires sum { text_len ≡ sum_of_lens (map child_term children.now) }
+
         // Which child it is.
         ensures choice { range.start ≤ range.end
             → IsOnlyChoice (map child_term children.now) range.start range.end result }
 
         // What is counted.
-        ensures most { steps.new.comparisons ≤ steps.old.comparisons + digits (length children.now) }
-        ensures least { 0 < length children.now → Rises steps.old.comparisons steps.new.comparisons }
+        ensures most { let count = length children.now in
+            steps.new.comparisons ≤ steps.old.comparisons + digits count }
+        ensures least { 0 < length children.now
+            → Rises steps.old.comparisons steps.new.comparisons }
         ensures grows { steps.old.comparisons ≤ steps.new.comparisons }
         ensures visits { steps.new.visits ≡ steps.old.visits }
     {
