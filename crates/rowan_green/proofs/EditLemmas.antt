@@ -1,9 +1,7 @@
 -- Edits of lists of terms: their lengths and sums, and the limits that they pass.
-use Rattle.std.proofs.Common.{◌≡◌, ◌≢◌, ℕ, zero, suc, ◌+◌, ◌≤◌, List, [], ◌∷◌, ◌++◌, take, drop, length, refl, sym, ◌∙◌, ap, arith, length-append, append_assoc, add-one, Ok, Err, if◌then◌else◌}
+use Rattle.std.proofs.Common.{◌≡◌, ◌≢◌, ℕ, zero, suc, ◌+◌, ◌≤◌, List, [], ◌∷◌, ◌++◌, take, drop, length, refl, sym, ◌∙◌, ap, arith, length-append, append_assoc, add-one, if◌then◌else◌}
 use Rattle.std.proofs.lemmas.Bool.{le-ltb}
 use Rattle.std.proofs.lemmas.List.{take-append-drop}
-use Rattle.std.specs.declared.result.Result.{Result}
-use Rattle.std.specs.Result.{IfOk, OnOk}
 use Rattle.rowan_green.specs.declared.fault.Fault.{Fault}
 use Rattle.rowan_green.specs.declared.fault.Fault.TheVariants.{TextTooLong, TooManyChildren, Memory}
 use Rattle.rowan_green.specs.Edits.{replaced, removed}
@@ -68,8 +66,3 @@ AreWithin-removed i ts w = rw add-one record {
 -- past the end nothing is replaced
 pub replaced-past : {A : Type 0} (xs : List A) (i : ℕ) (x : A) → length xs ≤ i → replaced xs i x ≡ xs
 replaced-past xs i x h = ap (λ b. if b then take i xs ++ x ∷ drop (i + 1) xs else xs) (le-ltb i (length xs) h)
-
--- what the value and a fact of success say together
-pub IfOk-with : {T E B : Type 0} (r : Result T E) (P Q : T → Type 0) → ((x : T) → P x → B → Q x) → IfOk r P → OnOk r B → IfOk r Q
-IfOk-with (Ok x) P Q f h b = f x h b
-IfOk-with (Err e) P Q f h b = h

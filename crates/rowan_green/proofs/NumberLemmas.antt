@@ -7,7 +7,7 @@ use Rattle.std.proofs.lemmas.List.{length-map}
 use Rattle.rowan_green.specs.declared.node_cache.Interned.{Interned}
 use Rattle.rowan_green.specs.declared.utility_types.NodeOrToken.TheVariants.{Node, Token}
 use Rattle.rowan_green.specs.Term.{Term, forest, node_of}
-use Rattle.rowan_green.specs.Cache.{CacheValue, asked, is_eligible, is_eligible_forest, HasNumber, IsNumbered, AreNumbered, elements, Continues}
+use Rattle.rowan_green.specs.Cache.{CacheValue, asked, is_eligible, is_eligible_forest, HasNumber, IsNumbered, AreNumbered, elements, all_have_numbers, ListsNumbers, gets_number, Continues}
 use Rattle.rowan_green.specs.Tables.{StandAt}
 use Rattle.rowan_green.proofs.CacheLemmas.{slice_get-grown, Continues-with_term}
 use Rattle.rowan_green.proofs.Terms.{terms-forest}
@@ -47,17 +47,13 @@ AreNumbered-drop cache (suc n) (i ∷ is) h = AreNumbered-drop cache n is h.1
 
 -- ---- which node is eligible
 
--- each of the elements has a number
-abbrev pub all_have_numbers : List Interned → Bool
-all_have_numbers is = list_all (λ i. is_some i.number) is
-
-pub all_have_numbers-from_map : (is : List Interned) (ns : List ℕ) → map (λ i. i.number) is ≡ map (λ n. Some n) ns → all_have_numbers is ≡ true
-all_have_numbers-from_map [] ns e = refl
-all_have_numbers-from_map (i ∷ is) [] e = absurd cc
-all_have_numbers-from_map (i ∷ is) (n ∷ ns) e =
+pub all_have_numbers-listed : (is : List Interned) (ns : List ℕ) → ListsNumbers is ns → all_have_numbers is ≡ true
+all_have_numbers-listed [] ns e = refl
+all_have_numbers-listed (i ∷ is) [] e = absurd cc
+all_have_numbers-listed (i ∷ is) (n ∷ ns) e =
     let here : i.number ≡ Some n = cc in
     let rest : map (λ i. i.number) is ≡ map (λ n. Some n) ns = cc in
-    rw (here, all_have_numbers-from_map is ns rest) refl
+    rw (here, all_have_numbers-listed is ns rest) refl
 
 is_eligible-forest : (limit : ℕ) (ts : List Term) → is_eligible_forest limit (forest ts) ≡ list_all (is_eligible limit) ts
 is_eligible-forest limit [] = refl
@@ -75,14 +71,14 @@ all_eligible cache (i ∷ is) h =
     ∙ ap (λ b. is_some i.number && b) (all_eligible cache is h.1)
 
 pub is_eligible-elements : (cache : CacheValue) (k : ℕ) (is : List Interned) → AreNumbered cache is
-    → is_eligible cache.limit (Node (node_of k (elements is))) ≡ (nat_le (length is) cache.limit && all_have_numbers is)
+    → is_eligible cache.limit (Node (node_of k (elements is))) ≡ gets_number cache.limit is
 is_eligible-elements cache k is h =
     ap (λ n. nat_le n cache.limit && is_eligible_forest cache.limit (forest (elements is))) (ap length (terms-forest (elements is)) ∙ length-map is (λ i. i.element))
     ∙ ap (λ b. nat_le (length is) cache.limit && b) (is_eligible-forest cache.limit (elements is) ∙ all_eligible cache is h)
 
 -- ---- where the elements stand
 
-pub StandAt-elements : (cache : CacheValue) (is : List Interned) (ns : List ℕ) → AreNumbered cache is → map (λ i. i.number) is ≡ map (λ n. Some n) ns → StandAt cache.seen ns (elements is)
+pub StandAt-elements : (cache : CacheValue) (is : List Interned) (ns : List ℕ) → AreNumbered cache is → ListsNumbers is ns → StandAt cache.seen ns (elements is)
 StandAt-elements cache [] [] h e = tt
 StandAt-elements cache [] (n ∷ ns) h e = absurd cc
 StandAt-elements cache (i ∷ is) [] h e = absurd cc
@@ -121,7 +117,7 @@ StandAt-grown seen more (n ∷ ns) [] h = absurd h
 StandAt-grown seen more (n ∷ ns) (t ∷ ts) h = (slice_get-grown seen more n t h.0, StandAt-grown seen more ns ts h.1)
 
 -- whether a node of elements is eligible, as the numbers say it
-pub is_eligible-kept : (cache : CacheValue) (k : ℕ) (is : List Interned) (kept : Bool) → AreNumbered cache is → kept ≡ (nat_le (length is) cache.limit && all_have_numbers is)
+pub is_eligible-kept : (cache : CacheValue) (k : ℕ) (is : List Interned) (kept : Bool) → AreNumbered cache is → kept ≡ gets_number cache.limit is
     → is_eligible cache.limit (Node (node_of k (elements is))) ≡ kept
 is_eligible-kept cache k is kept h e = is_eligible-elements cache k is h ∙ sym e
 

@@ -17,4 +17,6 @@ pub builder_of-parts : (b : BuilderValue) → builder_of (builder_parts b) ≡ b
 builder_of-parts b = refl
 
 abbrev pub coded_builder : Coded BuilderValue
-coded_builder = code_by (List Symbol × CacheValue) (coded× coded_word coded_cache) builder_parts builder_of builder_of-parts
+coded_builder =
+    let parts = coded× coded_word coded_cache in
+    code_by (List Symbol × CacheValue) parts builder_parts builder_of builder_of-parts

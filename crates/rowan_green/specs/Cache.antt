@@ -2,8 +2,8 @@
 --     With a limit, a term is eligible where each node in it, itself included, has at most so many children.
 --     A cache keeps each eligible term that it is asked for, once, in the order of first asking.
 -- The place of a term in that list, counted from 0, is its number.
-use Rattle.std.specs.Prelude.{◌≡◌, ℕ, Bool, true, false, ◌&&◌, not, nat_le, IsTrue, if◌then◌else◌, List, [], ◌∷◌, ◌++◌, map, fold, length, Option, Some, None, count_by}
-use Rattle.std.specs.List.{list_any, slice_get, AllByRecursion}
+use Rattle.std.specs.Prelude.{◌≡◌, ℕ, Bool, true, false, ◌&&◌, not, nat_le, IsTrue, if◌then◌else◌, List, [], ◌∷◌, ◌++◌, map, fold, length, Option, Some, None, is_some, count_by}
+use Rattle.std.specs.List.{list_all, list_any, slice_get, AllByRecursion}
 use Rattle.rowan_green.specs.declared.node_cache.Interned.{Interned}
 use Rattle.rowan_green.specs.declared.utility_types.NodeOrToken.TheVariants.{Node, Token}
 use Rattle.rowan_green.specs.Term.{NodeTerm, node, Forest, empty, node_then, token_then, Term, terms}
@@ -30,7 +30,8 @@ is_among seen t = list_any (same_term t) seen
 
 -- the terms seen so far, with this one at their end where it is eligible and not yet among them
 abbrev pub with_term : ℕ → List Term → Term → List Term
-with_term limit seen t = if is_eligible limit t && not (is_among seen t) then seen ++ t ∷ [] else seen
+with_term limit seen t =
+    if is_eligible limit t && not (is_among seen t) then seen ++ t ∷ [] else seen
 
 -- the eligible ones of these terms without repeats, each at its first place
 abbrev pub first_seen : ℕ → List Term → List Term
@@ -68,7 +69,8 @@ asked cache t = record { limit = cache.limit; seen = with_term cache.limit cache
 -- the number of a term in a cache: its place, or none where it is not eligible
 abbrev pub HasNumber : CacheValue → Term → Option ℕ → Type 0
 HasNumber cache t None = is_eligible cache.limit t ≡ false
-HasNumber cache t (Some number) = IsTrue (is_eligible cache.limit t) × (slice_get cache.seen number ≡ Some t)
+HasNumber cache t (Some number) =
+    IsTrue (is_eligible cache.limit t) × (slice_get cache.seen number ≡ Some t)
 
 -- an element has the number of its term
 pub record IsNumbered (cache : CacheValue) (i : Interned) : Type 0 where
@@ -80,3 +82,14 @@ AreNumbered cache is = AllByRecursion (IsNumbered cache) is
 -- the terms of elements with their numbers
 abbrev pub elements : List Interned → List Term
 elements is = map (λ i. i.element) is
+
+-- the numbers of the elements, of which each has one
+abbrev pub ListsNumbers : List Interned → List ℕ → Type 0
+ListsNumbers is numbers = map (λ i. i.number) is ≡ map (λ n. Some n) numbers
+
+abbrev pub all_have_numbers : List Interned → Bool
+all_have_numbers is = list_all (λ i. is_some i.number) is
+
+-- whether a node of these elements gets a number: they are few enough, and each has one
+abbrev pub gets_number : ℕ → List Interned → Bool
+gets_number limit is = nat_le (length is) limit && all_have_numbers is

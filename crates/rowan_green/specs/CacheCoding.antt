@@ -15,4 +15,6 @@ pub cache_of-parts : (c : CacheValue) → cache_of (cache_parts c) ≡ c
 cache_of-parts c = refl
 
 abbrev pub coded_cache : Coded CacheValue
-coded_cache = code_by (ℕ × List Term) (coded× coded_ℕ (coded_list coded_term)) cache_parts cache_of cache_of-parts
+coded_cache =
+    let parts = coded× coded_ℕ (coded_list coded_term) in
+    code_by (ℕ × List Term) parts cache_parts cache_of cache_of-parts

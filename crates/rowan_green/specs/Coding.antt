@@ -38,21 +38,27 @@ joined-empty empty = refl
 joined-empty (node_then n f) = ap (λ g. node_then n g) (joined-empty f)
 joined-empty (token_then t f) = ap (λ g. token_then t g) (joined-empty f)
 
-closed-pushed : (f g : Forest) (items : List Item) → closed g (pushed f items) ≡ closed (joined f g) items
+closed-pushed : (f g : Forest) (items : List Item)
+    → closed g (pushed f items) ≡ closed (joined f g) items
 closed-pushed empty g items = refl
 closed-pushed (node_then n f) g items = closed-pushed f g (Whole (Node n) ∷ items)
 closed-pushed (token_then t f) g items = closed-pushed f g (Whole (Token t) ∷ items)
 
 mutual
-  pub read-node : (n : NodeTerm) (items : List Item) (w : List Symbol) → read items (node_word n ++ w) ≡ read (Whole (Node n) ∷ items) w
+  pub read-node : (n : NodeTerm) (items : List Item) (w : List Symbol)
+      → read items (node_word n ++ w) ≡ read (Whole (Node n) ∷ items) w
   read-node (node k f) items w =
-      ap (λ v. read (Bare k ∷ items) v) (append_assoc (forest_word f) (Close ∷ []) w) ∙ read-forest f (Bare k ∷ items) (Close ∷ w)
-      ∙ ap (λ is. read is w) (closed-pushed f empty (Bare k ∷ items) ∙ ap (λ g. Whole (Node (node k g)) ∷ items) (joined-empty f))
+      ap (λ v. read (Bare k ∷ items) v) (append_assoc (forest_word f) (Close ∷ []) w)
+      ∙ read-forest f (Bare k ∷ items) (Close ∷ w)
+      ∙ ap (λ is. read is w) (closed-pushed f empty (Bare k ∷ items))
+      ∙ ap (λ g. read (Whole (Node (node k g)) ∷ items) w) (joined-empty f)
 
-  pub read-forest : (f : Forest) (items : List Item) (w : List Symbol) → read items (forest_word f ++ w) ≡ read (pushed f items) w
+  pub read-forest : (f : Forest) (items : List Item) (w : List Symbol)
+      → read items (forest_word f ++ w) ≡ read (pushed f items) w
   read-forest empty items w = refl
   read-forest (node_then n f) items w =
-      ap (λ v. read items v) (append_assoc (node_word n) (forest_word f) w) ∙ read-node n items (forest_word f ++ w)
+      ap (λ v. read items v) (append_assoc (node_word n) (forest_word f) w)
+      ∙ read-node n items (forest_word f ++ w)
       ∙ read-forest f (Whole (Node n) ∷ items) w
   read-forest (token_then t f) items w = read-forest f (Whole (Token t) ∷ items) w
 
@@ -78,14 +84,16 @@ symbol_of-cases Close = refl
 
 abbrev pub coded_symbol : Coded Symbol
 coded_symbol =
-    code_by (ℕ ⊎ (ℕ × List ℕ) ⊎ Unit {0}) (coded⊎ coded_ℕ (coded⊎ (coded× coded_ℕ (coded_list coded_ℕ)) coded_unit)) symbol_cases symbol_of symbol_of-cases
+    let cases = coded⊎ coded_ℕ (coded⊎ (coded× coded_ℕ (coded_list coded_ℕ)) coded_unit) in
+    code_by (ℕ ⊎ (ℕ × List ℕ) ⊎ Unit {0}) cases symbol_cases symbol_of symbol_of-cases
 
 abbrev pub coded_word : Coded (List Symbol)
 coded_word = coded_list coded_symbol
 
 pub last_node-word : (n : NodeTerm) → last_node (read [] (node_word n)) ≡ n
 last_node-word n =
-    ap (λ v. last_node (read [] v)) (sym (append-nil (node_word n))) ∙ ap last_node (read-node n [] [])
+    ap (λ v. last_node (read [] v)) (sym (append-nil (node_word n)))
+    ∙ ap last_node (read-node n [] [])
 
 abbrev pub coded_node : Coded NodeTerm
 coded_node = code_by (List Symbol) coded_word node_word (λ w. last_node (read [] w)) last_node-word
@@ -103,4 +111,6 @@ term_of-cases (Node n) = refl
 term_of-cases (Token t) = refl
 
 abbrev pub coded_term : Coded Term
-coded_term = code_by (NodeTerm ⊎ (ℕ × List ℕ)) (coded⊎ coded_node (coded× coded_ℕ (coded_list coded_ℕ))) term_cases term_of term_of-cases
+coded_term =
+    let cases = coded⊎ coded_node (coded× coded_ℕ (coded_list coded_ℕ)) in
+    code_by (NodeTerm ⊎ (ℕ × List ℕ)) cases term_cases term_of term_of-cases

@@ -1,11 +1,11 @@
 -- The limits of 32 bits: a text has at most 4,294,967,295 bytes, and a node at most as many children.
 -- `Fits` says that a term keeps them at every level. `PassesLimit` says which limit a list of children passes first.
-use Rattle.std.specs.Prelude.{◌≡◌, ℕ, ◌+◌, ◌<◌, ◌≤◌, List, ◌∷◌, ◌++◌, length}
+use Rattle.std.specs.Prelude.{◌≡◌, ◌≢◌, ℕ, ◌+◌, ◌<◌, ◌≤◌, List, ◌∷◌, ◌++◌, length}
 use Rattle.std.specs.List.{AllByRecursion}
 use Rattle.rowan_green.specs.declared.fault.Fault.{Fault}
-use Rattle.rowan_green.specs.declared.fault.Fault.TheVariants.{TextTooLong, TooManyChildren}
+use Rattle.rowan_green.specs.declared.fault.Fault.TheVariants.{TextTooLong, TooManyChildren, Memory}
 use Rattle.rowan_green.specs.declared.utility_types.NodeOrToken.TheVariants.{Node, Token}
-use Rattle.rowan_green.specs.Term.{TokenTerm, NodeTerm, node, Forest, empty, node_then, token_then, Term, terms, token_len, term_len, sum_of_lens}
+use Rattle.rowan_green.specs.Term.{TokenTerm, NodeTerm, node, Forest, empty, node_then, token_then, Term, terms, node_of, token_len, term_len, sum_of_lens}
 
 -- the greatest number of bytes of a text, and the greatest number of children of a node
 abbrev pub byte_limit : ℕ
@@ -40,7 +40,8 @@ Fits (Token t) = FitsToken t
 -- which limit one more child passes: their number is looked at before their text
 abbrev pub ChildPasses : List Term → Term → Fault → Type 0
 ChildPasses before child TooManyChildren = child_limit < length before + 1
-ChildPasses before child TextTooLong = (length before + 1 ≤ child_limit) × (byte_limit < sum_of_lens before + term_len child)
+ChildPasses before child TextTooLong =
+    (length before + 1 ≤ child_limit) × (byte_limit < sum_of_lens before + term_len child)
 ChildPasses before child _ = ⊥
 
 -- the first child at which these children pass a limit passes this one
@@ -51,6 +52,14 @@ pub record PassesLimit (children : List Term) (fault : Fault) : Type 0 where
   pub parts : children ≡ before ++ child ∷ after
   pub within : AreWithin before
   pub passes : ChildPasses before child fault
+
+-- the node is of this kind and these children, which are within the limits
+abbrev pub IsMadeOf : ℕ → List Term → NodeTerm → Type 0
+IsMadeOf kind children n = (n ≡ node_of kind children) × AreWithin children
+
+-- why no node of these children is made: for want of memory, or for the limit that they pass
+abbrev pub WhyNoNode : List Term → Fault → Type 0
+WhyNoNode children fault = fault ≢ Memory → PassesLimit children fault
 
 abbrev pub AllFit : List Term → Type 0
 AllFit ts = AllByRecursion Fits ts

@@ -8,7 +8,7 @@ use Rattle.std.proofs.lemmas.Bool.{and_from, and_parts, false≢true}
 use Rattle.std.proofs.lemmas.Bool.Decides.{Decides-eqb}
 use lib.Pointwise.{pointwise}
 use Rattle.rowan_green.specs.declared.utility_types.NodeOrToken.TheVariants.{Node, Token}
-use Rattle.rowan_green.specs.Term.{TokenTerm, NodeTerm, node, Forest, empty, node_then, token_then, Term, terms}
+use Rattle.rowan_green.specs.Term.{TokenTerm, NodeTerm, node, Forest, empty, node_then, token_then, Term, token_of, terms}
 
 abbrev pub same_token : TokenTerm → TokenTerm → Bool
 same_token t u = (t.kind == u.kind) && pointwise ◌==◌ t.text u.text
@@ -34,18 +34,25 @@ same_token-decides t u =
     let kinds = Decides-eqb t.kind u.kind in (
       (λ h.
           let p = and_parts (t.kind == u.kind) (pointwise ◌==◌ t.text u.text) h in
-          ap (λ k. record { kind = k; text = t.text }) (kinds.0 p.0) ∙ ap (λ s. record { kind = u.kind; text = s }) (texts.0 p.1)),
-      (λ e. and_from (t.kind == u.kind) (pointwise ◌==◌ t.text u.text) (kinds.1 (ap (λ x. x.kind) e)) (texts.1 (ap (λ x. x.text) e))),
+          ap (λ k. token_of k t.text) (kinds.0 p.0) ∙ ap (λ s. token_of u.kind s) (texts.0 p.1)),
+      (λ e.
+          let same_kind = kinds.1 (ap (λ x. x.kind) e) in
+          let same_text = texts.1 (ap (λ x. x.text) e) in
+          and_from (t.kind == u.kind) (pointwise ◌==◌ t.text u.text) same_kind same_text),
     )
 
 mutual
   same_node-refl : (n : NodeTerm) → same_node n n ≡ true
-  same_node-refl (node k f) = and_from (k == k) (same_forest f f) ((Decides-eqb k k).1 refl) (same_forest-refl f)
+  same_node-refl (node k f) =
+      and_from (k == k) (same_forest f f) ((Decides-eqb k k).1 refl) (same_forest-refl f)
 
   same_forest-refl : (f : Forest) → same_forest f f ≡ true
   same_forest-refl empty = refl
-  same_forest-refl (node_then n f) = and_from (same_node n n) (same_forest f f) (same_node-refl n) (same_forest-refl f)
-  same_forest-refl (token_then t f) = and_from (same_token t t) (same_forest f f) ((same_token-decides t t).1 refl) (same_forest-refl f)
+  same_forest-refl (node_then n f) =
+      and_from (same_node n n) (same_forest f f) (same_node-refl n) (same_forest-refl f)
+  same_forest-refl (token_then t f) =
+      let same = (same_token-decides t t).1 refl in
+      and_from (same_token t t) (same_forest f f) same (same_forest-refl f)
 
 mutual
   same_node-same : (n m : NodeTerm) → same_node n m ≡ true → n ≡ m
@@ -57,10 +64,12 @@ mutual
   same_forest-same empty empty h = refl
   same_forest-same (node_then n f) (node_then m g) h =
       let p = and_parts (same_node n m) (same_forest f g) h in
-      ap (λ x. node_then x f) (same_node-same n m p.0) ∙ ap (λ e. node_then m e) (same_forest-same f g p.1)
+      ap (λ x. node_then x f) (same_node-same n m p.0)
+      ∙ ap (λ e. node_then m e) (same_forest-same f g p.1)
   same_forest-same (token_then t f) (token_then u g) h =
       let p = and_parts (same_token t u) (same_forest f g) h in
-      ap (λ x. token_then x f) ((same_token-decides t u).0 p.0) ∙ ap (λ e. token_then u e) (same_forest-same f g p.1)
+      ap (λ x. token_then x f) ((same_token-decides t u).0 p.0)
+      ∙ ap (λ e. token_then u e) (same_forest-same f g p.1)
   same_forest-same empty (node_then m g) h = absurd (false≢true h)
   same_forest-same empty (token_then u g) h = absurd (false≢true h)
   same_forest-same (node_then n f) empty h = absurd (false≢true h)
@@ -69,11 +78,15 @@ mutual
   same_forest-same (token_then t f) (node_then m g) h = absurd (false≢true h)
 
 pub same_node-decides : (n m : NodeTerm) → Decides (same_node n m) (n ≡ m)
-same_node-decides n m = (same_node-same n m, λ e. subst (λ x. same_node n x ≡ true) e (same_node-refl n))
+same_node-decides n m =
+    (same_node-same n m, λ e. subst (λ x. same_node n x ≡ true) e (same_node-refl n))
 
 pub same_term-decides : (t u : Term) → Decides (same_term t u) (t ≡ u)
-same_term-decides (Node n) (Node m) = ((λ h. ap (λ x. Node x) (same_node-same n m h)), (λ e. (same_node-decides n m).1 cc))
-same_term-decides (Token t) (Token u) = ((λ h. ap (λ x. Token x) ((same_token-decides t u).0 h)), (λ e. (same_token-decides t u).1 cc))
+same_term-decides (Node n) (Node m) =
+    ((λ h. ap (λ x. Node x) (same_node-same n m h)), (λ e. (same_node-decides n m).1 cc))
+same_term-decides (Token t) (Token u) =
+    let same = same_token-decides t u in
+    ((λ h. ap (λ x. Token x) (same.0 h)), (λ e. same.1 cc))
 same_term-decides (Node n) (Token u) = ((λ h. absurd (false≢true h)), (λ e. cc))
 same_term-decides (Token t) (Node m) = ((λ h. absurd (false≢true h)), (λ e. cc))
 
@@ -84,10 +97,13 @@ pub same_node-laws : IsEquivalence same_node
 same_node-laws = decided same_node same_node-decides
 
 -- the children of two nodes, compared pair by pair
-pub same_forest-pointwise : (f g : Forest) → same_forest f g ≡ pointwise same_term (terms f) (terms g)
+pub same_forest-pointwise : (f g : Forest)
+    → same_forest f g ≡ pointwise same_term (terms f) (terms g)
 same_forest-pointwise empty empty = refl
-same_forest-pointwise (node_then n f) (node_then m g) = ap (λ b. same_node n m && b) (same_forest-pointwise f g)
-same_forest-pointwise (token_then t f) (token_then u g) = ap (λ b. same_token t u && b) (same_forest-pointwise f g)
+same_forest-pointwise (node_then n f) (node_then m g) =
+    ap (λ b. same_node n m && b) (same_forest-pointwise f g)
+same_forest-pointwise (token_then t f) (token_then u g) =
+    ap (λ b. same_token t u && b) (same_forest-pointwise f g)
 same_forest-pointwise empty (node_then m g) = refl
 same_forest-pointwise empty (token_then u g) = refl
 same_forest-pointwise (node_then n f) empty = refl

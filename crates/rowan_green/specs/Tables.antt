@@ -12,7 +12,7 @@ use Rattle.std.specs.HashMap.{HashMap, get_by, get}
 use Rattle.std.specs.declared.hash.FoldHasher.{FoldHasher}
 use Rattle.std.specs.declared.hash.BuildHasherDefault.{BuildHasherDefault}
 use Rattle.rowan_green.specs.declared.utility_types.NodeOrToken.TheVariants.{Node, Token}
-use Rattle.rowan_green.specs.Term.{NodeTerm, Term, node_kind, node_children}
+use Rattle.rowan_green.specs.Term.{NodeTerm, Term, token_of, node_kind, node_children}
 use Rattle.rowan_green.specs.Fits.{FitsToken, AreWithin}
 use Rattle.rowan_green.specs.Cache.{first_seen, count_tokens}
 
@@ -25,9 +25,12 @@ abbrev pub number_by : {K : Type 0} → (K → Bool) → Numbers K → ℕ → O
 number_by test table kind = option_and_then (λ m. get_by test m) (get nat_eq table kind)
 
 -- the new table has this number at a kind and a key, and at others what the old one has
-pub record PutsNumber {K : Type 0} (eq : K → K → Bool) (old new : Numbers K) (kind : ℕ) (key : K) (number : ℕ) : Type 0 where
-  pub here : (test : K → Bool) → IsKeyTest eq test → test key ≡ true → number_by test new kind ≡ Some number
-  pub others : (test : K → Bool) (k : ℕ) → IsKeyTest eq test → (k ≡ kind → test key ≡ false) → number_by test new k ≡ number_by test old k
+pub record PutsNumber {K : Type 0} (eq : K → K → Bool) (old new : Numbers K)
+    (kind : ℕ) (key : K) (number : ℕ) : Type 0 where
+  pub here : (test : K → Bool) → IsKeyTest eq test → test key ≡ true
+      → number_by test new kind ≡ Some number
+  pub others : (test : K → Bool) (k : ℕ) → IsKeyTest eq test → (k ≡ kind → test key ≡ false)
+      → number_by test new k ≡ number_by test old k
 
 -- the new table has the numbers of the old one
 pub record SameNumbers {K : Type 0} (old new : Numbers K) : Type 0 where
@@ -49,7 +52,7 @@ StandAt seen _ _ = ⊥
 
 -- the token at a place is the one of this kind and text
 abbrev pub IsTokenAt : List Term → ℕ → ℕ → List ℕ → Type 0
-IsTokenAt seen place kind text = slice_get seen place ≡ Some (Token (record { kind = kind; text = text }))
+IsTokenAt seen place kind text = slice_get seen place ≡ Some (Token (token_of kind text))
 
 -- at a place stands a node of this kind, and its children at the places `numbers`
 pub record IsNodeAt (seen : List Term) (place kind : ℕ) (numbers : List ℕ) : Type 0 where
@@ -59,7 +62,8 @@ pub record IsNodeAt (seen : List Term) (place kind : ℕ) (numbers : List ℕ) :
   pub children : StandAt seen numbers (node_children node)
 
 -- the numbers of the children of the node at a place, by which its own is found
-pub record IsFoundAt {A : Type 0} (seen : List Term) (nodes : Numbers (Vec ℕ A)) (place : ℕ) (n : NodeTerm) : Type 0 where
+pub record IsFoundAt {A : Type 0} (seen : List Term) (nodes : Numbers (Vec ℕ A))
+    (place : ℕ) (n : NodeTerm) : Type 0 where
   pub numbers : List ℕ
   pub children : StandAt seen numbers (node_children n)
   pub found : number_of_node nodes (node_kind n) numbers ≡ Some place
@@ -70,10 +74,14 @@ KeepsLimits (Node n) = AreWithin (node_children n)
 KeepsLimits (Token t) = FitsToken t
 
 -- what the fields of a cache keep: the terms are those first seen, and the tables find just the number of each
-pub record IsIndexed {A B : Type 0} (limit : ℕ) (seen : List Term) (tokens : Numbers (String A)) (nodes : Numbers (Vec ℕ B)) (token_count : ℕ) : Type 0 where
+pub record IsIndexed {A B : Type 0} (limit : ℕ) (seen : List Term)
+    (tokens : Numbers (String A)) (nodes : Numbers (Vec ℕ B)) (token_count : ℕ) : Type 0 where
   pub first : first_seen limit seen ≡ seen
   pub within : (place : ℕ) (t : Term) → slice_get seen place ≡ Some t → KeepsLimits t
-  pub token_found : (place kind : ℕ) (text : List ℕ) → (number_of_token tokens kind text ≡ Some place) ↔ IsTokenAt seen place kind text
-  pub node_stands : (place kind : ℕ) (numbers : List ℕ) → number_of_node nodes kind numbers ≡ Some place → IsNodeAt seen place kind numbers
-  pub node_found : (place : ℕ) (n : NodeTerm) → slice_get seen place ≡ Some (Node n) → IsFoundAt seen nodes place n
+  pub token_found : (place kind : ℕ) (text : List ℕ)
+      → (number_of_token tokens kind text ≡ Some place) ↔ IsTokenAt seen place kind text
+  pub node_stands : (place kind : ℕ) (numbers : List ℕ)
+      → number_of_node nodes kind numbers ≡ Some place → IsNodeAt seen place kind numbers
+  pub node_found : (place : ℕ) (n : NodeTerm)
+      → slice_get seen place ≡ Some (Node n) → IsFoundAt seen nodes place n
   pub counted : token_count ≡ count_tokens seen

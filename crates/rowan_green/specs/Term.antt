@@ -43,6 +43,10 @@ forest (t ∷ ts) = put_first t (forest ts)
 abbrev pub node_of : ℕ → List Term → NodeTerm
 node_of k ts = node k (forest ts)
 
+-- the token of a kind with this text
+abbrev pub token_of : ℕ → List ℕ → TokenTerm
+token_of k text = record { kind = k; text = text }
+
 abbrev pub node_kind : NodeTerm → ℕ
 node_kind (node k f) = k
 

@@ -11,8 +11,10 @@ found (Single x) = x ∷ []
 found (Between x y) = x ∷ y ∷ []
 
 -- as many tokens, each by a call of f, the left one before the right: `Calls f x u g` says that a call at x gave u and left g
-abbrev pub MapsInOrder : {F T U : Type 0} → (F → T → U → F → Type 0) → F → TokenAtOffset T → TokenAtOffset U → Type 0
+abbrev pub MapsInOrder : {F T U : Type 0} → (F → T → U → F → Type 0) → F
+    → TokenAtOffset T → TokenAtOffset U → Type 0
 MapsInOrder Calls f Neither Neither = Unit {0}
 MapsInOrder {F} Calls f (Single x) (Single u) = (g : F) × Calls f x u g
-MapsInOrder {F} Calls f (Between x y) (Between u v) = (g : F) × (h : F) × Calls f x u g × Calls g y v h
+MapsInOrder {F} Calls f (Between x y) (Between u v) =
+    (g : F) × (h : F) × Calls f x u g × Calls g y v h
 MapsInOrder Calls f _ _ = ⊥

@@ -6,6 +6,8 @@ use Rattle.rowan_green.specs.declared.green.node.GreenChild.TheVariants.{Node, T
 use Rattle.rowan_green.specs.declared.utility_types.NodeOrToken.TheVariants as element
 use Rattle.rowan_green.specs.Term.{NodeTerm, Term, node_of, sum_of_lens, term_len}
 use Rattle.rowan_green.specs.Fits.{AreWithin, AllFit}
+use Rattle.rowan_green.specs.Search.{child_start, child_end}
+use Rattle.rowan_green.specs.Span.{Span}
 
 -- the term of a child
 abbrev pub child_term : GreenChild → Term
@@ -17,13 +19,19 @@ abbrev pub child_offset : GreenChild → ℕ
 child_offset (Node at n) = at
 child_offset (Token at t) = at
 
+-- where the child at an index lies in the text of these children
+abbrev pub span_at : List GreenChild → ℕ → Span
+span_at cs index =
+    let ts = map child_term cs in record { start = child_start ts index; end = child_end ts index }
+
 abbrev pub node_view : NodeData → NodeTerm
 node_view d = node_of d.kind.0 (map child_term d.children.items)
 
 -- each child's offset is the sum of the lengths before it
 abbrev pub HasOffsetsFrom : ℕ → List GreenChild → Type 0
 HasOffsetsFrom at [] = Unit {0}
-HasOffsetsFrom at (c ∷ cs) = (child_offset c ≡ at) × HasOffsetsFrom (at + term_len (child_term c)) cs
+HasOffsetsFrom at (c ∷ cs) =
+    (child_offset c ≡ at) × HasOffsetsFrom (at + term_len (child_term c)) cs
 
 -- a stored length and the stored offsets are those of the children, which are within the limits at every level
 pub record AreSound (len : ℕ) (cs : List GreenChild) : Type 0 where

@@ -8,7 +8,8 @@ use Rattle.rowan_green.specs.Word.{Item, Bare, Whole}
 abbrev pub weave : ℕ → List OpenNode → List Term → List Item
 weave at [] ts = map Whole ts
 weave at (o ∷ os) ts =
-    map Whole (take (o.first_child - at) ts) ++ Bare o.kind.0 ∷ weave o.first_child os (drop (o.first_child - at) ts)
+    map Whole (take (o.first_child - at) ts)
+    ++ Bare o.kind.0 ∷ weave o.first_child os (drop (o.first_child - at) ts)
 
 -- the places of open nodes do not fall, from `at` up to `end`
 abbrev pub AreInOrder : ℕ → List OpenNode → ℕ → Type 0

@@ -1,11 +1,11 @@
 //! The cache of green values: equal tokens, and equal nodes of few children, are stored once.
-ghost use Rattle.std.specs.Prelude.{◌≡◌, ◌≢◌, ◌<◌, length, IfOk, IfErr, OnOk, OnErr, is_some, nat_le, ◌&&◌, map, true, Some};
-ghost use Rattle.std.specs.List.{list_all, slice_get};
+ghost use Rattle.std.specs.Prelude.{◌≡◌, ◌<◌, length, IfOk, IfErr, OnOk, OnErr, true, Some};
+ghost use Rattle.std.specs.List.{slice_get};
 ghost use Rattle.rowan_green.specs.declared.utility_types.NodeOrToken.TheVariants.{Node, Token};
-ghost use Rattle.rowan_green.specs.Term.{node_of};
-ghost use Rattle.rowan_green.specs.Fits.{byte_limit, AreWithin, PassesLimit};
+ghost use Rattle.rowan_green.specs.Term.{token_of, node_of};
+ghost use Rattle.rowan_green.specs.Fits.{byte_limit, AreWithin, WhyNoNode};
 ghost use Rattle.rowan_green.specs.Word.{WhyNoToken};
-ghost use Rattle.rowan_green.specs.Cache.{empty_cache, first_seen, count_tokens, count_nodes, asked, IsNumbered, AreNumbered, elements};
+ghost use Rattle.rowan_green.specs.Cache.{empty_cache, first_seen, count_tokens, count_nodes, asked, IsNumbered, AreNumbered, elements, ListsNumbers, gets_number};
 ghost use Rattle.rowan_green.specs.Tables.{PutsNumber, SameNumbers, number_of_token, number_of_node};
 
 use crate::fault::Fault;
@@ -113,15 +113,18 @@ impl NodeCache {
     // The token of a kind and a text: the one that the cache keeps, or else a new one, which it keeps from now on. A refused
     // call leaves the cache as it was.
     pub(crate) fn token(&mut self, kind: SyntaxKind, text: &str) -> Result<Interned, Fault>
-        ensures ok { IfOk result (λ i. i.element ≡ Token (record { kind = kind.0; text = text.now })) }
+        // The token, or why there is none.
+        ensures ok { IfOk result (λ i. i.element ≡ Token (token_of kind.0 text.now)) }
         ensures number { IfOk result (IsNumbered self.new) }
-        ensures kept { OnOk result (self.new ≡ asked self.old (Token (record { kind = kind.0; text = text.now }))) }
         ensures err { IfErr result (WhyNoToken text.now) }
         ensures too_long { byte_limit < length text.now → result ≡ Err Fault.TextTooLong }
+
+        // What the cache keeps.
+        ensures kept { OnOk result (self.new ≡ asked self.old (Token (token_of kind.0 text.now))) }
         ensures unchanged { OnErr result (self.new ≡ self.old) }
     {
         if let Some(number) = token_number(&self.tokens, kind.0, text) {
-            return interned_at(self.values.as_slice(), number);
+            return Ok(interned_at(self.values.as_slice(), number)?);
         }
         let token = GreenToken::new(self.alloc, kind, text)?;
         let kept = token.clone()?;
@@ -145,11 +148,16 @@ impl NodeCache {
         children: &[Interned],
     ) -> Result<Interned, Fault>
         requires { AreNumbered self.old children.now }
+
+        // The node, or why there is none.
         ensures ok { IfOk result (λ i. i.element ≡ Node (node_of kind.0 (elements children.now))) }
         ensures within { OnOk result (AreWithin (elements children.now)) }
         ensures number { IfOk result (IsNumbered self.new) }
-        ensures kept { OnOk result (self.new ≡ asked self.old (Node (node_of kind.0 (elements children.now)))) }
-        ensures err { IfErr result (λ e. e ≢ Fault.Memory → PassesLimit (elements children.now) e) }
+        ensures err { IfErr result (WhyNoNode (elements children.now)) }
+
+        // What the cache keeps.
+        ensures kept { let node = node_of kind.0 (elements children.now) in
+            OnOk result (self.new ≡ asked self.old (Node node)) }
         ensures unchanged { OnErr result (self.new ≡ self.old) }
     {
         if !write_numbers(&mut self.numbers, self.limit, children)? {
@@ -160,7 +168,7 @@ impl NodeCache {
             });
         }
         if let Some(number) = node_number(&self.nodes, kind.0, self.numbers.as_slice()) {
-            return interned_at(self.values.as_slice(), number);
+            return Ok(interned_at(self.values.as_slice(), number)?);
         }
         let node = GreenNode::from_interned(self.alloc, kind, children)?;
         let kept = node.clone()?;
@@ -189,12 +197,12 @@ fn node_number(nodes: &Numbers<Vec<usize>>, kind: u16, numbers: &[usize]) -> Opt
 }
 
 // The value that stands at a number, which is shared.
-fn interned_at(values: &[GreenElement], number: usize) -> Result<Interned, Fault>
+fn interned_at(values: &[GreenElement], number: usize) -> Result<Interned, AllocError>
     requires { number < length values.now }
-    ensures ok { IfOk result (λ i. (i.number ≡ Some number) × (slice_get values.now number ≡ Some i.element)) }
-    ensures err { IfErr result (λ e. e ≡ Fault.Memory) }
+    ensures { IfOk result (λ i. (i.number ≡ Some number)
+        × (slice_get values.now number ≡ Some i.element)) }
 {
-    let element = values[number].as_ref().to_owned()?;
+    let element = values[number].as_ref().share()?;
     Ok(Interned {
         number: Some(number),
         element,
@@ -207,8 +215,8 @@ fn write_numbers(
     limit: usize,
     children: &[Interned],
 ) -> Result<bool, AllocError>
-    ensures kept { IfOk result (λ kept. kept ≡ (nat_le (length children.now) limit && list_all (λ i. is_some i.number) children.now)) }
-    ensures numbers { IfOk result (λ kept. kept ≡ true → map (λ i. i.number) children.now ≡ map (λ n. Some n) numbers.new.items) }
+    ensures kept { IfOk result (λ kept. kept ≡ gets_number limit children.now) }
+    ensures numbers { IfOk result (λ kept. kept ≡ true → ListsNumbers children.now numbers.new.items) }
 {
     numbers.clear();
     if children.len() > limit {

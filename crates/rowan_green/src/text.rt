@@ -3,7 +3,7 @@ ghost use Rattle.std.specs.Prelude.{◌≡◌, ℕ, ◌+◌, ◌-◌, ◌<◌, �
 ghost use Rattle.std.specs.Fmt.{decimal};
 ghost use Rattle.std.specs.Option.{SomeIff};
 ghost use Rattle.rowan_green.specs.Fits.{byte_limit};
-ghost use Rattle.rowan_green.specs.Span.{Holds, intersection};
+ghost use Rattle.rowan_green.specs.Span.{Holds, intersection, EndsBefore, Overlaps, StartsBehind};
 
 use std::cmp::{self, Ordering};
 use std::fmt;
@@ -132,23 +132,26 @@ impl TextRange {
         TextRange { start: offset, end }
     }
 
-    /// Where the range starts.
+    /// Where the range starts, in bytes.
     pub fn start(self) -> TextSize
-        ensures { result ≡ self.start }
+        ensures offset { result ≡ self.start }
+        ensures order { result ≤ self.end }
     {
         self.start
     }
 
-    /// Where the range ends: the offset of the first byte behind it.
+    /// Where the range ends, in bytes: the offset of the first byte behind it.
     pub fn end(self) -> TextSize
-        ensures { result ≡ self.end }
+        ensures offset { result ≡ self.end }
+        ensures order { self.start ≤ result }
     {
         self.end
     }
 
     /// How many bytes the range has.
     pub fn len(self) -> TextSize
-        ensures { result ≡ self.end - self.start }
+        ensures difference { result ≡ self.end - self.start }
+        ensures reach { self.start + result ≡ self.end }
     {
         TextSize::from(self.end.raw - self.start.raw)
     }
@@ -178,7 +181,8 @@ impl TextRange {
     /// The offsets that both ranges hold, their ends among them: a range, which is empty where the two only touch. `None` where
     /// there are none.
     pub fn intersect(self, other: TextRange) -> Option<TextRange>
-        ensures { let common = intersection self other in SomeIff result (common.start ≤ common.end) common }
+        ensures { let common = intersection self other in
+            SomeIff result (common.start ≤ common.end) common }
     {
         let start = cmp::max(self.start, other.start);
         let end = cmp::min(self.end, other.end);
@@ -191,9 +195,9 @@ impl TextRange {
     /// `Less` where this range ends before the other starts, `Greater` the other way round, and `Equal` where they overlap. Ranges
     /// that only touch do not overlap.
     pub fn ordering(self, other: TextRange) -> Ordering
-        ensures less { (result ≡ Ordering.Less) ↔ (self.end ≤ other.start) }
-        ensures greater { (result ≡ Ordering.Greater) ↔ ((other.start < self.end) × (other.end ≤ self.start)) }
-        ensures equal { (result ≡ Ordering.Equal) ↔ ((other.start < self.end) × (self.start < other.end)) }
+        ensures less { (result ≡ Ordering.Less) ↔ EndsBefore self other }
+        ensures greater { (result ≡ Ordering.Greater) ↔ StartsBehind self other }
+        ensures equal { (result ≡ Ordering.Equal) ↔ Overlaps self other }
     {
         if self.end <= other.start {
             Ordering::Less

@@ -7,6 +7,7 @@ use crate::fault::Fault;
 use crate::green::{GreenNode, GreenToken, SyntaxKind};
 use crate::text::TextSize;
 use crate::utility_types::NodeOrToken;
+use std::alloc::AllocError;
 
 /// A green node or token.
 pub type GreenElement = NodeOrToken<GreenNode, GreenToken>;
@@ -77,6 +78,13 @@ impl<'a> GreenElementRef<'a> {
     pub fn to_owned(self) -> Result<GreenElement, Fault>
         ensures ok { IfOk result (λ element. element ≡ pointee self.entry) }
         ensures err { IfErr result (λ e. e ≡ Fault.Memory) }
+    {
+        Ok(self.share()?)
+    }
+
+    // The node or token itself, which is shared.
+    pub(crate) fn share(self) -> Result<GreenElement, AllocError>
+        ensures { IfOk result (λ element. element ≡ pointee self.entry) }
     {
         match self {
             NodeOrToken::Node(node) => Ok(NodeOrToken::Node(node.clone()?)),

@@ -2,12 +2,12 @@ mod edits;
 
 ghost use Rattle.std.specs.Prelude.{◌≡◌, ◌≢◌, ℕ, ◌+◌, ◌<◌, ◌≤◌, [], ◌∷◌, ◌++◌, length, IfOk, IfErr, OnOk, IfSome, IsNone, Some, ◌↔◌, map, take, slice_get};
 ghost use Rattle.std.specs.Iterator.{IsFiniteIterable};
-ghost use Rattle.std.specs.Iterator.Runs.{SomeRun, WholeRun};
-ghost use Rattle.rowan_green.specs.Fits.{byte_limit, FitsNode, ChildPasses, AreWithin, PassesLimit};
+ghost use Rattle.rowan_green.specs.Fits.{byte_limit, FitsNode, ChildPasses, AreWithin, PassesLimit, IsMadeOf, WhyNoNode};
+ghost use Rattle.rowan_green.specs.Runs.{IteratesAll, IteratesSome};
 ghost use Rattle.rowan_green.specs.Term.{node_of, node_len, node_kind, node_children, node_size, sum_of_lens};
 ghost use Rattle.rowan_green.specs.Lent.{pointee};
 ghost use Rattle.rowan_green.specs.Search.{IsChildAt, child_start, digits};
-ghost use Rattle.rowan_green.specs.Steps.{count_limit};
+ghost use Rattle.rowan_green.specs.Steps.{Rises};
 
 use crate::fault::Fault;
 use crate::green::{Children, GreenElement, GreenElementRef, GreenToken, SyntaxKind};
@@ -195,11 +195,13 @@ impl GreenNode {
     ) -> Result<GreenNode, Fault>
     where
         I::IntoIter: Drop,
-        requires { IsFiniteIterable I.into_iter_gives I.IntoIter.can_next I.IntoIter.remaining children }
-        ensures ok { IfOk result (λ n. (it : I.IntoIter) × I.into_iter_gives children it
-            × WholeRun I.IntoIter.next_gives it (λ p. (n ≡ node_of kind.0 p.items) × AreWithin p.items)) }
-        ensures err { IfErr result (λ e. e ≢ Fault.Memory → (it : I.IntoIter) × I.into_iter_gives children it
-            × SomeRun I.IntoIter.next_gives it (λ p. PassesLimit p.items e)) }
+        requires { IsFiniteIterable I.into_iter_gives I.IntoIter.can_next
+            I.IntoIter.remaining children }
+        ensures ok { IfOk result (λ n. IteratesAll I.into_iter_gives I.IntoIter.next_gives children
+            (λ p. IsMadeOf kind.0 p.items n)) }
+        ensures err { IfErr result (λ e. e ≢ Fault.Memory →
+            IteratesSome I.into_iter_gives I.IntoIter.next_gives children
+            (λ p. PassesLimit p.items e)) }
     {
         let mut draft = NodeDraft::new(Vec::new(alloc));
         for element in children {
@@ -216,7 +218,7 @@ impl GreenNode {
     ) -> Result<GreenNode, Fault>
         ensures ok { IfOk result (λ n. n ≡ node_of kind.0 (elements children.now)) }
         ensures within { OnOk result (AreWithin (elements children.now)) }
-        ensures err { IfErr result (λ e. e ≢ Fault.Memory → PassesLimit (elements children.now) e) }
+        ensures err { IfErr result (WhyNoNode (elements children.now)) }
     {
         let mut draft = NodeDraft::new(Vec::with_capacity(alloc, children.len())?);
         for child in children {
@@ -266,13 +268,18 @@ impl GreenNode {
         range: TextRange,
         steps: &mut Steps,
     ) -> Option<(usize, TextSize, GreenElementRef<'_>)>
-        ensures some { IfSome result (λ p. IsChildAt (node_children self.now) range.start range.end p.0
-            × (p.1 ≡ child_start (node_children self.now) p.0)
-            × (slice_get (node_children self.now) p.0 ≡ Some (pointee p.2))) }
-        ensures none { IsNone result → (k : ℕ) → ¬ IsChildAt (node_children self.now) range.start range.end k }
-        ensures most { steps.new.comparisons ≤ steps.old.comparisons + digits (length (node_children self.now)) }
-        ensures least { 0 < length (node_children self.now) → steps.old.comparisons < count_limit
-            → steps.old.comparisons < steps.new.comparisons }
+        // Which child it is: the one at the range, or none.
+        ensures some { let ts = node_children self.now in
+            IfSome result (λ p. IsChildAt ts range.start range.end p.0
+            × (p.1 ≡ child_start ts p.0) × (slice_get ts p.0 ≡ Some (pointee p.2))) }
+        ensures none { let ts = node_children self.now in
+            IsNone result → (k : ℕ) → ¬ IsChildAt ts range.start range.end k }
+
+        // What is counted.
+        ensures most { let count = length (node_children self.now) in
+            steps.new.comparisons ≤ steps.old.comparisons + digits count }
+        ensures least { 0 < length (node_children self.now)
+            → Rises steps.old.comparisons steps.new.comparisons }
         ensures grows { steps.old.comparisons ≤ steps.new.comparisons }
         ensures visits { steps.new.visits ≡ steps.old.visits }
     {
@@ -331,7 +338,8 @@ impl GreenChild {
     // refused, it drops them too.
     #[cycle(drop)]
     fn drop_into(self, rest: &mut Vec<GreenChild>)
-        ensures { children_size rest.new.items < children_size rest.old.items + term_size (child_term self) }
+        ensures { children_size rest.new.items
+            < children_size rest.old.items + term_size (child_term self) }
     {
         let GreenChild::Node { node, .. } = self else {
             return;
@@ -400,7 +408,8 @@ impl GreenChild {
 
     #[cycle(eq)]
     fn are_same(children: &[GreenChild], others: &[GreenChild]) -> bool
-        ensures { result ≡ pointwise same_term (map child_term children.now) (map child_term others.now) }
+        ensures { let terms = map child_term in
+            result ≡ pointwise same_term (terms children.now) (terms others.now) }
     {
         if children.len() != others.len() {
             return false;
@@ -486,7 +495,8 @@ impl GreenChild {
 
     #[cycle(display)]
     fn display<W: fmt::Write>(&self, f: &mut fmt::Formatter<W>) -> fmt::Result
-        ensures { DisplaysOnOk W.write_str_gives f.old result (Some (term_text (child_term self.now))) f.new }
+        ensures { let text = Some (term_text (child_term self.now)) in
+            DisplaysOnOk W.write_str_gives f.old result text f.new }
     {
         match self.as_ref() {
             NodeOrToken::Node(node) => node.fmt(f),

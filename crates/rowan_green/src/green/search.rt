@@ -1,8 +1,9 @@
 ghost use Rattle.std.specs.Prelude.{◌≡◌, ◌+◌, ◌<◌, ◌≤◌, map, length};
-ghost use Rattle.rowan_green.specs.Search.{IsOnlyChoice, child_start, child_end, digits};
-ghost use Rattle.rowan_green.specs.Steps.{one_more, count_limit};
+ghost use Rattle.rowan_green.specs.Search.{IsOnlyChoice, digits};
+ghost use Rattle.rowan_green.specs.Span.{EndsBefore, Overlaps, StartsBehind};
+ghost use Rattle.rowan_green.specs.Steps.{one_more, Rises};
 ghost use Rattle.rowan_green.specs.Term.{sum_of_lens};
-ghost use Rattle.rowan_green.specs.View.{child_term, HasOffsetsFrom};
+ghost use Rattle.rowan_green.specs.View.{child_term, span_at, HasOffsetsFrom};
 
 use crate::green::node::GreenChild;
 use crate::steps::Steps;
@@ -17,8 +18,7 @@ impl GreenChild {
         requires place { index < length children.now }
         requires placed { HasOffsetsFrom 0 children.now }
         requires sum { text_len ≡ sum_of_lens (map child_term children.now) }
-        ensures start { result.start ≡ child_start (map child_term children.now) index }
-        ensures end { result.end ≡ child_end (map child_term children.now) index }
+        ensures { result ≡ span_at children.now index }
     {
         let start = children[index].rel_offset();
         let end = match children.get(index + 1) {
@@ -39,11 +39,16 @@ impl GreenChild {
         requires place { index < length children.now }
         requires placed { HasOffsetsFrom 0 children.now }
         requires sum { text_len ≡ sum_of_lens (map child_term children.now) }
-        ensures less { result ≡ Ordering.Less → child_end (map child_term children.now) index ≤ range.start }
-        ensures equal { result ≡ Ordering.Equal → (range.start < child_end (map child_term children.now) index)
-            × (child_start (map child_term children.now) index < range.end) }
-        ensures greater { result ≡ Ordering.Greater → (range.start < child_end (map child_term children.now) index)
-            × (range.end ≤ child_start (map child_term children.now) index) }
+
+        // How the child lies to the range.
+        ensures less { let child = span_at children.now index in
+            result ≡ Ordering.Less → EndsBefore child range }
+        ensures equal { let child = span_at children.now index in
+            result ≡ Ordering.Equal → Overlaps child range }
+        ensures greater { let child = span_at children.now index in
+            result ≡ Ordering.Greater → StartsBehind child range }
+
+        // One comparison is counted.
         ensures comparisons { steps.new.comparisons ≡ one_more steps.old.comparisons }
         ensures grows { steps.old.comparisons ≤ steps.new.comparisons }
         ensures visits { steps.new.visits ≡ steps.old.visits }
@@ -62,9 +67,16 @@ impl GreenChild {
     ) -> usize
         requires placed { HasOffsetsFrom 0 children.now }
         requires sum { text_len ≡ sum_of_lens (map child_term children.now) }
-        ensures choice { range.start ≤ range.end → IsOnlyChoice (map child_term children.now) range.start range.end result }
-        ensures most { steps.new.comparisons ≤ steps.old.comparisons + digits (length children.now) }
-        ensures least { 0 < length children.now → steps.old.comparisons < count_limit → steps.old.comparisons < steps.new.comparisons }
+
+        // Which child it is.
+        ensures choice { range.start ≤ range.end
+            → IsOnlyChoice (map child_term children.now) range.start range.end result }
+
+        // What is counted.
+        ensures most { let count = length children.now in
+            steps.new.comparisons ≤ steps.old.comparisons + digits count }
+        ensures least { 0 < length children.now
+            → Rises steps.old.comparisons steps.new.comparisons }
         ensures grows { steps.old.comparisons ≤ steps.new.comparisons }
         ensures visits { steps.new.visits ≡ steps.old.visits }
     {

@@ -1,6 +1,6 @@
 ghost use Rattle.std.specs.Prelude.{◌≡◌, ◌≢◌, ◌<◌, ◌≤◌, length, IfOk, IfErr, Some};
 ghost use Rattle.rowan_green.specs.Fits.{byte_limit, FitsToken};
-ghost use Rattle.rowan_green.specs.Term.{token_len};
+ghost use Rattle.rowan_green.specs.Term.{token_of, token_len};
 
 use crate::fault::Fault;
 use crate::green::SyntaxKind;
@@ -42,7 +42,7 @@ impl Model for GreenToken {
 impl GreenToken {
     /// The token of a kind and a text. Refused with `TextTooLong` past 4,294,967,295 bytes, and else only for want of memory.
     pub fn new(alloc: Global, kind: SyntaxKind, text: &str) -> Result<GreenToken, Fault>
-        ensures ok { IfOk result (λ t. t ≡ record { kind = kind.0; text = text.now }) }
+        ensures ok { IfOk result (λ t. t ≡ token_of kind.0 text.now) }
         ensures err { IfErr result (λ e. e ≢ Fault.Memory → e ≡ Fault.TextTooLong) }
         ensures too_long { byte_limit < length text.now → result ≡ Err Fault.TextTooLong }
         ensures fits { result ≡ Err Fault.TextTooLong → byte_limit < length text.now }

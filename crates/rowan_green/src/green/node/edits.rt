@@ -1,10 +1,10 @@
 //! Edits: nodes like another one but for some children. The children that stay are shared, and nothing is copied of their text.
-ghost use Rattle.std.specs.Prelude.{◌≡◌, ◌≢◌, ◌+◌, ◌<◌, ◌≤◌, ◌++◌, length, take, drop, map, IfOk, IfErr, OnOk};
+ghost use Rattle.std.specs.Prelude.{◌≡◌, ◌≢◌, ◌<◌, ◌≤◌, ◌++◌, length, take, drop, map, IfOk, IfErr, OnOk};
 ghost use Rattle.std.specs.Iterator.{IsFiniteIterable};
-ghost use Rattle.std.specs.Iterator.Runs.{SomeRun, WholeRun};
-ghost use Rattle.rowan_green.specs.Edits.{replaced, inserted, removed, spliced, spliced_so_far};
-ghost use Rattle.rowan_green.specs.Fits.{AreWithin, PassesLimit};
-ghost use Rattle.rowan_green.specs.Term.{node_of, node_kind, node_children};
+ghost use Rattle.rowan_green.specs.Edits.{replaced, inserted, removed, spliced, spliced_so_far, IsEditOf};
+ghost use Rattle.rowan_green.specs.Fits.{AreWithin, PassesLimit, WhyNoNode};
+ghost use Rattle.rowan_green.specs.Runs.{IteratesAll, IteratesSome};
+ghost use Rattle.rowan_green.specs.Term.{node_children};
 
 use super::{GreenChild, GreenNode, NodeDraft};
 use crate::fault::Fault;
@@ -17,7 +17,7 @@ impl NodeDraft {
     // Adds children that stay where they are, too.
     fn share(&mut self, children: &[GreenChild]) -> Result<(), Fault>
         ensures ok { OnOk result (self.new ≡ self.old ++ map child_term children.now) }
-        ensures err { IfErr result (λ e. e ≢ Fault.Memory → PassesLimit (self.old ++ map child_term children.now) e) }
+        ensures err { IfErr result (WhyNoNode (self.old ++ map child_term children.now)) }
     {
         for child in children {
             self.push(child.as_ref().to_owned()?)?;
@@ -28,11 +28,12 @@ impl NodeDraft {
 
 impl GreenNode {
     /// The node with another child in place of the one at an index. Past the last child it is an equal node, and the new
-    /// child is dropped.
+    /// child is dropped. Refused with `TextTooLong` where its text would have more than 4,294,967,295 bytes, and else only for
+    /// want of memory.
     pub fn replace_child(&self, index: usize, new_child: GreenElement) -> Result<GreenNode, Fault>
-        ensures ok { IfOk result (λ n. n ≡ node_of (node_kind self.now) (replaced (node_children self.now) index new_child)) }
-        ensures within { OnOk result (AreWithin (replaced (node_children self.now) index new_child)) }
-        ensures err { IfErr result (λ e. e ≢ Fault.Memory → PassesLimit (replaced (node_children self.now) index new_child) e) }
+        ensures ok { IfOk result (IsEditOf self.now (λ ts. replaced ts index new_child)) }
+        ensures err { IfErr result (WhyNoNode (replaced (node_children self.now) index new_child)) }
+        ensures text { IfErr result (λ e. e ≢ Fault.Memory → e ≡ Fault.TextTooLong) }
     {
         if index >= self.child_count() {
             return Ok(self.clone()?);
@@ -45,9 +46,8 @@ impl GreenNode {
     /// The node with one more child, before the one at an index or at the end.
     pub fn insert_child(&self, index: usize, new_child: GreenElement) -> Result<GreenNode, Fault>
         requires { index ≤ length (node_children self.now) }
-        ensures ok { IfOk result (λ n. n ≡ node_of (node_kind self.now) (inserted (node_children self.now) index new_child)) }
-        ensures within { OnOk result (AreWithin (inserted (node_children self.now) index new_child)) }
-        ensures err { IfErr result (λ e. e ≢ Fault.Memory → PassesLimit (inserted (node_children self.now) index new_child) e) }
+        ensures ok { IfOk result (IsEditOf self.now (λ ts. inserted ts index new_child)) }
+        ensures err { IfErr result (WhyNoNode (inserted (node_children self.now) index new_child)) }
     {
         let mut draft = self.draft_before(index, self.child_count() + 1)?;
         draft.push(new_child)?;
@@ -57,7 +57,7 @@ impl GreenNode {
     /// The node without the child at an index. It is refused only for want of memory.
     pub fn remove_child(&self, index: usize) -> Result<GreenNode, Fault>
         requires { index < length (node_children self.now) }
-        ensures ok { IfOk result (λ n. n ≡ node_of (node_kind self.now) (removed (node_children self.now) index)) }
+        ensures ok { IfOk result (IsEditOf self.now (λ ts. removed ts index)) }
         ensures within { AreWithin (removed (node_children self.now) index) }
         ensures err { IfErr result (λ e. e ≡ Fault.Memory) }
     {
@@ -75,12 +75,16 @@ impl GreenNode {
         I::IntoIter: Drop,
         requires in_order { range.start ≤ range.end }
         requires in_range { range.end ≤ length (node_children self.now) }
-        requires ends { IsFiniteIterable I.into_iter_gives I.IntoIter.can_next I.IntoIter.remaining replace_with }
-        ensures ok { IfOk result (λ n. (it : I.IntoIter) × I.into_iter_gives replace_with it
-            × WholeRun I.IntoIter.next_gives it (λ p. (n ≡ node_of (node_kind self.now) (spliced (node_children self.now) range.start range.end p.items))
-            × AreWithin (spliced (node_children self.now) range.start range.end p.items))) }
-        ensures err { IfErr result (λ e. e ≢ Fault.Memory → (it : I.IntoIter) × I.into_iter_gives replace_with it
-            × SomeRun I.IntoIter.next_gives it (λ p. PassesLimit (spliced_so_far (node_children self.now) range.start range.end p.items p.whole) e)) }
+        requires ends { IsFiniteIterable I.into_iter_gives I.IntoIter.can_next
+            I.IntoIter.remaining replace_with }
+
+        // The node is that of all items, or else the items that were taken pass a limit.
+        ensures ok { IfOk result (λ n.
+            IteratesAll I.into_iter_gives I.IntoIter.next_gives replace_with
+            (λ p. IsEditOf self.now (λ ts. spliced ts range.start range.end p.items) n)) }
+        ensures err { let ts = node_children self.now in IfErr result (λ e. e ≢ Fault.Memory →
+            IteratesSome I.into_iter_gives I.IntoIter.next_gives replace_with
+            (λ p. PassesLimit (spliced_so_far ts range.start range.end p.items p.whole) e)) }
     {
         let new_children = replace_with.into_iter();
         let kept = self.child_count() - (range.end - range.start);
@@ -113,9 +117,8 @@ impl GreenNode {
     // The node of a draft and the children from an index on.
     fn finish_after(&self, mut draft: NodeDraft, index: usize) -> Result<GreenNode, Fault>
         requires { index ≤ length (node_children self.now) }
-        ensures ok { IfOk result (λ n. n ≡ node_of (node_kind self.now) (draft ++ drop index (node_children self.now))) }
-        ensures within { OnOk result (AreWithin (draft ++ drop index (node_children self.now))) }
-        ensures err { IfErr result (λ e. e ≢ Fault.Memory → PassesLimit (draft ++ drop index (node_children self.now)) e) }
+        ensures ok { IfOk result (IsEditOf self.now (λ ts. draft ++ drop index ts)) }
+        ensures err { IfErr result (WhyNoNode (draft ++ drop index (node_children self.now))) }
     {
         let (_, behind) = self.data.children.split_at(index);
         draft.share(behind)?;

@@ -1,24 +1,19 @@
-use Rattle.std.proofs.Common.{◌≡◌, List, [], ◌∷◌, ◌++◌, length, Result, Ok, Err, Some, None, OnOk, sym, ◌∙◌, ap, subst, refl, rules}
+use Rattle.std.proofs.Common.{◌≡◌, List, [], ◌∷◌, ◌++◌, length, Some, None, sym, ◌∙◌, ap, subst, refl, rules}
 use Rattle.std.specs.List.{slice_get, each_same}
 use Rattle.std.specs.Cmp.Lexicographic.{pointwise}
 use Rattle.std.specs.Prelude.{nat_eq}
 use Rattle.std.proofs.lemmas.Option.{slice_get_within, same_Some}
-use Rattle.std.proofs.lemmas.Result.{IfOk-weaker}
 use Rattle.rowan_green.specs.declared.node_cache.Interned.{Interned}
 use Rattle.rowan_green.specs.declared.utility_types.NodeOrToken.TheVariants.{Node}
 use Rattle.rowan_green.specs.Term.{NodeTerm, Term, node_of}
 use Rattle.rowan_green.specs.Fits.{AreWithin}
-use Rattle.rowan_green.specs.Cache.{CacheValue, asked, AreNumbered, IsNumbered, elements}
+use Rattle.rowan_green.specs.Cache.{CacheValue, asked, AreNumbered, elements}
 use Rattle.rowan_green.specs.Tables.{PutsNumber, number_of_node, StandAt, IsIndexed}
 use Rattle.rowan_green.proofs.CacheLemmas.{slice_get-last, asked-known, asked-ineligible, asked-fresh}
 use Rattle.rowan_green.proofs.NumberLemmas.{is_eligible-kept, IsNumbered-none, IsNumbered-at}
 use Rattle.rowan_green.proofs.IndexLemmas.{elements-stand, elements-known, elements-fresh, IsIndexed-node, IsIndexed-same_nodes}
 use Rattle.rowan_green.proofs.Terms.{terms-forest}
 use Rattle.rowan_green.proofs.node_cache.NodeCache.node.Goals as goal
-
-on_ok_from : {T E P : Type 0} (r : Result T E) → P → OnOk r P
-on_ok_from (Ok v) p = p
-on_ok_from (Err e) p = tt
 
 -- ---- a node that is not eligible
 
@@ -63,15 +58,14 @@ returns-in-Some c =
     let fit = is_eligible-kept cache c.args.kind.0 is c.in_ok-write_numbers.field-0 numbered c.in_ok-write_numbers.ensures.kept ∙ c.if-not-branch.false in
     let found : number_of_node s.nodes c.args.kind.0 ns ≡ Some c.in-Some.number = ap (λ ms. number_of_node s.nodes c.args.kind.0 ms) (sym c.as_slice.ensures.value) ∙ sym c.node_number.ensures ∙ c.in-Some.is in
     let stands = elements-known c.self.invariant c.args.kind.0 is ns numbered (c.in_ok-write_numbers.ensures.numbers c.if-not-branch.false) c.in-Some.number found in
-    let given = λ (i : Interned). (i.number ≡ Some c.in-Some.number) × (slice_get c.as_slice-in-Some.result.now c.in-Some.number ≡ Some i.element) in
-    let is_t : (i : Interned) → slice_get c.as_slice-in-Some.result.now c.in-Some.number ≡ Some i.element → i.element ≡ t =
-    λ i e. same_Some i.element t (sym e ∙ ap (λ vs. slice_get vs c.in-Some.number) c.as_slice-in-Some.ensures.value ∙ stands) in
+    let i : Interned = c.in_ok-interned_at.field-0 in
+    let is_t : i.element ≡ t = same_Some i.element t (sym c.in_ok-interned_at.ensures.1 ∙ ap (λ vs. slice_get vs c.in-Some.number) c.as_slice-in-Some.ensures.value ∙ stands) in
     record {
-      ok = IfOk-weaker c.interned_at.result given (λ (i : Interned). i.element ≡ t) (λ i p. is_t i p.1) c.interned_at.ensures.ok;
-      within = on_ok_from c.interned_at.result (subst AreWithin (terms-forest (elements is)) (c.self.invariant.within c.in-Some.number t stands));
-      number = IfOk-weaker c.interned_at.result given (λ (i : Interned). IsNumbered cache i) (λ i p. IsNumbered-at cache c.in-Some.number t i fit stands (is_t i p.1) p.0) c.interned_at.ensures.ok;
-      kept = on_ok_from c.interned_at.result (asked-known cache c.in-Some.number t stands ∙ ap (λ v. asked v t) c.self.view_is);
+      ok = is_t;
+      within = subst AreWithin (terms-forest (elements is)) (c.self.invariant.within c.in-Some.number t stands);
+      number = IsNumbered-at cache c.in-Some.number t i fit stands is_t c.in_ok-interned_at.ensures.0;
       err = search rules;
+      kept = asked-known cache c.in-Some.number t stands ∙ ap (λ v. asked v t) c.self.view_is;
       unchanged = search rules;
     }
 

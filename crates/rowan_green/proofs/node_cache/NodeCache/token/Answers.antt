@@ -1,10 +1,10 @@
-use Rattle.std.proofs.Common.{◌≤◌, inl, inr, ◌+◌, None, Result, Ok, Err, OnOk, ◌≡◌, ℕ, ◌++◌, ◌∷◌, [], List, length, Some, sym, ◌∙◌, ap, subst, refl, arith}
+use Rattle.std.proofs.Common.{◌≤◌, inl, inr, ◌+◌, None, ◌≡◌, ℕ, ◌++◌, ◌∷◌, [], List, length, Some, sym, ◌∙◌, ap, subst, refl, arith}
 use Rattle.std.proofs.lemmas.Option.{slice_get_within}
 use Rattle.std.specs.String.{string_eq, string_bytes}
 use Rattle.std.proofs.lemmas.Bool.{cases_lt}
 use Rattle.rowan_green.specs.Fits.{byte_limit}
 use Rattle.rowan_green.specs.declared.utility_types.NodeOrToken.TheVariants.{Token}
-use Rattle.rowan_green.specs.Term.{Term, TokenTerm}
+use Rattle.rowan_green.specs.Term.{Term, TokenTerm, token_of}
 use Rattle.rowan_green.specs.Cache.{CacheValue, asked}
 use Rattle.rowan_green.specs.Tables.{PutsNumber, number_of_token, IsIndexed}
 use Rattle.rowan_green.proofs.CacheLemmas.{slice_get-last, asked-known, asked-fresh}
@@ -17,21 +17,22 @@ interned_at-requires c =
     let stands = (c.self.invariant.token_found c.in-Some.number c.args.kind.0 c.args.text.now).0 (sym c.token_number.ensures ∙ c.in-Some.is) in
     rw c.as_slice.ensures.value (slice_get_within s.values.items c.in-Some.number _ stands)
 
-on_ok_from : {T E P : Type 0} (r : Result T E) → P → OnOk r P
-on_ok_from (Ok v) p = p
-on_ok_from (Err e) p = tt
-
 pub returns-in-Some-clause-kept : goal.returns-in-Some-clause-kept
 returns-in-Some-clause-kept c =
     let stands = (c.self.invariant.token_found c.in-Some.number c.args.kind.0 c.args.text.now).0 (sym c.token_number.ensures ∙ c.in-Some.is) in
     let cache : CacheValue = record { limit = c.self.inside.limit; seen = c.self.inside.values.items } in
-    let t : Term = Token (record { kind = c.args.kind.0; text = c.args.text.now }) in
-    on_ok_from c.interned_at.result (subst (λ v. v ≡ asked v t) c.self.view_is (asked-known cache c.in-Some.number t stands))
+    let t : Term = Token (token_of c.args.kind.0 c.args.text.now) in
+    subst (λ v. v ≡ asked v t) c.self.view_is (asked-known cache c.in-Some.number t stands)
+
+pub returns-in_err-interned_at-clause-too_long : goal.returns-in_err-interned_at-clause-too_long
+returns-in_err-interned_at-clause-too_long c = λ long.
+    let stands = (c.self.invariant.token_found c.in-Some.number c.args.kind.0 c.args.text.now).0 (sym c.token_number.ensures ∙ c.in-Some.is) in
+    absurd (omega (arith, c.self.invariant.within c.in-Some.number (Token (token_of c.args.kind.0 c.args.text.now)) stands))
 
 pub returns-in-Some-clause-too_long : goal.returns-in-Some-clause-too_long
 returns-in-Some-clause-too_long c = λ long.
     let stands = (c.self.invariant.token_found c.in-Some.number c.args.kind.0 c.args.text.now).0 (sym c.token_number.ensures ∙ c.in-Some.is) in
-    absurd (omega (arith, c.self.invariant.within c.in-Some.number (Token (record { kind = c.args.kind.0; text = c.args.text.now })) stands))
+    absurd (omega (arith, c.self.invariant.within c.in-Some.number (Token (token_of c.args.kind.0 c.args.text.now)) stands))
 
 pub invariant_of-self-2 : goal.invariant_of-self-2
 invariant_of-self-2 c =
@@ -58,7 +59,7 @@ returns-clause-number c =
 pub returns-clause-kept : goal.returns-clause-kept
 returns-clause-kept c =
     let s = c.self.inside in
-    let t : Term = Token (record { kind = c.args.kind.0; text = c.args.text.now }) in
+    let t : Term = Token (token_of c.args.kind.0 c.args.text.now) in
     let cache : CacheValue = record { limit = s.limit; seen = s.values.items } in
     let grown : c.push.new.self.items ≡ s.values.items ++ t ∷ [] =
     c.in_ok-push.ensures.items ∙ ap (λ ts. ts ++ Token c.in_ok-kept.kept ∷ []) c.in_ok-reserve.ensures.items ∙ ap (λ (u : TokenTerm). s.values.items ++ Token u ∷ []) (c.in_ok-kept.ensures.cases ∙ c.in_ok-token.ensures.ok) in

@@ -33,7 +33,7 @@ returns-then-not-contains_range-clause-none c =
     λ none k q.
     let r : IsChildAt (map child_term cs) c.args.range.start c.args.range.end k = subst (λ ts. IsChildAt ts c.args.range.start c.args.range.end k) (sym terms) q in
     let at = ((c.search-index.ensures.choice c.contains_range.ensures.order).only k r).1 in
-    let yes = c.contains_range.ensures.contains.1 (omega (arith, at.from, c.rel_range.ensures.start), omega (arith, at.to, c.rel_range.ensures.end)) in
+    let yes = c.contains_range.ensures.contains.1 (omega (arith, at.from, ap (λ s. s.start) c.rel_range.ensures), omega (arith, at.to, ap (λ s. s.end) c.rel_range.ensures)) in
     absurd (cc (yes, c.if-not-contains_range.true))
 
 pub returns-then-not-contains_range-clause-most : goal.returns-then-not-contains_range-clause-most
@@ -55,8 +55,8 @@ returns-clause-some c =
     let has = c.contains_range.ensures.contains.0 c.if-not-contains_range.false in
     let in_range : HasRange (map child_term cs) c.args.range.start c.args.range.end c.search-index.result = record {
       place = omega (arith, look.3.0, length-map cs child_term);
-      from = omega (arith, has.0, c.rel_range.ensures.start);
-      to = omega (arith, has.1, c.rel_range.ensures.end);
+      from = omega (arith, has.0, ap (λ s. s.start) c.rel_range.ensures);
+      to = omega (arith, has.1, ap (λ s. s.end) c.rel_range.ensures);
     } in
     let is = (c.search-index.ensures.choice c.contains_range.ensures.order).is in_range in (
       subst (λ ts. IsChildAt ts c.args.range.start c.args.range.end c.search-index.result) terms is,

@@ -26,11 +26,7 @@ returns-clause-ok c =
     let items = c.deref-2.ensures.value ∙ ap (λ d. d.children.items) c.deref.ensures in
     let terms = ap (map child_term) items ∙ children-view c.self.inside.data.value c.args.self.now c.self.view_is in
     let back = ap (map child_term) c.split_at.ensures.back ∙ drop-children c.args.index c.deref-2.result.now (node_children c.args.self.now) terms in
-    c.in_ok-finish.ensures.ok ∙ ap (λ k. node_of k c.share.new.self) c.kind.ensures ∙ ap (node_of (node_kind c.args.self.now)) (c.in_ok-share.ensures.ok ∙ ap (λ ts. c.args.draft ++ ts) back)
-
-pub returns-clause-within : goal.returns-clause-within
-returns-clause-within c =
-    let items = c.deref-2.ensures.value ∙ ap (λ d. d.children.items) c.deref.ensures in
-    let terms = ap (map child_term) items ∙ children-view c.self.inside.data.value c.args.self.now c.self.view_is in
-    let back = ap (map child_term) c.split_at.ensures.back ∙ drop-children c.args.index c.deref-2.result.now (node_children c.args.self.now) terms in
-    subst AreWithin (c.in_ok-share.ensures.ok ∙ ap (λ ts. c.args.draft ++ ts) back) c.in_ok-finish.ensures.within
+    let whole = c.in_ok-share.ensures.ok ∙ ap (λ ts. c.args.draft ++ ts) back in (
+      c.in_ok-finish.ensures.ok ∙ ap (λ k. node_of k c.share.new.self) c.kind.ensures ∙ ap (node_of (node_kind c.args.self.now)) whole,
+      subst AreWithin whole c.in_ok-finish.ensures.within,
+    )

@@ -1,12 +1,11 @@
-use Rattle.std.proofs.Common.{◌≡◌, ◌≢◌, ◌++◌, ◌∷◌, [], take, drop, refl, sym, subst, ◌∙◌, ap, true, false, append_assoc}
+use Rattle.std.proofs.Common.{◌≢◌, ◌++◌, ◌∷◌, [], take, drop, refl, sym, subst, ◌∙◌, ap, true, false, append_assoc}
 use Rattle.std.proofs.lemmas.Result.{err_from_is_err_and}
 use Rattle.std.proofs.iter.runs.Made.{run, to_end, to_item}
 use Rattle.rowan_green.specs.declared.fault.Fault.TheVariants.{Memory}
-use Rattle.rowan_green.specs.Edits.{spliced}
+use Rattle.rowan_green.specs.Edits.{spliced, IsEditOf}
 use Rattle.rowan_green.specs.Fits.{AreWithin, ChildPasses, PassesLimit}
 use Rattle.rowan_green.specs.Term.{node_of, node_kind, node_children}
-use Rattle.std.proofs.lemmas.Result.{IfErr-weaker}
-use Rattle.rowan_green.proofs.EditLemmas.{IfOk-with}
+use Rattle.std.proofs.lemmas.Result.{IfOk-weaker, IfErr-weaker}
 use Rattle.rowan_green.proofs.green.node.GreenNode.splice_children.Goals as goal
 
 pub returns-in_err-push-clause-err : goal.returns-in_err-push-clause-err
@@ -43,18 +42,18 @@ returns-clause-ok g c =
     let end = c.args.range.end in
     let xs = c.loop-element.yielded in
     let whole = ap (λ d. d ++ drop end ts) c.loop-element.invariant in
-    IfOk-with c.finish_after.result (λ n. n ≡ node_of k (c.loop-element.draft ++ drop end ts)) _
-    (λ n is within. (
+    IfOk-weaker c.finish_after.result (IsEditOf c.args.self.now (λ us. c.loop-element.draft ++ drop end us)) _
+    (λ n p. (
       it,
       subst (λ t. g.I.IntoIterator.into_iter_gives c.args.replace_with t) (sym c.into_iter-element-iterator.ensures.into_iter_gives) c.into_iter-new_children.ensures.into_iter_gives,
       (
         run steps it xs true (to_end steps it xs (_, (_, c.loop-element.yielded_by, c.in-None.ensures.steps))),
         refl,
         refl,
-        (is ∙ ap (node_of k) whole, subst AreWithin {y = spliced ts c.args.range.start end xs} whole within),
+        (p.0 ∙ ap (node_of k) whole, subst AreWithin {y = spliced ts c.args.range.start end xs} whole p.1),
       ),
     ))
-    c.finish_after.ensures.ok c.finish_after.ensures.within
+    c.finish_after.ensures.ok
 
 pub returns-clause-err : goal.returns-clause-err
 returns-clause-err g c =
