@@ -12,4 +12,6 @@ mod example;
 #[cfg(test)]
 mod fixture;
 #[cfg(test)]
+mod table;
+#[cfg(test)]
 mod twins;

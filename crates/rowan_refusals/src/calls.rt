@@ -1,6 +1,7 @@
 //! Calls of a builder, as values.
 
 use rowan::builder::CacheHome;
+use rowan::script::{self, Outcome, replay};
 use rowan::{Checkpoint, Fault, GreenNode, GreenNodeBuilder, SyntaxKind};
 use std::alloc::Global;
 use std::fmt::{self, Display};
@@ -21,6 +22,15 @@ pub enum Call {
 }
 
 use Call::{Finish, Mark, Start, StartAtMark, Token};
+
+/// How a call is made.
+#[derive(Clone, Copy)]
+pub enum Way {
+    /// By the method of the builder.
+    Method,
+    /// As a script of this one call.
+    Replay,
+}
 
 impl Display for Call {
     fn fmt<W: fmt::Write>(&self, f: &mut fmt::Formatter<W>) -> fmt::Result {
@@ -51,6 +61,40 @@ impl Call {
                 None => Err(Fault::UnknownMark),
             },
         }
+    }
+
+    /// Makes the call by a script, which has this one call.
+    pub fn replay<H: CacheHome>(
+        self,
+        alloc: Global,
+        builder: &mut GreenNodeBuilder<'_, H>,
+        marks: &mut Vec<Checkpoint>,
+    ) -> Result<(), Fault> {
+        let script = vec![in alloc; self.as_script_call(alloc, marks.as_slice())?]?;
+        for outcome in replay(alloc, builder, script.as_slice())? {
+            match outcome {
+                Outcome::Accepted => (),
+                Outcome::Marked(mark) => marks.push(mark)?,
+                Outcome::Refused(fault) => return Err(fault),
+            }
+        }
+        Ok(())
+    }
+
+    /// The call of a script, which numbers its own marks: so one that was taken before stands there as a checkpoint.
+    fn as_script_call(self, alloc: Global, marks: &[Checkpoint]) -> Result<script::Call, Fault> {
+        Ok(match self {
+            Token(kind, text) => {
+                script::Call::Token(SyntaxKind(kind), String::from_str(alloc, text)?)
+            }
+            Start(kind) => script::Call::StartNode(SyntaxKind(kind)),
+            Finish => script::Call::FinishNode,
+            Mark => script::Call::Mark,
+            StartAtMark(mark, kind) => match marks.get(mark) {
+                Some(mark) => script::Call::StartNodeAtCheckpoint(*mark, SyntaxKind(kind)),
+                None => return Err(Fault::UnknownMark),
+            },
+        })
     }
 }
 

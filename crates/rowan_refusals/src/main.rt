@@ -2,20 +2,27 @@
 //! it refuse the first request, then the second and so on, and judges what the program prints.
 //!
 //! Each call of a case prints a line with its answer. Where it is refused for memory it is made once more, so that all other
-//! lines have to be those of a run in which nothing is refused.
+//! lines have to be those of a run in which nothing is refused. The cases are data, and no part of the program asks for memory
+//! between a call and its answer.
 #![tactic(auto)]
 
 mod building;
 mod calls;
+mod cases;
 mod edits;
-mod moves;
-mod parsing;
+mod making;
+mod moving;
 mod searches;
 mod shape;
+mod state;
+mod step;
 mod transcript;
 
+use cases::CASES;
+use state::State;
 use std::process::ExitCode;
-use transcript::{Stop, Transcript};
+use step::Case;
+use transcript::{Phase, Stop, Transcript};
 
 fn main(rt: HostRuntime) -> ExitCode {
     match run_cases(&Transcript::new(&rt)) {
@@ -28,33 +35,18 @@ fn main(rt: HostRuntime) -> ExitCode {
 }
 
 fn run_cases(log: &Transcript<'_>) -> Result<(), Stop> {
-    log.case("math_operations", building::math_operations)?;
-    log.case(
-        "math_operations, twice over one cache",
-        building::math_operations_twice,
-    )?;
-    log.case("checkpoint_refusals", building::checkpoint_refusals)?;
-    log.case(
-        "unclosed_nodes_and_finish_refusals",
-        building::unclosed_nodes_and_finish_refusals,
-    )?;
-    log.case("child_edits", edits::child_edits)?;
-    log.case(
-        "searches_at_empty_ranges",
-        searches::searches_at_empty_ranges,
-    )?;
-    log.case(
-        "tokens_beside_empty_nodes",
-        moves::tokens_beside_empty_nodes,
-    )?;
-    log.case("siblings_among_tokens", moves::siblings_among_tokens)?;
-    log.case("equal_empty_twins", moves::equal_empty_twins)?;
-    log.case("cloned_subtree", moves::cloned_subtree)?;
-    log.case("sum_of_product", parsing::sum_of_product)?;
-    log.case(
-        "stray_and_missing_parens",
-        parsing::stray_and_missing_parens,
-    )?;
-    log.case("cache_of_sum", parsing::cache_of_sum)?;
-    log.case("the program over sum_of_product", parsing::program_over_sum)
+    for case in CASES {
+        run_case(log, case)?;
+    }
+    Ok(())
+}
+
+fn run_case(log: &Transcript<'_>, case: Case) -> Result<(), Stop> {
+    log.case(case.name)?;
+    log.phase(Phase::Making)?;
+    let mut state = State::new(log.alloc());
+    for step in case.steps {
+        state.take(log, *step)?;
+    }
+    log.phase(Phase::Dropping)
 }

@@ -6,7 +6,7 @@ use std::fmt::{self, Debug, Display};
 use std::io;
 
 /// What a case does just now, which says whether a refusal may come.
-#[derive(Clone, Copy, PartialEq, Eq, Debug)]
+#[derive(Clone, Copy)]
 pub enum Phase {
     /// It makes values. The call whose request is refused answers `Memory`.
     Making,
@@ -27,12 +27,18 @@ impl Display for Phase {
 }
 
 /// Why a case was given up.
-#[derive(Clone, Copy, PartialEq, Eq, Debug)]
+#[derive(Clone, Copy)]
 pub enum Stop {
     /// A line was not printed.
     Unprinted,
     /// A call was refused that had to be accepted.
     Refused(Fault),
+}
+
+impl From<Fault> for Stop {
+    fn from(fault: Fault) -> Stop {
+        Stop::Refused(fault)
+    }
 }
 
 impl From<io::Error> for Stop {
@@ -50,7 +56,7 @@ impl Display for Stop {
     }
 }
 
-/// Makes the calls of cases, and prints a line for each answer. It takes no memory itself.
+/// Prints the answers of calls. It takes no memory itself.
 #[derive(Clone, Copy)]
 pub struct Transcript<'a> {
     rt: &'a HostRuntime,
@@ -67,17 +73,9 @@ impl<'a> Transcript<'a> {
         self.rt.alloc()
     }
 
-    /// Runs a case, which begins by making values.
-    pub fn case<F: FnOnce(&Transcript<'a>) -> Result<(), Stop>>(
-        &self,
-        name: &str,
-        run: F,
-    ) -> Result<(), Stop>
-        requires { F.IsAlwaysCallable run }
-    {
-        println!(self.rt; "case {name}")?;
-        self.phase(Phase::Making)?;
-        run(self)
+    /// Says which case begins.
+    pub fn case(&self, name: &str) -> Result<(), Stop> {
+        Ok(println!(self.rt; "case {name}")?)
     }
 
     /// Says what the case does from now on.
@@ -90,48 +88,16 @@ impl<'a> Transcript<'a> {
         Ok(println!(self.rt; "{name}: {value:?}")?)
     }
 
-    /// Says what a call that takes no memory answered.
-    pub fn answered<C: Display + Drop, T>(
+    /// Says what a call answered.
+    pub fn answered<C: Display + Copy>(
         &self,
         call: C,
-        answer: &Result<T, Fault>,
+        answer: Result<(), Fault>,
     ) -> Result<(), Stop> {
         match answer {
-            Ok(_) => println!(self.rt; "{call}: done")?,
+            Ok(()) => println!(self.rt; "{call}: done")?,
             Err(fault) => println!(self.rt; "{call}: {fault:?}")?,
         }
         Ok(())
-    }
-
-    /// Makes a call, once more where it is refused for memory, and says what it answers. A call that drops large values, too, has
-    /// a name that ends in `with drops`, for these requests need no answer.
-    pub fn answer<C: Display + Copy, T: Drop, F: FnMut() -> Result<T, Fault>>(
-        &self,
-        call: C,
-        mut make: F,
-    ) -> Result<Result<T, Fault>, Stop>
-        requires { F.IsAlwaysCallable make }
-    {
-        let mut answer = make();
-        if let Err(Fault::Memory) = answer {
-            self.answered(call, &answer)?;
-            answer = make();
-        }
-        self.answered(call, &answer)?;
-        Ok(answer)
-    }
-
-    /// Makes a call that only memory refuses, once more where it does, and says what it answers.
-    pub fn ask<C: Display + Copy, T: Drop, F: FnMut() -> Result<T, Fault>>(
-        &self,
-        call: C,
-        make: F,
-    ) -> Result<T, Stop>
-        requires { F.IsAlwaysCallable make }
-    {
-        match self.answer(call, make)? {
-            Ok(value) => Ok(value),
-            Err(fault) => Err(Stop::Refused(fault)),
-        }
     }
 }

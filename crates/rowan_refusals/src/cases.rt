@@ -1,0 +1,350 @@
+//! The cases.
+
+use crate::calls::Call::{self, Finish, Mark, Start, StartAtMark, Token};
+use crate::calls::Way;
+use crate::edits::Edit;
+use crate::making::Make;
+use crate::moving::{Listing, Move};
+use crate::step::{Case, Step};
+use crate::transcript::Phase;
+use rowan::Direction;
+
+const WHITESPACE: u16 = 0;
+
+const ADD: u16 = 1;
+
+const MUL: u16 = 3;
+
+const NUMBER: u16 = 5;
+
+const OPERATION: u16 = 7;
+
+const MATH_ROOT: u16 = 8;
+
+const BLANK: Call = Token(WHITESPACE, " ");
+
+/// The calls for `1 + 2 * 3 + 4`.
+const MATH: [Call; 23] = [
+    Start(MATH_ROOT),
+    Mark,
+    Token(NUMBER, "1"),
+    BLANK,
+    StartAtMark(0, OPERATION),
+    Token(ADD, "+"),
+    Mark,
+    BLANK,
+    Token(NUMBER, "2"),
+    BLANK,
+    StartAtMark(1, OPERATION),
+    Token(MUL, "*"),
+    BLANK,
+    Token(NUMBER, "3"),
+    Finish,
+    BLANK,
+    Finish,
+    StartAtMark(0, OPERATION),
+    Token(ADD, "+"),
+    BLANK,
+    Token(NUMBER, "4"),
+    Finish,
+    Finish,
+];
+
+const A: u16 = 1;
+
+const B: u16 = 2;
+
+const D: u16 = 4;
+
+const X: Call = Token(9, "x");
+
+const Y: Call = Token(9, "y");
+
+const Z: Call = Token(9, "z");
+
+/// A checkpoint that is past the elements, and later is not.
+const PAST: [Call; 11] = [
+    Start(D),
+    Start(A),
+    X,
+    Y,
+    Mark,
+    Finish,
+    StartAtMark(0, B),
+    Z,
+    StartAtMark(0, B),
+    Finish,
+    Finish,
+];
+
+/// A checkpoint that is before the open node, and a node too many that is finished.
+const BEFORE: [Call; 6] = [Mark, X, Start(A), StartAtMark(0, B), Finish, Finish];
+
+/// A node over `ab`, a node without children, and `cd`.
+const AROUND_EMPTY: [Call; 6] = [
+    Start(7),
+    Token(2, "ab"),
+    Start(5),
+    Finish,
+    Token(2, "cd"),
+    Finish,
+];
+
+const WORD: u16 = 2;
+
+const SPACE: u16 = 3;
+
+const LIST: u16 = 5;
+
+const ATOM: u16 = 6;
+
+const ROOT: u16 = 7;
+
+/// A list without children before a token.
+const LIST_FIRST: [Call; 5] = [Start(ROOT), Start(LIST), Finish, Token(WORD, "a"), Finish];
+
+/// A list without children between two tokens.
+const LIST_BETWEEN: [Call; 6] = [
+    Start(ROOT),
+    Token(WORD, "a"),
+    Start(LIST),
+    Finish,
+    Token(WORD, "b"),
+    Finish,
+];
+
+/// A token, a list, a blank and an atom.
+const AMONG_TOKENS: [Call; 10] = [
+    Start(ROOT),
+    Token(WORD, "a"),
+    Start(LIST),
+    Token(WORD, "b"),
+    Finish,
+    Token(SPACE, " "),
+    Start(ATOM),
+    Token(WORD, "c"),
+    Finish,
+    Finish,
+];
+
+/// A token and two lists without children.
+const TWINS: [Call; 7] = [
+    Start(ROOT),
+    Token(WORD, "a"),
+    Start(LIST),
+    Finish,
+    Start(LIST),
+    Finish,
+    Finish,
+];
+
+const SUM: &str = "(+ (* 15 2) 62)";
+
+const MAKING: Step = Step::Phase(Phase::Making);
+
+const MOVING: Step = Step::Phase(Phase::Moving);
+
+pub const CASES: [Case; 17] = [
+    Case {
+        name: "math_operations",
+        steps: &[Step::Build(&MATH)],
+    },
+    Case {
+        name: "math_operations, twice over one cache",
+        steps: &[
+            Step::BuildOver(Way::Method, &MATH),
+            Step::BuildOver(Way::Method, &MATH),
+        ],
+    },
+    Case {
+        name: "math_operations, replayed twice over one cache",
+        steps: &[
+            Step::BuildOver(Way::Replay, &MATH),
+            Step::BuildOver(Way::Replay, &MATH),
+        ],
+    },
+    Case {
+        name: "checkpoint_refusals",
+        steps: &[Step::Build(&PAST), Step::Build(&BEFORE)],
+    },
+    Case {
+        name: "unclosed_nodes_and_finish_refusals",
+        steps: &[
+            Step::BuildOn(&[Start(A), Start(B), X], &[Finish]),
+            Step::Build(&[]),
+        ],
+    },
+    Case {
+        name: "child_edits",
+        steps: &[
+            Step::Make(Make::Token(1, "a")),
+            Step::Make(Make::Token(1, "b")),
+            Step::Make(Make::Node(7)),
+            Step::Make(Make::Edited(Edit::Replace(2))),
+            Step::Equal,
+            Step::Make(Make::Edited(Edit::Replace(0))),
+            Step::Make(Make::Edited(Edit::Insert(2))),
+            Step::Make(Make::Edited(Edit::Remove(0))),
+            Step::Make(Make::Edited(Edit::Splice(0, 1))),
+            Step::Tree,
+        ],
+    },
+    Case {
+        name: "searches_at_empty_ranges",
+        steps: &[
+            Step::Make(Make::Tree(&AROUND_EMPTY)),
+            MOVING,
+            Step::Lengths,
+            Step::Search(0, 0),
+            Step::Search(1, 1),
+            Step::Search(2, 2),
+            Step::Search(4, 4),
+            Step::Search(2, 4),
+            Step::Search(1, 3),
+        ],
+    },
+    Case {
+        name: "tokens_beside_empty_nodes",
+        steps: &[
+            Step::Make(Make::Tree(&LIST_FIRST)),
+            Step::Make(Make::Root),
+            Step::Make(Make::Tree(&LIST_BETWEEN)),
+            Step::Make(Make::Root),
+            MOVING,
+            Step::GoToRoot(0),
+            Step::Look(Move::FirstToken),
+            Step::Look(Move::LastToken),
+            Step::GoToRoot(1),
+            Step::Go(Move::FirstToken),
+            Step::Look(Move::NextToken),
+            Step::Look(Move::PrevToken),
+            Step::GoToRoot(1),
+            Step::Go(Move::LastToken),
+            Step::Look(Move::NextToken),
+            Step::Look(Move::PrevToken),
+        ],
+    },
+    Case {
+        name: "siblings_among_tokens",
+        steps: &[
+            Step::Make(Make::Tree(&AMONG_TOKENS)),
+            Step::Make(Make::Root),
+            MOVING,
+            Step::GoToRoot(0),
+            Step::List(Listing::ChildrenWithTokens),
+            Step::Look(Move::ElementAt(&[3, 0])),
+            Step::Look(Move::ElementAt(&[])),
+            Step::Look(Move::ElementAt(&[4])),
+            Step::Look(Move::ElementAt(&[0, 0])),
+            Step::Go(Move::FirstToken),
+            Step::List(Listing::SiblingsWithTokens(Direction::Next)),
+            Step::Go(Move::Parent),
+            Step::Go(Move::FirstChild),
+            Step::Compare(Move::NextSibling),
+            Step::Go(Move::NextSibling),
+            Step::Look(Move::PrevSiblingOrToken),
+            Step::List(Listing::Siblings(Direction::Prev)),
+            Step::GoToRoot(0),
+            Step::Go(Move::FirstChild),
+            Step::Go(Move::FirstToken),
+            Step::List(Listing::Ancestors),
+        ],
+    },
+    Case {
+        name: "equal_empty_twins",
+        steps: &[
+            Step::Make(Make::Tree(&TWINS)),
+            Step::Make(Make::Root),
+            MOVING,
+            Step::GoToRoot(0),
+            Step::List(Listing::Children),
+            Step::Look(Move::LastChild),
+            Step::Go(Move::FirstChild),
+            Step::Compare(Move::NextSibling),
+        ],
+    },
+    Case {
+        name: "cloned_subtree",
+        steps: &[
+            Step::Make(Make::Parsed(SUM)),
+            Step::Make(Make::Root),
+            MOVING,
+            Step::GoToRoot(0),
+            Step::Go(Move::FirstChild),
+            Step::Go(Move::FirstChild),
+            Step::Go(Move::NextSibling),
+            MAKING,
+            Step::Make(Make::Subtree),
+            Step::Make(Make::Subtree),
+            MOVING,
+            Step::CompareRoot(1),
+            Step::GoToRoot(1),
+            Step::CompareRoot(2),
+            Step::Look(Move::Parent),
+            Step::Look(Move::FirstChild),
+            Step::GoToRoot(0),
+            Step::Go(Move::FirstChild),
+            Step::Go(Move::FirstChild),
+            Step::Look(Move::NextSibling),
+        ],
+    },
+    Case {
+        name: "sum_of_product",
+        steps: &[
+            Step::Make(Make::Lexed(SUM)),
+            Step::Make(Make::Parsed(SUM)),
+            Step::Make(Make::Syntax),
+            Step::Make(Make::Printed),
+            Step::Make(Make::Text),
+            Step::Tree,
+        ],
+    },
+    Case {
+        name: "stray_and_missing_parens, in an empty text",
+        steps: &[
+            Step::Make(Make::Parsed("")),
+            Step::Make(Make::Syntax),
+            Step::Make(Make::Printed),
+            Step::Make(Make::Text),
+            Step::Tree,
+        ],
+    },
+    Case {
+        name: "stray_and_missing_parens, with a stray one",
+        steps: &[
+            Step::Make(Make::Parsed(")")),
+            Step::Make(Make::Syntax),
+            Step::Make(Make::Printed),
+            Step::Make(Make::Text),
+            Step::Tree,
+        ],
+    },
+    Case {
+        name: "stray_and_missing_parens, with a missing one",
+        steps: &[
+            Step::Make(Make::Parsed("(a ")),
+            Step::Make(Make::Syntax),
+            Step::Make(Make::Printed),
+            Step::Make(Make::Text),
+            Step::Tree,
+        ],
+    },
+    Case {
+        name: "cache_of_sum",
+        steps: &[
+            Step::Make(Make::ParsedOver(SUM)),
+            Step::Counts,
+            Step::Make(Make::ParsedOver(SUM)),
+            Step::Counts,
+            Step::Equal,
+        ],
+    },
+    Case {
+        name: "the program over sum_of_product",
+        steps: &[
+            Step::Make(Make::Words(&["tree"])),
+            Step::Make(Make::Room(1_000)),
+            Step::Make(Make::Written(SUM)),
+        ],
+    },
+];

@@ -1,0 +1,109 @@
+//! Values that are made, each in one call that only want of memory refuses.
+
+use crate::calls::Call;
+use crate::edits::Edit;
+use crate::shape::Shape;
+use crate::transcript::{Stop, Transcript};
+use rowan::cursor::SyntaxNode;
+use rowan::{GreenNode, GreenToken};
+use rowan_tool::sexp::{Lang, Parse};
+
+/// What is to be made. The tree, the token, the parse and so on is the last one that was made.
+#[derive(Clone, Copy)]
+pub enum Make {
+    /// The tree that the calls build.
+    Tree(&'static [Call]),
+    /// A token of a kind and a text.
+    Token(u16, &'static str),
+    /// A node of a kind over all tokens.
+    Node(u16),
+    /// The tree after an edit.
+    Edited(Edit),
+    /// A cursor at the root of the tree.
+    Root,
+    /// A cursor at the root of a copy of the node where the case stands.
+    Subtree,
+    /// The number of tokens of a text.
+    Lexed(&'static str),
+    /// The parse of a text.
+    Parsed(&'static str),
+    /// The same, over the cache of the case.
+    ParsedOver(&'static str),
+    /// The typed root of the parse.
+    Syntax,
+    /// The printed tree of the typed root.
+    Printed,
+    /// The text of the typed root.
+    Text,
+    /// The words of a command line.
+    Words(&'static [&'static str]),
+    /// Room for an output of so many bytes, so that what is written there is never refused.
+    Room(usize),
+    /// What the program writes for a text.
+    Written(&'static str),
+}
+
+impl Make {
+    /// The name of the call. That of a call which drops large values, too, ends in `with drops`, for these requests need no answer.
+    pub fn name(self) -> &'static str {
+        match self {
+            Make::Tree(_) => "a tree",
+            Make::Token(_, _) => "GreenToken::new",
+            Make::Node(_) => "GreenNode::new",
+            Make::Edited(Edit::Replace(_)) => "replace_child",
+            Make::Edited(Edit::Insert(_)) => "insert_child",
+            Make::Edited(Edit::Remove(_)) => "remove_child",
+            Make::Edited(Edit::Splice(_, _)) => "splice_children",
+            Make::Root => "new_root",
+            Make::Subtree => "clone_subtree",
+            Make::Lexed(_) => "lex",
+            Make::Parsed(_) => "parse",
+            Make::ParsedOver(_) => "parse_with",
+            Make::Syntax => "syntax",
+            Make::Printed => "debug_tree",
+            Make::Text => "to_string",
+            Make::Words(_) => "arguments",
+            Make::Room(_) => "room for the output",
+            Make::Written(_) => "run, with drops",
+        }
+    }
+}
+
+/// A value that was made.
+#[derive(Drop)]
+pub enum Made {
+    Tree(GreenNode),
+    Token(GreenToken),
+    Edited(GreenNode),
+    Cursor(SyntaxNode),
+    Parse(Parse),
+    Syntax(rowan::SyntaxNode<Lang>),
+    Text(String),
+    /// A number of tokens or of bytes.
+    Count(usize),
+}
+
+impl Made {
+    /// The green tree of a tree, of an edited one and of a parse.
+    pub fn green(&self) -> Option<&GreenNode> {
+        match self {
+            Made::Tree(tree) | Made::Edited(tree) => Some(tree),
+            Made::Parse(parse) => Some(parse.green()),
+            _ => None,
+        }
+    }
+
+    /// Says what the value is.
+    pub fn tell(&self, log: &Transcript<'_>) -> Result<(), Stop> {
+        match self {
+            Made::Tree(tree) => log.tell("tree", &Shape(tree)),
+            Made::Token(token) => log.tell("token", &token.text()),
+            Made::Edited(tree) => log.tell("edited", &Shape(tree)),
+            Made::Cursor(cursor) => log.tell("cursor", cursor),
+            Made::Parse(parse) => log.tell("tree", &Shape(parse.green())),
+            Made::Syntax(root) => log.tell("range", &root.text_range()),
+            Made::Text(text) => log.tell("text", &text.as_str()),
+            Made::Count(count) => log.tell("count", count),
+        }
+    }
+}

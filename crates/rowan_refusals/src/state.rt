@@ -1,0 +1,256 @@
+//! What a case has made so far, and where it stands.
+
+use crate::building::{build, build_on, build_over};
+use crate::calls::tree_of;
+use crate::edits::leaf;
+use crate::making::{Made, Make};
+use crate::moving::{Move, compare};
+use crate::searches::{index_at, tell_lengths};
+use crate::shape::Shape;
+use crate::step::Step;
+use crate::transcript::{Stop, Transcript};
+use rowan::cursor::{SyntaxElement, SyntaxNode};
+use rowan::{Fault, GreenNode, GreenToken, NodeCache, NodeOrToken, SyntaxKind};
+use rowan_tool::program;
+use rowan_tool::sexp::{Lang, Parse, lex, parse, parse_with};
+use std::alloc::Global;
+
+#[derive(Drop)]
+pub struct State {
+    alloc: Global,
+    cache: NodeCache,
+    made: Vec<Made>,
+    place: Option<SyntaxElement>,
+    words: Vec<String>,
+    output: Vec<u8>,
+}
+
+impl State {
+    pub fn new(alloc: Global) -> State {
+        State {
+            alloc,
+            cache: NodeCache::new(alloc),
+            made: Vec::new(alloc),
+            place: None,
+            words: Vec::new(alloc),
+            output: Vec::new(alloc),
+        }
+    }
+
+    /// Takes a step, and says what comes of it.
+    pub fn take(&mut self, log: &Transcript<'_>, step: Step) -> Result<(), Stop> {
+        match step {
+            Step::Phase(phase) => log.phase(phase),
+            Step::Build(calls) => build(log, calls),
+            Step::BuildOn(calls, others) => build_on(log, calls, others),
+            Step::BuildOver(way, calls) => build_over(log, &mut self.cache, way, calls),
+            Step::Make(what) => self.ask(log, what),
+            Step::Counts => self.tell_counts(log),
+            Step::Tree => log.tell("tree", &Shape(self.tree()?)),
+            Step::Equal => self.tell_equal(log),
+            Step::Lengths => tell_lengths(log, self.tree()?),
+            Step::Search(start, end) => {
+                log.tell(
+                    "index of child_at_range",
+                    &index_at(self.tree()?, start, end),
+                )
+            }
+            Step::Look(way) => log.tell(way.name(), &way.make(self.place()?)),
+            Step::Go(way) => self.go(log, way),
+            Step::GoToRoot(number) => self.go_to_root(log, number),
+            Step::List(listing) => listing.tell(log, self.place()?),
+            Step::Compare(way) => compare(log, self.place()?, &self.found(way)?),
+            Step::CompareRoot(number) => compare(log, self.place()?, &self.root(number)?),
+        }
+    }
+
+    /// Makes a value, once more where that is refused for memory, and says what it is.
+    fn ask(&mut self, log: &Transcript<'_>, what: Make) -> Result<(), Stop> {
+        let mut answer = self.make(what);
+        if let Err(Fault::Memory) = answer {
+            log.answered(what.name(), answer)?;
+            answer = self.make(what);
+        }
+        log.answered(what.name(), answer)?;
+        match self.made.as_slice().last() {
+            Some(made) => made.tell(log),
+            None => Ok(()),
+        }
+    }
+
+    /// Makes a value, and keeps it.
+    fn make(&mut self, what: Make) -> Result<(), Fault> {
+        let made = self.made_by(what)?;
+        Ok(self.made.push(made)?)
+    }
+
+    fn made_by(&mut self, what: Make) -> Result<Made, Fault> {
+        let alloc = self.alloc;
+        match what {
+            Make::Tree(calls) => Ok(Made::Tree(tree_of(alloc, calls)?)),
+            Make::Token(kind, text) => {
+                Ok(Made::Token(GreenToken::new(alloc, SyntaxKind(kind), text)?))
+            }
+            Make::Node(kind) => Ok(Made::Tree(self.node(kind)?)),
+            Make::Edited(edit) => Ok(Made::Edited(edit.make(alloc, self.tree()?, self.token()?)?)),
+            Make::Root => Ok(Made::Cursor(SyntaxNode::new_root(alloc, self.tree()?.clone()?)?)),
+            Make::Subtree => Ok(Made::Cursor(self.subtree()?)),
+            Make::Lexed(text) => Ok(Made::Count(lex(alloc, text)?.len())),
+            Make::Parsed(text) => Ok(Made::Parse(parse(alloc, text)?)),
+            Make::ParsedOver(text) => Ok(Made::Parse(parse_with(alloc, text, &mut self.cache)?)),
+            Make::Syntax => Ok(Made::Syntax(self.parse()?.syntax(alloc)?)),
+            Make::Printed => Ok(Made::Text(self.syntax()?.debug_tree(alloc)?)),
+            Make::Text => Ok(Made::Text(self.syntax()?.to_string(alloc)?)),
+            Make::Words(words) => self.set_words(words),
+            Make::Room(bytes) => self.set_room(bytes),
+            Make::Written(text) => self.run_program(text),
+        }
+    }
+
+    /// A node over all tokens.
+    fn node(&self, kind: u16) -> Result<GreenNode, Fault> {
+        let mut children = Vec::new(self.alloc);
+        for made in self.made.as_slice() {
+            if let Made::Token(token) = made {
+                children.push(leaf(token)?)?;
+            }
+        }
+        GreenNode::new(self.alloc, SyntaxKind(kind), children)
+    }
+
+    /// A copy of what is below the place.
+    fn subtree(&self) -> Result<SyntaxNode, Fault> {
+        match &self.place {
+            Some(NodeOrToken::Node(node)) => node.clone_subtree(),
+            _ => Err(Fault::NotFound),
+        }
+    }
+
+    fn set_words(&mut self, words: &[&str]) -> Result<Made, Fault> {
+        let mut made = Vec::new(self.alloc);
+        for word in words {
+            made.push(String::from_str(self.alloc, *word)?)?;
+        }
+        self.words = made;
+        Ok(Made::Count(words.len()))
+    }
+
+    fn set_room(&mut self, bytes: usize) -> Result<Made, Fault> {
+        self.output = Vec::with_capacity(self.alloc, bytes)?;
+        Ok(Made::Count(bytes))
+    }
+
+    /// Runs the program, and counts the bytes that it wrote.
+    fn run_program(&mut self, text: &str) -> Result<Made, Fault> {
+        self.output.clear();
+        let mut input = text.as_bytes();
+        match program::run(
+            self.alloc,
+            self.words.as_slice(),
+            &mut input,
+            &mut self.output,
+        ) {
+            Ok(()) => Ok(Made::Count(self.output.len())),
+            Err(program::Stop::NoMemory) => Err(Fault::Memory),
+            Err(_) => Err(Fault::NotFound),
+        }
+    }
+
+    /// Goes where a move leads.
+    fn go(&mut self, log: &Transcript<'_>, way: Move) -> Result<(), Stop> {
+        let found = self.found(way)?;
+        log.tell(way.name(), &found)?;
+        self.place = Some(found);
+        Ok(())
+    }
+
+    fn go_to_root(&mut self, log: &Transcript<'_>, number: usize) -> Result<(), Stop> {
+        let root = self.root(number)?;
+        log.tell("root", &root)?;
+        self.place = Some(root);
+        Ok(())
+    }
+
+    /// Where a move from the place leads.
+    fn found(&self, way: Move) -> Result<SyntaxElement, Fault> {
+        way.make(self.place()?)?.ok_or(Fault::NotFound)
+    }
+
+    /// The cursor of that number of all that were made.
+    fn root(&self, number: usize) -> Result<SyntaxElement, Fault> {
+        let mut cursors = 0usize;
+        for made in self.made.as_slice() {
+            if let Made::Cursor(cursor) = made {
+                if cursors == number {
+                    return Ok(NodeOrToken::Node(cursor.clone()?));
+                }
+                cursors = cursors.saturating_add(1);
+            }
+        }
+        Err(Fault::NotFound)
+    }
+
+    fn tell_counts(&self, log: &Transcript<'_>) -> Result<(), Stop> {
+        log.tell(
+            "counts",
+            &(self.cache.token_count(), self.cache.node_count()),
+        )
+    }
+
+    /// Says whether the last two trees that were made are equal.
+    fn tell_equal(&self, log: &Transcript<'_>) -> Result<(), Stop> {
+        let mut last = None;
+        for made in self.made.as_slice().iter().rev() {
+            let Some(tree) = made.green() else {
+                continue;
+            };
+            match last {
+                None => last = Some(tree),
+                Some(other) => return log.tell("equal", &(tree == other)),
+            }
+        }
+        Err(Stop::Refused(Fault::NotFound))
+    }
+
+    fn place(&self) -> Result<&SyntaxElement, Fault> {
+        self.place.as_ref().ok_or(Fault::NotFound)
+    }
+
+    fn tree(&self) -> Result<&GreenNode, Fault> {
+        for made in self.made.as_slice().iter().rev() {
+            match made {
+                Made::Tree(tree) => return Ok(tree),
+                Made::Parse(parse) => return Ok(parse.green()),
+                _ => (),
+            }
+        }
+        Err(Fault::NotFound)
+    }
+
+    fn token(&self) -> Result<&GreenToken, Fault> {
+        for made in self.made.as_slice().iter().rev() {
+            if let Made::Token(token) = made {
+                return Ok(token);
+            }
+        }
+        Err(Fault::NotFound)
+    }
+
+    fn parse(&self) -> Result<&Parse, Fault> {
+        for made in self.made.as_slice().iter().rev() {
+            if let Made::Parse(parse) = made {
+                return Ok(parse);
+            }
+        }
+        Err(Fault::NotFound)
+    }
+
+    fn syntax(&self) -> Result<&rowan::SyntaxNode<Lang>, Fault> {
+        for made in self.made.as_slice().iter().rev() {
+            if let Made::Syntax(root) = made {
+                return Ok(root);
+            }
+        }
+        Err(Fault::NotFound)
+    }
+}

@@ -1,0 +1,49 @@
+//! The steps of the cases.
+
+use crate::calls::{Call, Way};
+use crate::making::Make;
+use crate::moving::{Listing, Move};
+use crate::transcript::Phase;
+
+/// A step of a case. The tree, the parse and so on is the last one that was made; the place is where the last step went.
+#[derive(Clone, Copy)]
+pub enum Step {
+    /// What the case does from now on.
+    Phase(Phase),
+    /// Builds by calls, with a cache of its own, and drops the tree.
+    Build(&'static [Call]),
+    /// The same, where `finish` refuses the builder after the first calls, and it goes on with the others.
+    BuildOn(&'static [Call], &'static [Call]),
+    /// The same, over the cache of the case, of which it says what it keeps then.
+    BuildOver(Way, &'static [Call]),
+    Make(Make),
+    /// How much the cache of the case keeps.
+    Counts,
+    /// What the tree is.
+    Tree,
+    /// Whether the last two trees that were made are equal, edited ones counted.
+    Equal,
+    /// How long the texts of the tree's children are.
+    Lengths,
+    /// Which child of the tree is at a range.
+    Search(u32, u32),
+    /// Where a move from the place leads.
+    Look(Move),
+    /// Goes there.
+    Go(Move),
+    /// Goes to the cursor of that number, from 0, of all that were made.
+    GoToRoot(usize),
+    /// The elements around the place.
+    List(Listing),
+    /// How the place is like the one where a move leads.
+    Compare(Move),
+    /// How the place is like the cursor of that number.
+    CompareRoot(usize),
+}
+
+/// A case: it begins by making values, and in the end it drops all.
+#[derive(Clone, Copy)]
+pub struct Case {
+    pub name: &'static str,
+    pub steps: &'static [Step],
+}
