@@ -14,10 +14,7 @@ fn call(alloc: Global) -> Result<GreenNode, Fault> {
     builder.token(NAME, "print")?;
     builder.token(NAME, "()")?;
     builder.finish_node()?;
-    match builder.finish() {
-        Ok(tree) => Ok(tree),
-        Err(unfinished) => Err(unfinished.fault()),
-    }
+    Ok(builder.finish()?)
 }
 
 fn second_child(alloc: Global, tree: GreenNode) -> Result<Option<TextRange>, Fault> {

@@ -334,8 +334,9 @@ impl<'cache, H: CacheHome> Unfinished<'cache, H> {
     }
 }
 
-/// Why there is no tree. So `builder.finish()?` stands in a function that answers a `Fault`; the builder is dropped, which gives
-/// a lent cache back. A contract that says what the lent cache then has takes the cases apart by `match`.
+/// Why there is no tree. So a function that answers a `Fault` has `builder.finish()?` where the cache is the builder's own, and
+/// `builder.finish().map_err(Fault::from)?` where it is lent. The builder is dropped, which gives a lent cache back: a contract
+/// that says what it then has takes the two cases apart by `match`.
 impl<H: CacheHome> From<Unfinished<'_, H>> for Fault {
     ghost from_gives = { λ u fault. fault ≡ fault_of u };
 
