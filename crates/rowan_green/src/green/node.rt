@@ -86,6 +86,23 @@ impl GreenChild {
     }
 }
 
+impl Clone for GreenChild {
+    ghost is_clone = { λ child copy. copy ≡ child };
+
+    fn clone(&self) -> Result<GreenChild, AllocError> {
+        match self {
+            GreenChild::Node { rel_offset, node } => Ok(GreenChild::Node {
+                rel_offset: *rel_offset,
+                node: node.clone()?,
+            }),
+            GreenChild::Token { rel_offset, token } => Ok(GreenChild::Token {
+                rel_offset: *rel_offset,
+                token: token.clone()?,
+            }),
+        }
+    }
+}
+
 /// The children of a node that is being made, within the limits so far.
 #[derive(Drop)]
 struct NodeDraft {
@@ -244,7 +261,8 @@ impl GreenNode {
 
     /// The children, in their order. Takes no memory.
     pub fn children(&self) -> Children<'_>
-        ensures { result ≡ node_children self.now }
+        ensures list { result ≡ node_children self.now }
+        ensures within { AreWithin (node_children self.now) }
     {
         Children::new(self.data.children.as_slice())
     }
@@ -254,6 +272,7 @@ impl GreenNode {
         ensures some { IfSome result (λ p. (p.0 ≡ sum_of_lens (take index (node_children self.now)))
             × (slice_get (node_children self.now) index ≡ Some (pointee p.1))) }
         ensures none { IsNone result ↔ length (node_children self.now) ≤ index }
+        ensures within { AreWithin (node_children self.now) }
     {
         let child = self.data.children.get(index)?;
         Some((child.rel_offset(), child.as_ref()))

@@ -9,6 +9,7 @@ ghost use Rattle.rowan_green.specs.Term.{node_children};
 use super::{GreenChild, GreenNode, NodeDraft};
 use crate::fault::Fault;
 use crate::green::GreenElement;
+use std::alloc::AllocError;
 use std::ops::Range;
 
 impl NodeDraft {
@@ -103,15 +104,20 @@ impl GreenNode {
     }
 
     // A draft of the children before an index, with room for this many children.
-    fn draft_before(&self, index: usize, room: usize) -> Result<NodeDraft, Fault>
+    fn draft_before(&self, index: usize, room: usize) -> Result<NodeDraft, AllocError>
         requires { index ≤ length (node_children self.now) }
-        ensures ok { IfOk result (λ d. d ≡ take index (node_children self.now)) }
-        ensures err { IfErr result (λ e. e ≡ Fault.Memory) }
+        ensures { IfOk result (λ d. d ≡ take index (node_children self.now)) }
     {
-        let (before, _) = self.data.children.split_at(index);
-        let mut draft = NodeDraft::new(Vec::with_capacity(*self.data.children.allocator(), room)?);
-        draft.share(before)?;
-        Ok(draft)
+        let shared = self.data.children.as_slice();
+        let mut children = Vec::with_capacity(*self.data.children.allocator(), room)?;
+        for child in shared.split_at(index).0 {
+            children.push(child.clone()?)?;
+        }
+        let text_len = match shared.get(index) {
+            Some(next) => next.rel_offset(),
+            None => self.data.text_len,
+        };
+        Ok(NodeDraft { text_len, children })
     }
 
     // The node of a draft and the children from an index on.
