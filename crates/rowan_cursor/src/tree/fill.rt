@@ -112,11 +112,7 @@ fn child_count(kept: &Kept) -> u32
     ensures { result ≡ length (children_in (green_in kept.now)) }
 {
     match kept {
-        Kept::OfNode(_, node) => {
-            // What has a length is within the limits.
-            let _len = node.text_len();
-            node.children().len() as u32
-        }
+        Kept::OfNode(_, node) => node.children().len() as u32,
         Kept::OfToken(_) => 0,
     }
 }

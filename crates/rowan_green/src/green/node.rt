@@ -22,7 +22,8 @@ use std::marker::Model;
 use std::mem;
 use std::rc::Rc;
 
-/// An inner part of a tree: a kind and a list of children. A clone shares them.
+/// An inner part of a tree: a kind and a list of children. A clone shares them, and is an `Err` where the node cannot be shared
+/// once more, since the count of its owners is full.
 #[cycle(green)]
 pub struct GreenNode {
     data: Rc<NodeData>,
@@ -267,7 +268,7 @@ impl GreenNode {
         Children::new(self.data.children.as_slice())
     }
 
-    /// The child at an index with its offset, which counts from the node's own start. `None` past the last child.
+    /// The child at an index with its offset in bytes, which counts from the node's own start. `None` past the last child.
     pub fn child_ref(&self, index: usize) -> Option<(TextSize, GreenElementRef<'_>)>
         ensures some { IfSome result (λ p. (p.0 ≡ sum_of_lens (take index (node_children self.now)))
             × (slice_get (node_children self.now) index ≡ Some (pointee p.1))) }
@@ -278,10 +279,10 @@ impl GreenNode {
         Some((child.rel_offset(), child.as_ref()))
     }
 
-    /// The child at a range, with its index and its offset, where all offsets count from the node's own start: the child that has
-    /// all bytes of the range. An empty range is a place between bytes, and the child there is the one with bytes on both sides of
-    /// it, else the last one that ends there, else the first one, if it begins there. Compares at most as many children as their
-    /// number has binary digits, and counts these comparisons. Takes no memory.
+    /// The child at a range, with its index and its offset, where all offsets count in bytes from the node's own start: the child
+    /// that has all bytes of the range. An empty range is a place between bytes, and the child there is the one with bytes on
+    /// both sides of it, else the last one that ends there, else the first one, if it begins there. `None` where there is no such
+    /// child. Compares at most as many children as their number has binary digits, and counts these comparisons. Takes no memory.
     pub fn child_at_range(
         &self,
         range: TextRange,
