@@ -5,7 +5,7 @@ use Rattle.std.proofs.Common.{inl, inr}
 use Rattle.rowan_green.specs.declared.fault.Fault.{Fault}
 use Rattle.rowan_green.specs.declared.fault.Fault.TheVariants.{TextTooLong, TooManyChildren, CheckpointPast, CheckpointBefore, NothingOpen, NotOneElement, NotANode, OtherKind, NotFound, Memory, UnknownMark, NotOneList}
 use Rattle.rowan_green.specs.declared.utility_types.NodeOrToken.TheVariants.{Node, Token}
-use Rattle.rowan_green.specs.Fault.{number_of}
+use Rattle.rowan_green.specs.Fault.{fault_number}
 use Rattle.rowan_cursor.specs.Cursor.{Cursor}
 use Rattle.rowan_cursor.specs.CursorCode.{coded_cursor}
 use Rattle.rowan_cursor.specs.Moves.{Element}
@@ -19,7 +19,7 @@ faults =
 abbrev fault_at : ℕ → Fault
 fault_at n = get_or faults n Memory
 
-pub fault_at-number : (f : Fault) → fault_at (number_of f) ≡ f
+pub fault_at-number : (f : Fault) → fault_at (fault_number f) ≡ f
 fault_at-number TextTooLong = refl
 fault_at-number TooManyChildren = refl
 fault_at-number CheckpointPast = refl
@@ -34,7 +34,7 @@ fault_at-number UnknownMark = refl
 fault_at-number NotOneList = refl
 
 abbrev coded_fault : Coded Fault
-coded_fault = code_by ℕ coded_ℕ number_of fault_at fault_at-number
+coded_fault = code_by ℕ coded_ℕ fault_number fault_at fault_at-number
 
 abbrev cursor_cases : Element → Cursor ⊎ Cursor
 cursor_cases (Node c) = inl c

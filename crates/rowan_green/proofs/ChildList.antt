@@ -15,11 +15,11 @@ pub length-children : (d : NodeData) (n : NodeTerm) → node_view d ≡ n → le
 length-children d n e = ap length (sym (children-view d n e)) ∙ length-map d.children.items child_term
 
 -- the child at an index, in memory and in the term
-pub record IsChildAt (at : ℕ) (ts : List Term) (i : ℕ) (c : GreenChild) : Type 0 where
+pub record StandsAt (at : ℕ) (ts : List Term) (i : ℕ) (c : GreenChild) : Type 0 where
   pub offset : child_offset c ≡ at + sum_of_lens (take i ts)
   pub term : slice_get ts i ≡ Some (child_term c)
 
-pub child-at : (at : ℕ) (cs : List GreenChild) (i : ℕ) (c : GreenChild) → HasOffsetsFrom at cs → i < length cs → c ≡ get_or cs i c → IsChildAt at (map child_term cs) i c
+pub child-at : (at : ℕ) (cs : List GreenChild) (i : ℕ) (c : GreenChild) → HasOffsetsFrom at cs → i < length cs → c ≡ get_or cs i c → StandsAt at (map child_term cs) i c
 child-at at [] i c h l e = absurd (omega arith)
 child-at at (d ∷ cs) zero c h l e = record { offset = (let p : child_offset c ≡ at = ap child_offset e ∙ h.0 in omega (arith, p)); term = ap (λ x. Some (child_term x)) (sym e) }
 child-at at (d ∷ cs) (suc i) c h l e =

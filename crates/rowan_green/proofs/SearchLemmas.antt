@@ -88,15 +88,15 @@ pub inside-node : (ts : List Term) (a b k : ℕ) → IsChildAt ts a b k → b �
 inside-node ts a b k p = omega (arith, (bounds ts a b k p).to, child_start-le_all ts (k + 1))
 
 -- A search that has found a child which lies over some of the range.
-found-is : (ts : List Term) (a b k : ℕ) → a ≤ b → a < child_end ts k → child_start ts k < b → HasRange ts a b k → IsChildAt ts a b k
-found-is ts a b k ab behind before r =
+overlap-is : (ts : List Term) (a b k : ℕ) → a ≤ b → a < child_end ts k → child_start ts k < b → HasRange ts a b k → IsChildAt ts a b k
+overlap-is ts a b k ab behind before r =
     elim (cases_lt a b) [
       | inl h ↦ has_bytes h r
       | inr h ↦ has_place (omega arith) record { place = r.place; before = omega arith; behind = behind }
     ]
 
-found-only : (ts : List Term) (a b k j : ℕ) → a < child_end ts k → child_start ts k < b → Bounds ts a b j → j ≡ k
-found-only ts a b k j behind before x =
+overlap-only : (ts : List Term) (a b k j : ℕ) → a < child_end ts k → child_start ts k < b → Bounds ts a b j → j ≡ k
+overlap-only ts a b k j behind before x =
     elim (cases_order j k) [
       | inl e ↦ e
       | inr p ↦ elim p [
@@ -105,11 +105,11 @@ found-only ts a b k j behind before x =
       ]
     ]
 
-pub found : (ts : List Term) (a b k : ℕ) → a ≤ b → a < child_end ts k → child_start ts k < b → IsOnlyChoice ts a b k
-found ts a b k ab behind before = record {
-  is = found-is ts a b k ab behind before;
+pub overlap-choice : (ts : List Term) (a b k : ℕ) → a ≤ b → a < child_end ts k → child_start ts k < b → IsOnlyChoice ts a b k
+overlap-choice ts a b k ab behind before = record {
+  is = overlap-is ts a b k ab behind before;
   only = λ j p.
-      let e = found-only ts a b k j behind before (bounds ts a b j p) in
+      let e = overlap-only ts a b k j behind before (bounds ts a b j p) in
       (e, subst (HasRange ts a b) e (has-range ts a b j p));
 }
 

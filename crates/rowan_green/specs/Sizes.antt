@@ -1,4 +1,4 @@
--- The number of nodes and tokens that a list of children holds, at every level.
+-- How large a list of children is, at every level: 1 for each child, and 1 more where it is a node.
 use Rattle.std.specs.Prelude.{ℕ, ◌+◌, List, [], ◌∷◌, map}
 use Rattle.rowan_green.specs.declared.utility_types.NodeOrToken.TheVariants.{Node, Token}
 use Rattle.rowan_green.specs.declared.green.node.GreenChild.{GreenChild}

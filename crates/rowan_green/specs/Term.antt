@@ -89,7 +89,7 @@ sum_of_lens [] = 0
 sum_of_lens (t ∷ ts) = term_len t + sum_of_lens ts
 
 abbrev mutual
-  -- the number of nodes and tokens of a term, itself included
+  -- how large a node is, which what goes through it counts down: 1 for each node and for each child
   pub node_size : NodeTerm → ℕ
   node_size (node k f) = forest_size f + 1
 

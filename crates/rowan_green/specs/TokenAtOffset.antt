@@ -5,10 +5,10 @@ use Rattle.rowan_green.specs.declared.utility_types.TokenAtOffset.{TokenAtOffset
 use Rattle.rowan_green.specs.declared.utility_types.TokenAtOffset.TheVariants.{None as Neither, Single, Between}
 
 -- the tokens from left to right
-abbrev pub found : {T : Type 0} → TokenAtOffset T → List T
-found Neither = []
-found (Single x) = x ∷ []
-found (Between x y) = x ∷ y ∷ []
+abbrev pub tokens_of : {T : Type 0} → TokenAtOffset T → List T
+tokens_of Neither = []
+tokens_of (Single x) = x ∷ []
+tokens_of (Between x y) = x ∷ y ∷ []
 
 -- as many tokens, each by a call of f, the left one before the right: `Calls f x u g` says that a call at x gave u and left g
 abbrev pub MapsInOrder : {F T U : Type 0} → (F → T → U → F → Type 0) → F

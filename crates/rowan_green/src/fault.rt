@@ -1,5 +1,5 @@
 ghost use Rattle.std.specs.Prelude.{◌≡◌};
-ghost use Rattle.rowan_green.specs.Fault.{number_of};
+ghost use Rattle.rowan_green.specs.Fault.{fault_number};
 ghost use Rattle.rowan_green.specs.declared.fault.Fault.TheVariants.{Memory};
 
 use std::alloc::{AllocError, AllocFailed};
@@ -49,7 +49,7 @@ pub enum Fault {
 impl Fault {
     /// The number of the refusal, from 1 to 12, in the order of the variants.
     pub fn number(self) -> u8
-        ensures { result ≡ number_of self }
+        ensures { result ≡ fault_number self }
     {
         match self {
             Fault::TextTooLong => 1,

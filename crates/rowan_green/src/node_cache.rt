@@ -33,7 +33,7 @@ type Numbers<K> = HashMap<u16, HashMap<K, usize>>;
 /// Stores equal tokens once, and equal nodes of at most so many children, whose children it stores too.
 ///
 /// A contract sees a cache as its limit and the list of the terms that it keeps, in the order in which it was first asked for
-/// them. The place of a term in that list is its number.
+/// them. The place of a term in that list is its number. No call of a cache is refused; a builder that asks it may be.
 #[derive(Drop)]
 pub struct NodeCache {
     alloc: Global,
@@ -216,7 +216,8 @@ fn write_numbers(
     children: &[Interned],
 ) -> Result<bool, AllocError>
     ensures kept { IfOk result (λ kept. kept ≡ gets_number limit children.now) }
-    ensures numbers { IfOk result (λ kept. kept ≡ true → ListsNumbers children.now numbers.new.items) }
+    ensures numbers { IfOk result (λ kept.
+        kept ≡ true → ListsNumbers children.now numbers.new.items) }
 {
     numbers.clear();
     if children.len() > limit {

@@ -26,7 +26,7 @@ impl Model for TextSize {
 }
 
 impl TextSize {
-    /// The length of a text.
+    /// The length of a text, in bytes.
     pub fn of<T: TextLen>(text: T) -> TextSize
         requires { length (T.bytes text) ≤ byte_limit }
         ensures { result ≡ length (T.bytes text) }
@@ -80,7 +80,7 @@ impl From<TextSize> for u32 {
 pub trait TextLen: Copy {
     ghost bytes: { Self → List ℕ };
 
-    /// The length of this text, which is within the limit of a `TextSize`.
+    /// The length of this text in bytes of UTF-8, which has to be within the limit of a `TextSize`.
     fn text_len(self) -> TextSize
         requires { length (bytes self) ≤ byte_limit }
         ensures { result ≡ length (bytes self) };
@@ -94,7 +94,7 @@ impl TextLen for &str {
     }
 }
 
-/// A range of text: from a start to an end, which does not lie before it.
+/// A range of text, in bytes: from a start to an end, which does not lie before it.
 #[derive(Clone, Copy, PartialEq, Eq, Hash)]
 pub struct TextRange {
     start: TextSize,
@@ -192,8 +192,8 @@ impl TextRange {
         Some(TextRange::new(start, end))
     }
 
-    /// `Less` where this range ends before the other starts, `Greater` the other way round, and `Equal` where they overlap. Ranges
-    /// that only touch do not overlap.
+    /// `Less` where this range ends before the other starts, `Greater` the other way round, and `Equal` where they overlap.
+    /// Ranges that only touch do not overlap.
     pub fn ordering(self, other: TextRange) -> Ordering
         ensures less { (result ≡ Ordering.Less) ↔ EndsBefore self other }
         ensures greater { (result ≡ Ordering.Greater) ↔ StartsBehind self other }

@@ -5,10 +5,12 @@ ghost use Rattle.std.specs.Option.{option_copied};
 
 use std::{fmt, mem};
 
-/// A node or a token.
+/// A node or a token, each of a type of its own.
 #[derive(Clone, Copy, PartialEq, Eq, PartialOrd, Ord, Hash, Debug, Drop)]
 pub enum NodeOrToken<N, T> {
+    /// An inner part of a tree, which has children.
     Node(N),
+    /// A leaf of a tree, which has a text of its own.
     Token(T),
 }
 
@@ -53,7 +55,7 @@ impl<N, T> NodeOrToken<N, T> {
         self.as_ref().into_token()
     }
 
-    /// The same, lent.
+    /// The node or the token, lent.
     pub fn as_ref(&self) -> NodeOrToken<&N, &T>
         ensures { pointee result ≡ self.now }
     {
@@ -80,7 +82,9 @@ impl<N: fmt::Display, T: fmt::Display> fmt::Display for NodeOrToken<N, T> {
 /// The way along a list of siblings or tokens: to the next one, or back to the one before.
 #[derive(Clone, Copy, PartialEq, Eq, PartialOrd, Ord, Hash, Debug)]
 pub enum Direction {
+    /// From left to right.
     Next,
+    /// From right to left.
     Prev,
 }
 
@@ -96,7 +100,7 @@ pub enum WalkEvent<T> {
 impl<T> WalkEvent<T> {
     ghost use Rattle.rowan_green.specs.WalkEvent.{event_value, SameEvent};
 
-    /// The same event, at what `f` makes of its value.
+    /// An `Enter` of an `Enter` and a `Leave` of a `Leave`, at what `f` makes of the value.
     pub fn map<F: FnOnce(T) -> U, U>(self, f: F) -> WalkEvent<U>
         requires { F.pre f (event_value self) }
         ensures { SameEvent (F.post f) self result }
@@ -120,7 +124,7 @@ pub enum TokenAtOffset<T> {
 }
 
 impl<T> TokenAtOffset<T> {
-    ghost use Rattle.rowan_green.specs.TokenAtOffset.{found, MapsInOrder};
+    ghost use Rattle.rowan_green.specs.TokenAtOffset.{tokens_of, MapsInOrder};
 
     /// As many tokens, each made by `f`, the left one first.
     pub fn map<F: FnMut(T) -> U, U>(self, mut f: F) -> TokenAtOffset<U>
@@ -142,7 +146,7 @@ impl<T> TokenAtOffset<T> {
     pub fn right_biased(self) -> Option<T>
     where
         T: Drop,
-        ensures { result ≡ last_or None (found self) }
+        ensures { result ≡ last_or None (tokens_of self) }
     {
         match self {
             TokenAtOffset::None => None,
@@ -155,7 +159,7 @@ impl<T> TokenAtOffset<T> {
     pub fn left_biased(self) -> Option<T>
     where
         T: Drop,
-        ensures { result ≡ slice_get (found self) 0 }
+        ensures { result ≡ slice_get (tokens_of self) 0 }
     {
         match self {
             TokenAtOffset::None => None,
@@ -171,11 +175,11 @@ impl<T: Drop> Iterator for TokenAtOffset<T> {
     ghost use Rattle.std.specs.Prelude.{length, IfSome, Some};
     ghost use Rattle.std.specs.Iterator.{YieldsFirst, item_count, UpTo};
     ghost use Rattle.std.specs.Iterator.SizeHint.{IsWithinCount};
-    ghost use Rattle.rowan_green.specs.TokenAtOffset.{found};
+    ghost use Rattle.rowan_green.specs.TokenAtOffset.{tokens_of};
 
-    ghost next_gives = { YieldsFirst found };
+    ghost next_gives = { YieldsFirst tokens_of };
 
-    ghost remaining = { item_count found };
+    ghost remaining = { item_count tokens_of };
 
     fn next(&mut self) -> Option<T> {
         match mem::replace(self, TokenAtOffset::None) {
@@ -189,9 +193,9 @@ impl<T: Drop> Iterator for TokenAtOffset<T> {
     }
 
     fn size_hint(&self) -> (usize, Option<usize>)
-        ensures lower { IsWithinCount result.0 (item_count found self.now) }
-        ensures upper { IfSome result.1 (UpTo (item_count found self.now)) }
-        ensures exact { result ≡ (length (found self.now), Some (length (found self.now))) }
+        ensures lower { IsWithinCount result.0 (item_count tokens_of self.now) }
+        ensures upper { IfSome result.1 (UpTo (item_count tokens_of self.now)) }
+        ensures exact { result ≡ (length (tokens_of self.now), Some (length (tokens_of self.now))) }
     {
         (self.len(), Some(self.len()))
     }

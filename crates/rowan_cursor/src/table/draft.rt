@@ -108,11 +108,7 @@ fn child_count(content: &Content) -> u32
     ensures { result ≡ length (children_in (green_in content.now)) }
 {
     match content {
-        Content::OfNode(_, node) => {
-            // What has a length is within the limits.
-            let _len = node.text_len();
-            node.children().len() as u32
-        }
+        Content::OfNode(_, node) => node.children().len() as u32,
         Content::OfToken(_) => 0,
     }
 }

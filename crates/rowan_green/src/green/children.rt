@@ -39,13 +39,11 @@ impl<'a> Children<'a> {
         Children { rest }
     }
 
-    // What is left after a child that cannot be shared: nothing.
-    fn end(&mut self) -> Fault
-        ensures end { self.new ≡ [] }
-        ensures memory { result ≡ Fault.Memory }
+    // Leaves nothing, as after a child that cannot be shared.
+    fn end(&mut self)
+        ensures { self.new ≡ [] }
     {
         self.rest = &[];
-        Fault::Memory
     }
 }
 
@@ -63,12 +61,15 @@ impl<'a> Iterator for Children<'a> {
 
     fn next(&mut self) -> Option<Result<GreenElement, Fault>> {
         let (first, rest) = self.rest.split_first()?;
-        match first.as_ref().to_owned() {
+        match first.as_ref().share() {
             Ok(element) => {
                 self.rest = rest;
                 Some(Ok(element))
             }
-            Err(_) => Some(Err(self.end())),
+            Err(refused) => {
+                self.end();
+                Some(Err(Fault::from(refused)))
+            }
         }
     }
 
@@ -88,12 +89,15 @@ impl<'a> DoubleEndedIterator for Children<'a> {
 
     fn next_back(&mut self) -> Option<Result<GreenElement, Fault>> {
         let (last, rest) = self.rest.split_last()?;
-        match last.as_ref().to_owned() {
+        match last.as_ref().share() {
             Ok(element) => {
                 self.rest = rest;
                 Some(Ok(element))
             }
-            Err(_) => Some(Err(self.end())),
+            Err(refused) => {
+                self.end();
+                Some(Err(Fault::from(refused)))
+            }
         }
     }
 }

@@ -9,10 +9,10 @@ use crate::text::TextSize;
 use crate::utility_types::NodeOrToken;
 use std::alloc::AllocError;
 
-/// A green node or token.
+/// A green node or token. It is made from either by `From`.
 pub type GreenElement = NodeOrToken<GreenNode, GreenToken>;
 
-/// A green node or token that is lent.
+/// A green node or token that is lent. `to_owned` shares it, and is the only call whose answer may be an `Err`.
 pub type GreenElementRef<'a> = NodeOrToken<&'a GreenNode, &'a GreenToken>;
 
 impl GreenElement {

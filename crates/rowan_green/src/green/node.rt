@@ -22,7 +22,8 @@ use std::marker::Model;
 use std::mem;
 use std::rc::Rc;
 
-/// An inner part of a tree: a kind and a list of children. A clone shares them.
+/// An inner part of a tree: a kind and a list of children. A clone shares them, and is an `Err` where the node cannot be shared
+/// once more, since the count of its owners is full.
 #[cycle(green)]
 pub struct GreenNode {
     data: Rc<NodeData>,
@@ -82,6 +83,23 @@ impl GreenChild {
         match self {
             GreenChild::Node { node, .. } => NodeOrToken::Node(node),
             GreenChild::Token { token, .. } => NodeOrToken::Token(token),
+        }
+    }
+}
+
+impl Clone for GreenChild {
+    ghost is_clone = { λ child copy. copy ≡ child };
+
+    fn clone(&self) -> Result<GreenChild, AllocError> {
+        match self {
+            GreenChild::Node { rel_offset, node } => Ok(GreenChild::Node {
+                rel_offset: *rel_offset,
+                node: node.clone()?,
+            }),
+            GreenChild::Token { rel_offset, token } => Ok(GreenChild::Token {
+                rel_offset: *rel_offset,
+                token: token.clone()?,
+            }),
         }
     }
 }
@@ -244,25 +262,27 @@ impl GreenNode {
 
     /// The children, in their order. Takes no memory.
     pub fn children(&self) -> Children<'_>
-        ensures { result ≡ node_children self.now }
+        ensures list { result ≡ node_children self.now }
+        ensures within { AreWithin (node_children self.now) }
     {
         Children::new(self.data.children.as_slice())
     }
 
-    /// The child at an index with its offset, which counts from the node's own start. `None` past the last child.
+    /// The child at an index with its offset in bytes, which counts from the node's own start. `None` past the last child.
     pub fn child_ref(&self, index: usize) -> Option<(TextSize, GreenElementRef<'_>)>
         ensures some { IfSome result (λ p. (p.0 ≡ sum_of_lens (take index (node_children self.now)))
             × (slice_get (node_children self.now) index ≡ Some (pointee p.1))) }
         ensures none { IsNone result ↔ length (node_children self.now) ≤ index }
+        ensures within { AreWithin (node_children self.now) }
     {
         let child = self.data.children.get(index)?;
         Some((child.rel_offset(), child.as_ref()))
     }
 
-    /// The child at a range, with its index and its offset, where all offsets count from the node's own start: the child that has
-    /// all bytes of the range. An empty range is a place between bytes, and the child there is the one with bytes on both sides of
-    /// it, else the last one that ends there, else the first one, if it begins there. Compares at most as many children as their
-    /// number has binary digits, and counts these comparisons. Takes no memory.
+    /// The child at a range, with its index and its offset, where all offsets count in bytes from the node's own start: the child
+    /// that has all bytes of the range. An empty range is a place between bytes, and the child there is the one with bytes on
+    /// both sides of it, else the last one that ends there, else the first one, if it begins there. `None` where there is no such
+    /// child. Compares at most as many children as their number has binary digits, and counts these comparisons. Takes no memory.
     pub fn child_at_range(
         &self,
         range: TextRange,

@@ -12,7 +12,8 @@ use std::hash::{Hash, Hasher};
 use std::marker::Model;
 use std::rc::Rc;
 
-/// A leaf of a tree: a kind and a text, which may be empty. A clone shares the text.
+/// A leaf of a tree: a kind and a text in UTF-8, which may be empty. A clone shares the text, and is an `Err` where the token
+/// cannot be shared once more, since the count of its owners is full.
 #[derive(Drop)]
 pub struct GreenToken {
     data: Rc<TokenData>,

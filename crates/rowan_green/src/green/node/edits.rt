@@ -9,13 +9,14 @@ ghost use Rattle.rowan_green.specs.Term.{node_children};
 use super::{GreenChild, GreenNode, NodeDraft};
 use crate::fault::Fault;
 use crate::green::GreenElement;
+use std::alloc::AllocError;
 use std::ops::Range;
 
 impl NodeDraft {
     ghost use Rattle.rowan_green.specs.View.{child_term};
 
     // Adds children that stay where they are, too.
-    fn share(&mut self, children: &[GreenChild]) -> Result<(), Fault>
+    fn push_shared(&mut self, children: &[GreenChild]) -> Result<(), Fault>
         ensures ok { OnOk result (self.new ≡ self.old ++ map child_term children.now) }
         ensures err { IfErr result (WhyNoNode (self.old ++ map child_term children.now)) }
     {
@@ -43,7 +44,7 @@ impl GreenNode {
         self.finish_after(draft, index + 1)
     }
 
-    /// The node with one more child, before the one at an index or at the end.
+    /// The node with one more child, before the one at an index or at the end. It is refused as `GreenNode::new` is.
     pub fn insert_child(&self, index: usize, new_child: GreenElement) -> Result<GreenNode, Fault>
         requires { index ≤ length (node_children self.now) }
         ensures ok { IfOk result (IsEditOf self.now (λ ts. inserted ts index new_child)) }
@@ -65,7 +66,8 @@ impl GreenNode {
         self.finish_after(draft, index + 1)
     }
 
-    /// The node with the children that an iterator gives in place of those of a range.
+    /// The node with the children that an iterator gives in place of those of a range. The first child at which a limit is passed
+    /// decides how it is refused, as for `GreenNode::new`; the children behind the range count once the iterator has ended.
     pub fn splice_children<I: IntoIterator<Item = GreenElement>>(
         &self,
         range: Range<usize>,
@@ -103,15 +105,20 @@ impl GreenNode {
     }
 
     // A draft of the children before an index, with room for this many children.
-    fn draft_before(&self, index: usize, room: usize) -> Result<NodeDraft, Fault>
+    fn draft_before(&self, index: usize, room: usize) -> Result<NodeDraft, AllocError>
         requires { index ≤ length (node_children self.now) }
-        ensures ok { IfOk result (λ d. d ≡ take index (node_children self.now)) }
-        ensures err { IfErr result (λ e. e ≡ Fault.Memory) }
+        ensures { IfOk result (λ d. d ≡ take index (node_children self.now)) }
     {
-        let (before, _) = self.data.children.split_at(index);
-        let mut draft = NodeDraft::new(Vec::with_capacity(*self.data.children.allocator(), room)?);
-        draft.share(before)?;
-        Ok(draft)
+        let shared = self.data.children.as_slice();
+        let mut children = Vec::with_capacity(*self.data.children.allocator(), room)?;
+        for child in shared.split_at(index).0 {
+            children.push(child.clone()?)?;
+        }
+        let text_len = match shared.get(index) {
+            Some(next) => next.rel_offset(),
+            None => self.data.text_len,
+        };
+        Ok(NodeDraft { text_len, children })
     }
 
     // The node of a draft and the children from an index on.
@@ -121,7 +128,7 @@ impl GreenNode {
         ensures err { IfErr result (WhyNoNode (draft ++ drop index (node_children self.now))) }
     {
         let (_, behind) = self.data.children.split_at(index);
-        draft.share(behind)?;
+        draft.push_shared(behind)?;
         Ok(draft.finish(*self.data.children.allocator(), self.kind())?)
     }
 }

@@ -1,6 +1,6 @@
 use Rattle.std.proofs.Common.{◌≡◌, map, refl, subst, arith}
 use Rattle.rowan_green.specs.View.{child_term}
-use Rattle.rowan_green.proofs.SearchLemmas.{IsNarrowed, narrowed-less, narrowed-greater, found, border, IsCounted-step}
+use Rattle.rowan_green.proofs.SearchLemmas.{IsNarrowed, narrowed-less, narrowed-greater, overlap-choice, border, IsCounted-step}
 use Rattle.rowan_green.proofs.green.node.GreenChild.search.Goals as goal
 
 pub loop-low-preserved-in-Less : goal.loop-low-preserved-in-Less
@@ -21,7 +21,7 @@ loop-low-preserved c =
 pub returns-in-Equal-clause-choice : goal.returns-in-Equal-clause-choice
 returns-in-Equal-clause-choice c =
     let over = c.in-Equal.ensures.equal refl in
-    λ ordered. found _ _ _ _ ordered over.0 over.1
+    λ ordered. overlap-choice _ _ _ _ ordered over.0 over.1
 
 pub returns-in-Equal-clause-most : goal.returns-in-Equal-clause-most
 returns-in-Equal-clause-most c =

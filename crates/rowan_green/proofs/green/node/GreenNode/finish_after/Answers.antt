@@ -13,20 +13,20 @@ split_at-requires c =
     let terms = ap (map child_term) items ∙ children-view c.self.inside.data.value c.args.self.now c.self.view_is in
     omega (arith, c.requires, ap length terms, length-map c.deref-2.result.now child_term)
 
-pub returns-in_err-share-clause-err : goal.returns-in_err-share-clause-err
-returns-in_err-share-clause-err c =
+pub returns-in_err-push_shared-clause-err : goal.returns-in_err-push_shared-clause-err
+returns-in_err-push_shared-clause-err c =
     let p = err_from_is_err_and c.from_residual.result c.from_residual.ensures.1 in
     let items = c.deref-2.ensures.value ∙ ap (λ d. d.children.items) c.deref.ensures in
     let terms = ap (map child_term) items ∙ children-view c.self.inside.data.value c.args.self.now c.self.view_is in
     let back = ap (map child_term) c.split_at.ensures.back ∙ drop-children c.args.index c.deref-2.result.now (node_children c.args.self.now) terms in
-    rw (p.1, p.2) (λ not_memory. subst (λ ts. PassesLimit (c.args.draft ++ ts) c.in_err-share.field-0.0) back (c.in_err-share.ensures.err not_memory))
+    rw (p.1, p.2) (λ not_memory. subst (λ ts. PassesLimit (c.args.draft ++ ts) c.in_err-push_shared.field-0.0) back (c.in_err-push_shared.ensures.err not_memory))
 
 pub returns-clause-ok : goal.returns-clause-ok
 returns-clause-ok c =
     let items = c.deref-2.ensures.value ∙ ap (λ d. d.children.items) c.deref.ensures in
     let terms = ap (map child_term) items ∙ children-view c.self.inside.data.value c.args.self.now c.self.view_is in
     let back = ap (map child_term) c.split_at.ensures.back ∙ drop-children c.args.index c.deref-2.result.now (node_children c.args.self.now) terms in
-    let whole = c.in_ok-share.ensures.ok ∙ ap (λ ts. c.args.draft ++ ts) back in (
-      c.in_ok-finish.ensures.ok ∙ ap (λ k. node_of k c.share.new.self) c.kind.ensures ∙ ap (node_of (node_kind c.args.self.now)) whole,
+    let whole = c.in_ok-push_shared.ensures.ok ∙ ap (λ ts. c.args.draft ++ ts) back in (
+      c.in_ok-finish.ensures.ok ∙ ap (λ k. node_of k c.push_shared.new.self) c.kind.ensures ∙ ap (node_of (node_kind c.args.self.now)) whole,
       subst AreWithin whole c.in_ok-finish.ensures.within,
     )

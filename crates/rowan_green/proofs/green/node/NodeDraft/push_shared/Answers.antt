@@ -5,7 +5,7 @@ use Rattle.rowan_green.specs.declared.green.node.GreenChild.{GreenChild}
 use Rattle.rowan_green.specs.Fits.{AreWithin, ChildPasses}
 use Rattle.rowan_green.specs.Term.{Term}
 use Rattle.rowan_green.specs.View.{child_term}
-use Rattle.rowan_green.proofs.green.node.NodeDraft.share.Goals as goal
+use Rattle.rowan_green.proofs.green.node.NodeDraft.push_shared.Goals as goal
 
 pub returns-in_err-push-clause-err : goal.returns-in_err-push-clause-err
 returns-in_err-push-clause-err c =
