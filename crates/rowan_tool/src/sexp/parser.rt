@@ -20,6 +20,12 @@ use std::alloc::Global;
 /// Parses a text. The tree holds each byte of it: a list that is never closed runs to the end of the text, and a parenthesis
 /// that closes no list stands in a node of its own. Refused with `TextTooLong` for a text of more than 4,294,967,295 bytes,
 /// before anything else, and else only for want of memory.
+///
+/// ```rust
+/// let parse = sexp::parse(alloc, "(+ 1 2")?;
+/// println!(rt; "{}", parse.green())?;                             // (+ 1 2
+/// println!(rt; "{}", parse.syntax(alloc)?.debug_tree(alloc)?)?;    // ROOT@0..6, and the lines below it
+/// ```
 pub fn parse(alloc: Global, text: &str) -> Result<Parse, Fault>
     ensures text { IfOk result (λ p. node_text p ≡ text.now) }
     ensures err { IfErr result (λ e. e ≢ Fault.Memory → e ≡ Fault.TextTooLong) }
