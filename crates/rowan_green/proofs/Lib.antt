@@ -5,7 +5,9 @@ pub mod Drops
 pub mod EditLaws
 pub mod EditLemmas
 pub mod IndexLemmas
+pub mod LeafLaws
 pub mod NumberLemmas
+pub mod OffsetLemmas
 pub mod Paths
 pub mod SearchLemmas
 pub mod Sound

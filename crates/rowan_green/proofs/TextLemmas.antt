@@ -30,7 +30,8 @@ text-wrap v w c k a =
 pub text-finished : (w : List Symbol) (n : NodeTerm) → IsFinished w n → node_text n ≡ word_text w
 text-finished w n h = sym (word_text-terms w (Node n ∷ []) h ∙ append-nil (node_text n))
 
-same_text : (old new : BuilderValue) → new ≡ old → word_text new.word ≡ word_text old.word
+-- a refused call keeps it
+pub same_text : (old new : BuilderValue) → new ≡ old → word_text new.word ≡ word_text old.word
 same_text old new e = ap (λ b. word_text b.word) e
 
 module _ {E : Type 0} (old new : BuilderValue) where

@@ -44,7 +44,7 @@ word_text-append (Leaf t ∷ v) w = ap (λ bs. t.text ++ bs) (word_text-append v
 word_text-append (Close ∷ v) w = word_text-append v w
 
 mutual
-  word_text-node : (n : NodeTerm) → word_text (node_word n) ≡ node_text n
+  pub word_text-node : (n : NodeTerm) → word_text (node_word n) ≡ node_text n
   word_text-node (node k f) = word_text-append (forest_word f) (Close ∷ []) ∙ append-nil (word_text (forest_word f)) ∙ word_text-forest f
 
   word_text-forest : (f : Forest) → word_text (forest_word f) ≡ forest_text f

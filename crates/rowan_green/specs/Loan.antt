@@ -46,22 +46,34 @@ returned_loan u = u.home.ghost_name
 
 -- ---- what the lent cache ends as
 
-abbrev pub loan_if_refused : {H A : Type 0} → Result A (Unfinished H BuilderValue) → maybe.Option GName
+abbrev pub loan_if_refused : {H A : Type 0}
+    → Result A (Unfinished H BuilderValue) → maybe.Option GName
 loan_if_refused (Ok x) = maybe.none
 loan_if_refused (Err u) = maybe.some (returned_loan u)
 
 -- After success the lent cache has what the builder's cache had. After a refusal the loan goes on.
-abbrev pub LeavesCacheUnlessRefused : {A : Type 0} → GreenNodeBuilder CacheValue BuilderValue → Result A (Unfinished CacheValue BuilderValue) → Fml
-LeavesCacheUnlessRefused b r = follows_so the_row the_row (loan_of b) (loan_if_refused r) (λ x n. OnErr r (n ≡ x)) (λ n. OnOk r (n ≡ cache_of b))
+abbrev pub LeavesCacheUnlessRefused : {A : Type 0} → GreenNodeBuilder CacheValue BuilderValue
+    → Result A (Unfinished CacheValue BuilderValue) → Fml
+LeavesCacheUnlessRefused b r =
+    follows_so the_row the_row (loan_of b) (loan_if_refused r)
+    (λ x n. OnErr r (n ≡ x)) (λ n. OnOk r (n ≡ cache_of b))
 
 -- whatever the work answers, it leaves the builder with the loan that it had
-abbrev pub KeepsLoan : {H R : Type 0} → (MutBor (GreenNodeBuilder H BuilderValue) → R → MutBor (GreenNodeBuilder H BuilderValue) → Type 0) → Type 0
-KeepsLoan {H} {R} post = (shown left : MutBor (GreenNodeBuilder H BuilderValue)) (r : R) → post shown r left → loan_of left.now ≡ loan_of shown.now
+abbrev pub KeepsLoan : {H R : Type 0}
+    → (MutBor (GreenNodeBuilder H BuilderValue) → R
+    → MutBor (GreenNodeBuilder H BuilderValue) → Type 0)
+    → Type 0
+KeepsLoan {H} {R} work =
+    (first last : MutBor (GreenNodeBuilder H BuilderValue)) (r : R) → work first r last
+    → loan_of last.now ≡ loan_of first.now
 
--- the work took a builder of this value to a last one, and what that has in its cache was left at the home
-pub record LeavesCacheOfRun {H R : Type 0} (left : H → CacheValue → Type 0) (ran : GreenNodeBuilder H BuilderValue → R → GreenNodeBuilder H BuilderValue → Type 0) (value : BuilderValue) (r : R) (home : H) : Type 0 where
+-- the work took a builder of this value to a last one, and the home received what that has in its cache
+pub record LeavesCacheOfRun {H R : Type 0}
+    (receives : H → CacheValue → Type 0)
+    (work : GreenNodeBuilder H BuilderValue → R → GreenNodeBuilder H BuilderValue → Type 0)
+    (value : BuilderValue) (r : R) (home : H) : Type 0 where
   pub first : GreenNodeBuilder H BuilderValue
   pub begins : value_of first ≡ value
   pub last : GreenNodeBuilder H BuilderValue
-  pub met : ran first r last
-  pub ends : left home (cache_of last)
+  pub ran : work first r last
+  pub ends : receives home (cache_of last)

@@ -1,7 +1,8 @@
 -- Paths: which subterm of a term is meant, and where its text lies.
 --     A path is a list of places among children, from the top down. The empty path is the term itself.
 --     The leaves of a term are its tokens, each with its path, in the order of the text.
---     The offset of a path is the sum of the lengths of the leaves before it, and its range goes on for the length of its subterm.
+--     The offset of a path is the sum of the lengths of the leaves before it, and its range goes on for the length of its
+--     subterm.
 -- Paths are in the order of a dictionary: a path stands before its own extensions.
 use Rattle.std.specs.Prelude.{ℕ, ◌+◌, ◌&&◌, ◌||◌, Bool, true, false, List, [], ◌∷◌, ◌++◌, map, filter, sum_by, Option, Some, None, nat_lt, nat_eq, slice_get}
 use Rattle.rowan_green.specs.declared.utility_types.NodeOrToken.TheVariants.{Node, Token}
@@ -45,6 +46,10 @@ abbrev mutual
 abbrev pub leaves : Term → List Leaf
 leaves (Node n) = node_leaves n
 leaves (Token t) = ([], t) ∷ []
+
+-- the tokens of a term, in the order of the text
+abbrev pub tokens : Term → List TokenTerm
+tokens t = map (λ l. l.1) (leaves t)
 
 -- whether q stands before p
 abbrev pub stands_before : Path → Path → Bool

@@ -151,3 +151,10 @@ word_text [] = []
 word_text (Open k ∷ w) = word_text w
 word_text (Leaf t ∷ w) = t.text ++ word_text w
 word_text (Close ∷ w) = word_text w
+
+-- the tokens of a word's leaves, in order
+abbrev pub word_tokens : List Symbol → List TokenTerm
+word_tokens [] = []
+word_tokens (Open k ∷ w) = word_tokens w
+word_tokens (Leaf t ∷ w) = t ∷ word_tokens w
+word_tokens (Close ∷ w) = word_tokens w

@@ -1,15 +1,18 @@
 //! Laws of terms and words, each as the contract of a function that does nothing.
-ghost use Rattle.std.specs.Prelude.{◌≡◌, ◌↔◌, ◌<◌, ◌≤◌, ◌^◌, ℕ, List, [], ◌∷◌, ◌++◌, Some, Contains, IsTrue, slice_get, ◌+◌, length, take, drop};
+ghost use Rattle.std.specs.Prelude.{◌≡◌, ◌↔◌, ◌<◌, ◌≤◌, ◌^◌, ℕ, List, [], ◌∷◌, ◌++◌, Some, Contains, IsTrue, slice_get, ◌+◌, length, take, drop, slice_range};
+ghost use Rattle.std.specs.List.{flat_map};
 ghost use Rattle.std.specs.Bool.{Decides};
 ghost use Rattle.rowan_green.specs.Cache.{is_eligible, with_term, first_seen, Continues};
 ghost use Rattle.rowan_green.specs.Edits.{replaced, inserted, removed, spliced};
 ghost use Rattle.rowan_green.specs.Fits.{AreWithin, PassesLimit};
+ghost use Rattle.rowan_green.specs.Path.{Path, subterm, range, text_of, tokens};
 ghost use Rattle.rowan_green.specs.Same.{same_node, same_token};
 ghost use Rattle.rowan_green.specs.Search.{HasRange, IsChildAt, digits};
-ghost use Rattle.rowan_green.specs.Term.{TokenTerm, NodeTerm, Term, node_of, node_len, node_text, sum_of_lens, joined_text, node_kind, node_children, term_text};
+ghost use Rattle.rowan_green.specs.Term.{TokenTerm, NodeTerm, Term, node_of, node_len, node_text, sum_of_lens, joined_text, node_kind, node_children, term_text, term_len};
+ghost use Rattle.rowan_green.specs.declared.utility_types.NodeOrToken.TheVariants.{Node};
 ghost use Rattle.rowan_green.specs.declared.fault.Fault.{Fault};
 ghost use Rattle.rowan_green.specs.Span.{Span, Holds, intersection};
-ghost use Rattle.rowan_green.specs.Word.{Symbol, Item, HasParts, HasTerms, node_word, word_text};
+ghost use Rattle.rowan_green.specs.Word.{Symbol, Item, HasParts, HasTerms, IsFinished, node_word, word_text, word_tokens};
 
 /// A word has at most one list of items: bare openings and whole terms.
 pub fn word_has_one_reading()
@@ -36,21 +39,28 @@ pub fn node_has_its_children_text()
 /// The text of an edited node is the texts of what stays before, of what is put there, and of what stays behind, in this order.
 pub fn edited_node_has_the_text_of_its_parts()
     ensures replaced { (k : ℕ) (ts : List Term) (i : ℕ) (t : Term) → i < length ts
-        → node_text (node_of k (replaced ts i t)) ≡ joined_text (take i ts) ++ term_text t ++ joined_text (drop (i + 1) ts) }
+        → node_text (node_of k (replaced ts i t))
+        ≡ joined_text (take i ts) ++ term_text t ++ joined_text (drop (i + 1) ts) }
     ensures inserted { (k : ℕ) (ts : List Term) (i : ℕ) (t : Term)
-        → node_text (node_of k (inserted ts i t)) ≡ joined_text (take i ts) ++ term_text t ++ joined_text (drop i ts) }
+        → node_text (node_of k (inserted ts i t))
+        ≡ joined_text (take i ts) ++ term_text t ++ joined_text (drop i ts) }
     ensures removed { (k : ℕ) (ts : List Term) (i : ℕ)
-        → node_text (node_of k (removed ts i)) ≡ joined_text (take i ts) ++ joined_text (drop (i + 1) ts) }
+        → node_text (node_of k (removed ts i))
+        ≡ joined_text (take i ts) ++ joined_text (drop (i + 1) ts) }
     ensures spliced { (k : ℕ) (ts : List Term) (start end : ℕ) (us : List Term)
-        → node_text (node_of k (spliced ts start end us)) ≡ joined_text (take start ts) ++ joined_text us ++ joined_text (drop end ts) }
+        → node_text (node_of k (spliced ts start end us))
+        ≡ joined_text (take start ts) ++ joined_text us ++ joined_text (drop end ts) }
 {}
 
 /// A child that is replaced by itself, one that is not there, and one that is removed as soon as it is inserted, leave an equal
 /// node.
 pub fn some_edits_change_nothing()
-    ensures itself { (n : NodeTerm) (i : ℕ) (t : Term) → slice_get (node_children n) i ≡ Some t → node_of (node_kind n) (replaced (node_children n) i t) ≡ n }
-    ensures past { (n : NodeTerm) (i : ℕ) (t : Term) → length (node_children n) ≤ i → node_of (node_kind n) (replaced (node_children n) i t) ≡ n }
-    ensures taken_back { (n : NodeTerm) (i : ℕ) (t : Term) → i ≤ length (node_children n) → node_of (node_kind n) (removed (inserted (node_children n) i t) i) ≡ n }
+    ensures itself { (n : NodeTerm) (i : ℕ) (t : Term) → slice_get (node_children n) i ≡ Some t
+        → node_of (node_kind n) (replaced (node_children n) i t) ≡ n }
+    ensures past { (n : NodeTerm) (i : ℕ) (t : Term) → length (node_children n) ≤ i
+        → node_of (node_kind n) (replaced (node_children n) i t) ≡ n }
+    ensures taken_back { (n : NodeTerm) (i : ℕ) (t : Term) → i ≤ length (node_children n)
+        → node_of (node_kind n) (removed (inserted (node_children n) i t) i) ≡ n }
 {}
 
 /// Children that pass a limit are not within the limits, and there is one limit that they pass first.
@@ -64,22 +74,51 @@ pub fn word_keeps_text()
     ensures { (w : List Symbol) (ts : List Term) → HasTerms w ts → word_text w ≡ joined_text ts }
 {}
 
+/// The tokens of a word's whole terms are the word's tokens, in order: the tokens of a finished tree are the accepted ones. The
+/// text of a word is the texts of its tokens.
+pub fn word_keeps_tokens()
+    ensures terms { (w : List Symbol) (ts : List Term) → HasTerms w ts
+        → word_tokens w ≡ flat_map tokens ts }
+    ensures tree { (w : List Symbol) (n : NodeTerm) → IsFinished w n
+        → word_tokens w ≡ tokens (Node n) }
+    ensures text { (w : List Symbol) → word_text w ≡ flat_map (λ token. token.text) (word_tokens w) }
+{}
+
+/// The text of a term is the texts of its tokens, in order. What stands at a path has the bytes of the whole text in the range of
+/// the path, and that range ends within the text: so offsets, which count the tokens before, fit texts, which join children.
+pub fn text_is_that_of_the_tokens()
+    ensures joined { (t : Term) → term_text t ≡ flat_map (λ token. token.text) (tokens t) }
+    ensures at_path { (t : Term) (p : Path)
+        → text_of (subterm t p) ≡ slice_range (term_text t) (range t p).start (range t p).end }
+    ensures within { (t : Term) (p : Path) (u : Term) → subterm t p ≡ Some u
+        → (range t p).end ≤ term_len t }
+{}
+
 /// The terms that a cache with this limit keeps, after it was asked for the terms of a list: those of the list that are
 /// eligible, each once. They begin with what it kept before, and one more term is kept as if it had come at the list's end.
 pub fn cache_keeps_first_seen()
-    ensures members { (limit : ℕ) (ts : List Term) (t : Term) → Contains (first_seen limit ts) t ↔ (Contains ts t × IsTrue (is_eligible limit t)) }
-    ensures once { (limit : ℕ) (ts : List Term) (i j : ℕ) (t : Term) → slice_get (first_seen limit ts) i ≡ Some t → slice_get (first_seen limit ts) j ≡ Some t → i ≡ j }
-    ensures continues { (limit : ℕ) (ts us : List Term) → Continues (first_seen limit ts) (first_seen limit (ts ++ us)) }
-    ensures one_more { (limit : ℕ) (seen : List Term) (t : Term) → first_seen limit seen ≡ seen → with_term limit seen t ≡ first_seen limit (seen ++ t ∷ []) }
+    ensures members { (limit : ℕ) (ts : List Term) (t : Term)
+        → Contains (first_seen limit ts) t ↔ (Contains ts t × IsTrue (is_eligible limit t)) }
+    ensures once { (limit : ℕ) (ts : List Term) (i j : ℕ) (t : Term)
+        → slice_get (first_seen limit ts) i ≡ Some t → slice_get (first_seen limit ts) j ≡ Some t
+        → i ≡ j }
+    ensures continues { (limit : ℕ) (ts us : List Term)
+        → Continues (first_seen limit ts) (first_seen limit (ts ++ us)) }
+    ensures one_more { (limit : ℕ) (seen : List Term) (t : Term) → first_seen limit seen ≡ seen
+        → with_term limit seen t ≡ first_seen limit (seen ++ t ∷ []) }
 {}
 
 /// At most one child of a node is the one at a range; of a range with bytes it is the one that has them all, and each place in
 /// the text, its ends among them, is at a child, if there are children. A child has the range that it is at, so no child is at a
 /// range that ends behind the node.
 pub fn one_child_is_at_a_range()
+    // which child is at a range
     ensures one { (ts : List Term) (a b j k : ℕ) → IsChildAt ts a b j → IsChildAt ts a b k → j ≡ k }
     ensures bytes { (ts : List Term) (a b k : ℕ) → a < b → IsChildAt ts a b k ↔ HasRange ts a b k }
-    ensures places { (ts : List Term) (x : ℕ) → 0 < length ts → x ≤ sum_of_lens ts → (k : ℕ) × IsChildAt ts x x k }
+    ensures places { (ts : List Term) (x : ℕ) → 0 < length ts → x ≤ sum_of_lens ts
+        → (k : ℕ) × IsChildAt ts x x k }
+
+    // the range of that child
     ensures has { (ts : List Term) (a b k : ℕ) → IsChildAt ts a b k → HasRange ts a b k }
     ensures inside { (ts : List Term) (a b k : ℕ) → IsChildAt ts a b k → b ≤ sum_of_lens ts }
 {}
@@ -91,5 +130,6 @@ pub fn digits_are_binary()
 
 /// The offsets of an intersection are those that both ranges hold.
 pub fn intersection_holds_what_both_hold()
-    ensures { (a b : Span) (offset : ℕ) → Holds (intersection a b) offset ↔ (Holds a offset × Holds b offset) }
+    ensures { (a b : Span) (byte : ℕ)
+        → Holds (intersection a b) byte ↔ (Holds a byte × Holds b byte) }
 {}

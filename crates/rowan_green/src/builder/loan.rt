@@ -7,16 +7,16 @@ use crate::node_cache::NodeCache;
 pub trait CacheHome {
     ghost use Rattle.rowan_green.specs.Cache.{CacheValue};
 
-    /// What holds of the home once a cache was left there.
-    ghost left: { Self → CacheValue → Type 0 };
+    /// What holds of the home after it received a cache.
+    ghost receives: { Self → CacheValue → Type 0 };
 
     /// Takes the cache of a builder that ends.
     fn leave(&mut self, cache: NodeCache)
-        ensures { left self.new cache };
+        ensures { receives self.new cache };
 }
 
 impl CacheHome for NodeCache {
-    ghost left = { λ home cache. home ≡ cache };
+    ghost receives = { λ home cache. home ≡ cache };
 
     fn leave(&mut self, cache: NodeCache) {
         *self = cache;
@@ -31,7 +31,7 @@ pub type OwnCache = [NoHome; 0];
 pub struct NoHome;
 
 impl CacheHome for [NoHome; 0] {
-    ghost left = { λ home cache. Unit {0} };
+    ghost receives = { λ home cache. Unit {0} };
 
     fn leave(&mut self, _cache: NodeCache) {}
 }
@@ -41,8 +41,9 @@ impl CacheHome for [NoHome; 0] {
 pub trait HoldsCache: Drop {
     ghost use Rattle.rowan_green.specs.Cache.{CacheValue};
 
-    ghost held: { Self → CacheValue };
+    /// The cache that the value has.
+    ghost content: { Self → CacheValue };
 
     fn give_back(self) -> NodeCache
-        ensures { result ≡ held self };
+        ensures { result ≡ content self };
 }

@@ -13,7 +13,7 @@ use crate::fault::Fault;
 use crate::green::{GreenNode, SyntaxKind};
 use crate::node_cache::{Interned, NodeCache};
 use crate::utility_types::NodeOrToken;
-use std::alloc::Global;
+use std::alloc::{AllocError, Global};
 use std::marker::Model;
 
 // A node that is not finished: its kind, and the number of elements that were finished before it.
@@ -44,13 +44,17 @@ impl Model for OwningBuilder {
     ghost use Rattle.rowan_green.specs.Word.{spelled};
     ghost use Rattle.rowan_green.specs.Weave.{weave, AreInOrder};
 
-    ghost view = { λ b. record { word = spelled (weave 0 b.parents.items (elements b.finished.items)); cache = b.cache } };
+    ghost view = { λ b. record {
+      word = spelled (weave 0 b.parents.items (elements b.finished.items));
+      cache = b.cache;
+    } };
 
-    ghost invariant = { λ b. AreInOrder 0 b.parents.items (length (elements b.finished.items)) × AreNumbered b.cache b.finished.items };
+    ghost invariant = { λ b. AreInOrder 0 b.parents.items (length (elements b.finished.items))
+        × AreNumbered b.cache b.finished.items };
 }
 
 impl HoldsCache for OwningBuilder {
-    ghost held = { λ b. b.cache };
+    ghost content = { λ b. b.cache };
 
     fn give_back(self) -> NodeCache {
         self.cache
@@ -69,7 +73,8 @@ impl OwningBuilder {
     }
 
     pub(super) fn token(&mut self, kind: SyntaxKind, text: &str) -> Result<(), Fault>
-        ensures ok { OnOk result (self.new ≡ adds self.old (record { kind = kind.0; text = text.now })) }
+        ensures ok { OnOk result
+            (self.new ≡ adds self.old (record { kind = kind.0; text = text.now })) }
         ensures err { IfErr result (WhyNoToken text.now) }
         ensures too_long { byte_limit < length text.now → result ≡ Err Fault.TextTooLong }
         ensures unchanged { OnErr result (self.new ≡ self.old) }
@@ -83,9 +88,8 @@ impl OwningBuilder {
         Ok(())
     }
 
-    pub(super) fn start_node(&mut self, kind: SyntaxKind) -> Result<(), Fault>
+    pub(super) fn start_node(&mut self, kind: SyntaxKind) -> Result<(), AllocError>
         ensures ok { OnOk result (self.new ≡ opens self.old kind.0) }
-        ensures err { IfErr result (λ e. e ≡ Fault.Memory) }
         ensures unchanged { OnErr result (self.new ≡ self.old) }
     {
         let first_child = self.finished.len();
@@ -124,10 +128,14 @@ impl OwningBuilder {
         checkpoint: Checkpoint,
         kind: SyntaxKind,
     ) -> Result<(), Fault>
+        // what it opens
         ensures ok { OnOk result (WrapsAt self.old checkpoint kind.0 self.new) }
+
+        // a refusal
         ensures err { IfErr result (WhyNotWrapped self.old.word checkpoint) }
         ensures past { IsPast self.old.word checkpoint → result ≡ Err Fault.CheckpointPast }
-        ensures before { IsBeforeOpening self.old.word checkpoint → result ≡ Err Fault.CheckpointBefore }
+        ensures before { IsBeforeOpening self.old.word checkpoint
+            → result ≡ Err Fault.CheckpointBefore }
         ensures unchanged { OnErr result (self.new ≡ self.old) }
     {
         let place = checkpoint.place;

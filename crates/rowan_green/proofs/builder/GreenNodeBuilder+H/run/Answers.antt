@@ -8,6 +8,6 @@ returns g c =
       first = _;
       begins = refl;
       last = c.work.new.arg2;
-      met = record { shown = _; shows = refl; left = _; met = c.work.ensures; leaves = refl };
-      ends = subst (λ h. g.H.CacheHome.left h c.work.new.arg2.inner.cache) (sym (c.home-1.given.1 same_loan)) c.drop-builder.ensures;
+      ran = record { shown = _; shows = refl; left = _; met = c.work.ensures; leaves = refl };
+      ends = subst (λ h. g.H.CacheHome.receives h c.work.new.arg2.inner.cache) (sym (c.home-1.given.1 same_loan)) c.drop-builder.ensures;
     }
