@@ -73,7 +73,7 @@ Precedes marks w (StartNodeAt mark kind) outcome = MarkPrecedes w (slice_get mar
 Precedes marks w (StartNodeAtCheckpoint c kind) outcome = PlacePrecedes w c outcome
 
 -- one call from a word to the next
-pub record Step (marks : List ℕ) (w : List Symbol) (call : Call) (outcome : Outcome)
+pub record Performs (marks : List ℕ) (w : List Symbol) (call : Call) (outcome : Outcome)
     (v : List Symbol) : Type 0 where
   pub gives : Gives marks w call outcome v
   pub precedes : Precedes marks w call outcome
@@ -89,7 +89,7 @@ with_mark marks (Refused fault) = marks
 abbrev pub InTurn : List ℕ → List Symbol → List Call → List Outcome → List Symbol → Type 0
 InTurn marks w [] [] v = v ≡ w
 InTurn marks w (call ∷ calls) (outcome ∷ outcomes) v =
-    (next : List Symbol) × Step marks w call outcome next
+    (next : List Symbol) × Performs marks w call outcome next
     × InTurn (with_mark marks outcome) next calls outcomes v
 InTurn marks w [] (outcome ∷ outcomes) v = ⊥
 InTurn marks w (call ∷ calls) [] v = ⊥

@@ -11,12 +11,12 @@ use Rattle.rowan_green.specs.declared.fault.Fault.TheVariants.{Memory}
 use Rattle.rowan_tool.specs.declared.program.Stop.TheVariants.{Usage, CannotRead, NotUtf8, TooLong, NoMemory, CannotWrite}
 
 -- the word that asks for the command
-abbrev pub word_of : Command → List ℕ
-word_of Tree = codes "tree"
+abbrev pub argument_of : Command → List ℕ
+argument_of Tree = codes "tree"
 
 -- the arguments are that word alone
 abbrev pub AsksFor : List (String Global) → Command → Type 0
-AsksFor args command = map string_bytes args ≡ word_of command ∷ []
+AsksFor args command = map string_bytes args ≡ argument_of command ∷ []
 
 -- the arguments ask for some command
 abbrev pub IsCommandLine : List (String Global) → Type 0

@@ -59,10 +59,7 @@ fn group(alloc: Global, leaves: &[&str]) -> Result<GreenNode, Fault> {
         }
     }
     builder.finish_node()?;
-    match builder.finish() {
-        Ok(group) => return Ok(group),
-        Err(unfinished) => return Err(unfinished.fault()),
-    }
+    Ok(builder.finish()?)
 }
 
 fn root_of(alloc: Global, leaves: &[&str]) -> Result<SyntaxNode<Groups>, Fault> {
@@ -180,10 +177,7 @@ fn numbered(alloc: Global) -> Result<GreenNode, Fault> {
     builder.token(SyntaxKind(65535), "d")?;
     builder.finish_node()?;
     builder.finish_node()?;
-    match builder.finish() {
-        Ok(node) => return Ok(node),
-        Err(unfinished) => return Err(unfinished.fault()),
-    }
+    Ok(builder.finish()?)
 }
 
 const NUMBERED: &str = r#"EVEN@0..4

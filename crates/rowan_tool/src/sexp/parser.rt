@@ -8,7 +8,7 @@ ghost use Rattle.rowan_green.specs.declared.utility_types.NodeOrToken.TheVariant
 ghost use Rattle.rowan_green.specs.Term.{node_text};
 ghost use Rattle.rowan_green.specs.Word.{Open, Leaf, Close};
 ghost use Rattle.rowan_tool.specs.Parsing.{IsInRoot, IsTree};
-ghost use Rattle.rowan_tool.specs.Sexp.{IsTextOf, IsToken, joined, number_of};
+ghost use Rattle.rowan_tool.specs.Sexp.{IsTextOf, IsToken, tokens_text, number_of};
 ghost use Rattle.std.specs.List.{AllByRecursion};
 
 use crate::sexp::lang::SyntaxKind;
@@ -67,10 +67,10 @@ pub fn parse_with(alloc: Global, text: &str, cache: &mut NodeCache) -> Result<Pa
 fn build(builder: &mut GreenNodeBuilder<'_>, tokens: &[Token<'_>]) -> Result<(), Fault>
     requires empty { word_of builder.old ≡ [] }
     requires tokens { AllByRecursion IsToken tokens.now }
-    requires room { length (joined tokens.now) ≤ byte_limit }
+    requires room { length (tokens_text tokens.now) ≤ byte_limit }
 
     ensures ok { OnOk result (IsTree (word_of builder.new)) }
-    ensures text { OnOk result (text_so_far builder.new ≡ joined tokens.now) }
+    ensures text { OnOk result (text_so_far builder.new ≡ tokens_text tokens.now) }
     ensures err { IfErr result (λ e. e ≡ Fault.Memory) }
 
     // The builder's cache.
