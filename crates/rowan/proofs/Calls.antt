@@ -28,9 +28,9 @@ advances : {A : Type 0} (marks : List ℕ) (old new : BuilderValue) (call : Call
     → Advances marks old call (outcome_of r) new
 unfolding AcceptsAsking
 advances marks old new call (Ok x) ok err stays precedes =
-    record { step = record { gives = ok.0; precedes = precedes }; interns = ok.1 }
+    record { performs = record { gives = ok.0; precedes = precedes }; interns = ok.1 }
 advances marks old new call (Err fault) ok err stays precedes =
-    record { step = record { gives = (err, ap (λ b. b.word) stays); precedes = precedes }; interns = ap (λ b. b.cache) stays }
+    record { performs = record { gives = (err, ap (λ b. b.word) stays); precedes = precedes }; interns = ap (λ b. b.cache) stays }
 
 on_ok : {A E : Type 0} (r : Result A E) {P Q : Type 0} → (P → Q) → OnOk r P → OnOk r Q
 on_ok (Ok x) f p = f p
@@ -66,7 +66,7 @@ pub advances-unknown : (marks : List ℕ) (old new : BuilderValue) (mark : ℕ) 
     → new ≡ old
     → Advances marks old (StartNodeAt mark kind) (Refused UnknownMark) new
 advances-unknown marks old new mark kind none stays = record {
-  step = record {
+  performs = record {
     gives = (subst (λ o. WhyNotWrappedAt old.word o UnknownMark) (sym none) refl, ap (λ b. b.word) stays);
     precedes = subst (λ o. MarkPrecedes old.word o (Refused UnknownMark)) (sym none) refl;
   };

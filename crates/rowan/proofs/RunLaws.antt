@@ -1,5 +1,5 @@
 -- Laws of runs: what calls make of the word, of its tokens and its text, and of the cache.
-use Rattle.std.proofs.Common.{◌≡◌, ℕ, List, [], ◌∷◌, ◌++◌, Ok, map, Some, refl, sym, ◌∙◌, ap, subst, append_assoc}
+use Rattle.std.proofs.Common.{◌≡◌, ℕ, List, [], ◌∷◌, ◌++◌, Ok, Some, refl, sym, ◌∙◌, ap, subst, append_assoc}
 use Rattle.std.proofs.lemmas.Grind.{fold-append, flat_map-append}
 use Rattle.std.proofs.lemmas.List.{append-nil}
 use Rattle.std.specs.List.{flat_map}
@@ -7,11 +7,12 @@ use Rattle.rowan_green.specs.declared.fault.Fault.{Fault}
 use Rattle.rowan_green.specs.declared.utility_types.NodeOrToken.TheVariants.{Node as node_term, Token as token_term}
 use Rattle.rowan_green.specs.Builder.{BuilderValue}
 use Rattle.rowan_green.specs.Cache.{CacheValue, asked}
+use Rattle.rowan_green.specs.Path.{tokens}
 use Rattle.rowan_green.specs.Stream.{asked_for, BuildsOn}
-use Rattle.rowan_green.specs.Term.{TokenTerm, NodeTerm, node, Forest, empty, node_then, token_then, Term}
-use Rattle.rowan_green.specs.Word.{Symbol, Open, Leaf, Close, node_word, forest_word, Item, Bare, Whole, spelled, HasParts, whole_terms, IsFinished, word_text, Wraps}
+use Rattle.rowan_green.specs.Term.{TokenTerm, NodeTerm, Term}
+use Rattle.rowan_green.specs.Word.{Symbol, Open, Leaf, Close, IsFinished, word_text, word_tokens}
+use Rattle.rowan_green.proofs.LeafLaws.{word_text-tokens, tokens-leaf, tokens-open, tokens-closes, tokens-wrap, tokens-finished}
 use Rattle.rowan_green.proofs.StreamLemmas.{BuildsOn-same, BuildsOn-trans, BuildsOn-adds, BuildsOn-opens, BuildsOn-finishes, BuildsOn-wraps}
-use Rattle.rowan_green.proofs.WeaveLemmas.{whole_terms-append}
 use Rattle.rowan.specs.declared.script.calls.Call.{Call}
 use Rattle.rowan.specs.declared.script.calls.Call.TheVariants.{Token, StartNode, FinishNode, Mark, StartNodeAt, StartNodeAtCheckpoint}
 use Rattle.rowan.specs.declared.script.calls.Outcome.{Outcome}
@@ -19,7 +20,6 @@ use Rattle.rowan.specs.declared.script.calls.Outcome.TheVariants.{Accepted, Mark
 use Rattle.rowan.specs.Rewriting.{token_of, Accepts, Gives, with_mark, InTurn, Rewrites}
 use Rattle.rowan.specs.Asked.{asked_if_accepted, asked_by, asked_in_turn, added_tokens, accepted_tokens, accepted_text}
 use Rattle.rowan.specs.Run.{Run}
-use Rattle.rowan.specs.Tokens.{word_tokens, node_tokens, forest_tokens}
 use Rattle.rowan.proofs.Exact.{Closes-unique, Wraps-unique}
 
 -- ---- the word
@@ -73,46 +73,10 @@ asked-turns (call ∷ calls) (outcome ∷ outcomes) marks w w' v v' run run' sam
 
 -- ---- the tokens
 
-word_tokens-append : (v w : List Symbol) → word_tokens (v ++ w) ≡ word_tokens v ++ word_tokens w
-word_tokens-append [] w = refl
-word_tokens-append (Open k ∷ v) w = word_tokens-append v w
-word_tokens-append (Leaf t ∷ v) w = ap (λ ts. t ∷ ts) (word_tokens-append v w)
-word_tokens-append (Close ∷ v) w = word_tokens-append v w
-
--- the tokens of items: those of their whole terms
-abbrev term_tokens : Term → List TokenTerm
-term_tokens (node_term n) = node_tokens n
-term_tokens (token_term t) = t ∷ []
-
-mutual
-  word_tokens-node : (n : NodeTerm) → word_tokens (node_word n) ≡ node_tokens n
-  word_tokens-node (node k f) = word_tokens-append (forest_word f) (Close ∷ []) ∙ append-nil (word_tokens (forest_word f)) ∙ word_tokens-forest f
-
-  word_tokens-forest : (f : Forest) → word_tokens (forest_word f) ≡ forest_tokens f
-  word_tokens-forest empty = refl
-  word_tokens-forest (node_then n f) =
-      word_tokens-append (node_word n) (forest_word f) ∙ ap (λ ts. ts ++ word_tokens (forest_word f)) (word_tokens-node n) ∙ ap (λ ts. node_tokens n ++ ts) (word_tokens-forest f)
-  word_tokens-forest (token_then t f) = ap (λ ts. t ∷ ts) (word_tokens-forest f)
-
-word_tokens-spelled : (items : List Item) → word_tokens (spelled items) ≡ flat_map term_tokens (whole_terms items)
-word_tokens-spelled [] = refl
-word_tokens-spelled (Bare k ∷ items) = word_tokens-spelled items
-word_tokens-spelled (Whole (node_term n) ∷ items) =
-    word_tokens-append (node_word n) (spelled items) ∙ ap (λ ts. ts ++ word_tokens (spelled items)) (word_tokens-node n) ∙ ap (λ ts. node_tokens n ++ ts) (word_tokens-spelled items)
-word_tokens-spelled (Whole (token_term t) ∷ items) = ap (λ ts. t ∷ ts) (word_tokens-spelled items)
-
-word_tokens-parts : (w : List Symbol) (items : List Item) → HasParts w items → word_tokens w ≡ flat_map term_tokens (whole_terms items)
-word_tokens-parts w items h = ap word_tokens h.spells ∙ word_tokens-spelled items
-
-tokens-wrap : (w v : List Symbol) (c k : ℕ) → Wraps w c k v → word_tokens v ≡ word_tokens w
-tokens-wrap w v c k a =
-    let terms : whole_terms (a.before ++ Bare k ∷ map Whole a.after) ≡ whole_terms (a.before ++ map Whole a.after) = whole_terms-append a.before (Bare k ∷ map Whole a.after) ∙ sym (whole_terms-append a.before (map Whole a.after)) in
-    word_tokens-parts v (a.before ++ Bare k ∷ map Whole a.after) a.opened ∙ ap (λ ts. flat_map term_tokens ts) terms ∙ sym (word_tokens-parts w (a.before ++ map Whole a.after) a.parts)
-
 tokens-accepted : (marks : List ℕ) (w : List Symbol) (call : Call) (v : List Symbol) → Accepts marks w call v → word_tokens v ≡ word_tokens w ++ added_tokens call Accepted
-tokens-accepted marks w (Token kind text) v a = ap word_tokens a ∙ word_tokens-append w (Leaf (token_of kind text) ∷ [])
-tokens-accepted marks w (StartNode kind) v a = ap word_tokens a ∙ word_tokens-append w (Open kind.0 ∷ [])
-tokens-accepted marks w FinishNode v a = ap word_tokens a.1.closed ∙ word_tokens-append w (Close ∷ [])
+tokens-accepted marks w (Token kind text) v a = tokens-leaf w v (token_of kind text) a
+tokens-accepted marks w (StartNode kind) v a = tokens-open w v kind.0 a ∙ sym (append-nil (word_tokens w))
+tokens-accepted marks w FinishNode v a = tokens-closes w v a.1 ∙ sym (append-nil (word_tokens w))
 tokens-accepted marks w Mark v a = absurd a
 tokens-accepted marks w (StartNodeAt mark kind) v a = tokens-wrap w v a.0 kind.0 a.2 ∙ sym (append-nil (word_tokens w))
 tokens-accepted marks w (StartNodeAtCheckpoint c kind) v a = tokens-wrap w v c kind.0 a ∙ sym (append-nil (word_tokens w))
@@ -149,22 +113,10 @@ tokens-turns (call ∷ calls) (outcome ∷ outcomes) marks w v run =
 pub tokens-rewritten : (w v : List Symbol) (calls : List Call) (outcomes : List Outcome) → Rewrites w calls outcomes v → word_tokens v ≡ word_tokens w ++ accepted_tokens calls outcomes
 tokens-rewritten w v calls outcomes r = tokens-turns calls outcomes [] w v r.in_turn
 
--- the tokens of a finished tree are those of its word
-tokens-finished : (w : List Symbol) (n : NodeTerm) → IsFinished w n → word_tokens w ≡ node_tokens n
-tokens-finished w n h =
-    word_tokens-parts w h.items h.parts ∙ ap (λ ts. flat_map term_tokens ts) h.terms ∙ append-nil (node_tokens n)
-
-pub tokens-tree : (w : List Symbol) (calls : List Call) (outcomes : List Outcome) (n : NodeTerm) → Rewrites [] calls outcomes w → IsFinished w n → node_tokens n ≡ accepted_tokens calls outcomes
+pub tokens-tree : (w : List Symbol) (calls : List Call) (outcomes : List Outcome) (n : NodeTerm) → Rewrites [] calls outcomes w → IsFinished w n → tokens (node_term n) ≡ accepted_tokens calls outcomes
 tokens-tree w calls outcomes n r h = sym (tokens-finished w n h) ∙ tokens-rewritten [] w calls outcomes r
 
 -- ---- the text
-
--- the text of a word is the texts of its tokens
-word_text-tokens : (w : List Symbol) → word_text w ≡ flat_map (λ t. t.text) (word_tokens w)
-word_text-tokens [] = refl
-word_text-tokens (Open k ∷ w) = word_text-tokens w
-word_text-tokens (Leaf t ∷ w) = ap (λ bs. t.text ++ bs) (word_text-tokens w)
-word_text-tokens (Close ∷ w) = word_text-tokens w
 
 pub text-rewritten : (w v : List Symbol) (calls : List Call) (outcomes : List Outcome) → Rewrites w calls outcomes v → word_text v ≡ word_text w ++ accepted_text calls outcomes
 text-rewritten w v calls outcomes r =

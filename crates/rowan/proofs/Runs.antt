@@ -10,7 +10,7 @@ use Rattle.rowan_green.specs.Word.{Symbol}
 use Rattle.rowan.specs.declared.script.calls.Call.{Call}
 use Rattle.rowan.specs.declared.script.calls.Outcome.{Outcome}
 use Rattle.rowan.specs.declared.script.calls.Outcome.TheVariants.{Accepted, Marked, Refused}
-use Rattle.rowan.specs.Rewriting.{Step, with_mark, InTurn}
+use Rattle.rowan.specs.Rewriting.{Performs, with_mark, InTurn}
 use Rattle.rowan.specs.Asked.{asked_by, asked_in_turn, stream}
 use Rattle.rowan.specs.Run.{Advances, Run}
 
@@ -45,7 +45,7 @@ Asks marks w calls outcomes u ts =
 -- one more call behind calls in turn, with what all of them ask for
 InTurn-append : (calls : List Call) (outcomes : List Outcome) (marks : List ℕ) (w v u : List Symbol) (call : Call) (outcome : Outcome)
     (turns : InTurn marks w calls outcomes v)
-    (step : Step (with_marks marks outcomes) v call outcome u)
+    (step : Performs (with_marks marks outcomes) v call outcome u)
     → Asks marks w (calls ++ call ∷ []) (outcomes ++ outcome ∷ []) u (asked_in_turn marks w calls outcomes v turns ++ asked_by (with_marks marks outcomes) v call outcome u step.gives)
 unfolding Asks
 InTurn-append [] [] marks w v u call outcome turns step =
@@ -65,8 +65,8 @@ Run-append : (calls : List Call) (outcomes : List Outcome) (old new last : Build
 unfolding Asks
 Run-append calls outcomes old new last call outcome run one =
     let before = stream run.words in
-    let here = asked_by (with_marks [] outcomes) new.word call outcome last.word one.step.gives in
-    let more = InTurn-append calls outcomes [] old.word new.word last.word call outcome run.words.in_turn one.step in
+    let here = asked_by (with_marks [] outcomes) new.word call outcome last.word one.performs.gives in
+    let more = InTurn-append calls outcomes [] old.word new.word last.word call outcome run.words.in_turn one.performs in
     record {
       words = record { in_turn = more.0 };
       interns = one.interns ∙ ap (λ cache. asked_for cache here) run.interns ∙ sym (fold-append asked old.cache before here) ∙ ap (asked_for old.cache) (sym more.1);

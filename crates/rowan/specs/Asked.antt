@@ -23,14 +23,14 @@ asked_if_accepted marks w (StartNodeAt mark kind) v wrapped = []
 asked_if_accepted marks w (StartNodeAtCheckpoint c kind) v wrapped = []
 
 -- and another asks for nothing
-abbrev pub asked_by : (marks : List ℕ) (w : List Symbol) (call : Call) (outcome : Outcome) (v : List Symbol)
-    → Gives marks w call outcome v → List Term
+abbrev pub asked_by : (marks : List ℕ) (w : List Symbol) (call : Call) (outcome : Outcome)
+    (v : List Symbol) → Gives marks w call outcome v → List Term
 asked_by marks w call Accepted v accepts = asked_if_accepted marks w call v accepts
 asked_by marks w call (Marked c) v stays = []
 asked_by marks w call (Refused fault) v stays = []
 
-abbrev pub asked_in_turn : (marks : List ℕ) (w : List Symbol) (calls : List Call) (outcomes : List Outcome) (v : List Symbol)
-    → InTurn marks w calls outcomes v → List Term
+abbrev pub asked_in_turn : (marks : List ℕ) (w : List Symbol) (calls : List Call)
+    (outcomes : List Outcome) (v : List Symbol) → InTurn marks w calls outcomes v → List Term
 asked_in_turn marks w [] [] v run = []
 asked_in_turn marks w (call ∷ calls) (outcome ∷ outcomes) v run =
     asked_by marks w call outcome run.0 run.1.gives

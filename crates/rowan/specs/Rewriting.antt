@@ -1,6 +1,6 @@
 -- Rewritings: what a list of calls does to a word, one outcome a call.
---     A call is accepted, and then the word changes as the call says; or it took a checkpoint, or was refused, and then the
---     word stays.
+--     A call is accepted, and then the word changes as the call says; or it took a checkpoint, or
+--     was refused, and then the word stays.
 -- The checkpoints that were taken are the marks, numbered from 0 in the order of the calls.
 use Rattle.std.specs.Prelude.{◌≡◌, ℕ, ◌<◌, List, [], ◌∷◌, ◌++◌, length, Option, Some, None, String, string_bytes}
 use Rattle.std.specs.List.{slice_get}
@@ -73,7 +73,8 @@ Precedes marks w (StartNodeAt mark kind) outcome = MarkPrecedes w (slice_get mar
 Precedes marks w (StartNodeAtCheckpoint c kind) outcome = PlacePrecedes w c outcome
 
 -- one call from a word to the next
-pub record Step (marks : List ℕ) (w : List Symbol) (call : Call) (outcome : Outcome) (v : List Symbol) : Type 0 where
+pub record Performs (marks : List ℕ) (w : List Symbol) (call : Call) (outcome : Outcome)
+    (v : List Symbol) : Type 0 where
   pub gives : Gives marks w call outcome v
   pub precedes : Precedes marks w call outcome
 
@@ -88,11 +89,12 @@ with_mark marks (Refused fault) = marks
 abbrev pub InTurn : List ℕ → List Symbol → List Call → List Outcome → List Symbol → Type 0
 InTurn marks w [] [] v = v ≡ w
 InTurn marks w (call ∷ calls) (outcome ∷ outcomes) v =
-    (next : List Symbol) × Step marks w call outcome next
+    (next : List Symbol) × Performs marks w call outcome next
     × InTurn (with_mark marks outcome) next calls outcomes v
 InTurn marks w [] (outcome ∷ outcomes) v = ⊥
 InTurn marks w (call ∷ calls) [] v = ⊥
 
 -- the calls, with one outcome each, go from one word to another; no mark was taken before
-pub record Rewrites (w : List Symbol) (calls : List Call) (outcomes : List Outcome) (v : List Symbol) : Type 0 where
+pub record Rewrites (w : List Symbol) (calls : List Call) (outcomes : List Outcome)
+    (v : List Symbol) : Type 0 where
   pub in_turn : InTurn [] w calls outcomes v

@@ -2,15 +2,16 @@
 ghost use Rattle.std.specs.Prelude.{◌≡◌, List, [], ◌++◌};
 ghost use Rattle.rowan_green.specs.Builder.{BuilderValue};
 ghost use Rattle.rowan_green.specs.Cache.{first_seen};
+ghost use Rattle.rowan_green.specs.Path.{tokens};
 ghost use Rattle.rowan_green.specs.Stream.{asked_for, BuildsOn};
 ghost use Rattle.rowan_green.specs.Term.{NodeTerm};
-ghost use Rattle.rowan_green.specs.Word.{Symbol, IsFinished, word_text};
+ghost use Rattle.rowan_green.specs.Word.{Symbol, IsFinished, word_text, word_tokens};
+ghost use Rattle.rowan_green.specs.declared.utility_types.NodeOrToken.TheVariants.{Node};
 ghost use Rattle.rowan.specs.declared.script.calls.Call.{Call};
 ghost use Rattle.rowan.specs.declared.script.calls.Outcome.{Outcome};
 ghost use Rattle.rowan.specs.Rewriting.{Rewrites};
 ghost use Rattle.rowan.specs.Asked.{stream, accepted_tokens, accepted_text};
 ghost use Rattle.rowan.specs.Run.{Run};
-ghost use Rattle.rowan.specs.Tokens.{word_tokens, node_tokens};
 
 pub use rowan_cursor::laws as cursor;
 pub use rowan_green::laws as green;
@@ -61,7 +62,7 @@ pub fn tree_has_the_accepted_tokens()
     ensures { (w : List Symbol) (calls : List Call) (outcomes : List Outcome) (n : NodeTerm)
         → Rewrites [] calls outcomes w
         → IsFinished w n
-        → node_tokens n ≡ accepted_tokens calls outcomes }
+        → tokens (Node n) ≡ accepted_tokens calls outcomes }
 {}
 
 /// What the calls of a builder say of its cache holds of a run, too: the cache grew, and was asked for the subterms that ended

@@ -20,7 +20,16 @@ use std::alloc::Global;
 /// A mark that was taken has the next number, from 0, in this replay alone. A wrap at a mark that was not taken yet is refused
 /// with `UnknownMark`.
 ///
-/// The room for the outcomes and the marks is asked for first. Where there is none, the answer is `Memory` and no call was made.
+/// The room for the outcomes and the marks is asked for first. Where there is none, the answer is `Memory` and no call was
+/// made. It is not refused for another cause.
+///
+/// ```rust
+/// let name = Call::Token(SyntaxKind(1), String::from(alloc, "f")?);
+/// let calls = vec![in alloc; Call::Mark, name, Call::StartNodeAt(0, SyntaxKind(0)), Call::FinishNode]?;
+/// let mut builder = GreenNodeBuilder::new(alloc);
+/// let outcomes = replay(alloc, &mut builder, calls.as_slice())?;
+/// // The outcomes are `Marked`, and `Accepted` three times; the builder holds a node of kind 0 around the token.
+/// ```
 pub fn replay<H: CacheHome>(
     alloc: Global,
     builder: &mut GreenNodeBuilder<'_, H>,
@@ -55,7 +64,8 @@ fn make_call<H: CacheHome>(
     marks: &[Checkpoint],
     call: &Call,
 ) -> Outcome
-    ensures advances { Advances marks.now (value_of builder.old) call.now result (value_of builder.new) }
+    ensures advances { Advances marks.now (value_of builder.old) call.now result
+        (value_of builder.new) }
     ensures loan { loan_of builder.new ≡ loan_of builder.old }
 {
     match call {

@@ -4,16 +4,16 @@ use Rattle.std.specs.Prelude.{slice_get}
 use Rattle.rowan_green.specs.Sizes.{term_size, terms_size}
 use Rattle.rowan_green.specs.Term.{Term}
 use Rattle.rowan_api.specs.declared.api.printed.OpenNode.{OpenNode}
-use Rattle.rowan_api.specs.Printed.{size_left}
+use Rattle.rowan_api.specs.Printed.{size_from}
 
 -- what is left in nodes that are still to be closed
-abbrev pub sizes_left : List OpenNode → ℕ
-sizes_left [] = 0
-sizes_left (o ∷ os) = size_left o.node.now o.next + 1 + sizes_left os
+abbrev pub open_sizes : List OpenNode → ℕ
+open_sizes [] = 0
+open_sizes (o ∷ os) = size_from o.node.now o.next + 1 + open_sizes os
 
-pub sizes_left-append : (os ps : List OpenNode) → sizes_left (os ++ ps) ≡ sizes_left os + sizes_left ps
-sizes_left-append [] ps = omega arith
-sizes_left-append (o ∷ os) ps = omega (arith, sizes_left-append os ps)
+pub open_sizes-append : (os ps : List OpenNode) → open_sizes (os ++ ps) ≡ open_sizes os + open_sizes ps
+open_sizes-append [] ps = omega arith
+open_sizes-append (o ∷ os) ps = omega (arith, open_sizes-append os ps)
 
 -- the child at a place is what the sizes from there on and from the next place on differ by
 terms_size-at : (ts : List Term) (i : ℕ) (t : Term) → slice_get ts i ≡ Some t → terms_size (drop (suc i) ts) + term_size t ≡ terms_size (drop i ts)

@@ -34,10 +34,7 @@ pub fn parse(alloc: Global, text: &str) -> Result<GreenNode, Fault>
     }
     sum.close(&mut builder)?;
     builder.finish_node()?;
-    match builder.finish() {
-        Ok(tree) => return Ok(tree),
-        Err(unfinished) => return Err(unfinished.fault()),
-    }
+    Ok(builder.finish()?)
 }
 
 /// Puts a token where it belongs, and gives the innermost sum that is open then.

@@ -15,7 +15,7 @@ use Rattle.rowan_green.proofs.TextLemmas.{text-leaf, text-open, text-closes}
 use Rattle.rowan_green.proofs.Words.{parts-unique, parts-more, word_text-append, word_text-parts}
 use Rattle.rowan_tool.specs.declared.sexp.lang.SyntaxKind.{SyntaxKind}
 use Rattle.rowan_tool.specs.declared.sexp.lang.SyntaxKind.TheVariants.{L_PAREN, R_PAREN, WORD, WHITESPACE, ERROR, LIST, ATOM, ROOT}
-use Rattle.rowan_tool.specs.Sexp.{LexedToken, joined, IsTextOf}
+use Rattle.rowan_tool.specs.Sexp.{LexedToken, tokens_text, IsTextOf}
 use Rattle.rowan_tool.specs.Parsing.{root_kind, bare_count, AreFilled, last_item, IsWhole, EndsWhole, IsInRoot, IsTree}
 
 bare_count-map : (ts : List Term) → bare_count (map Whole ts) ≡ 0
@@ -235,7 +235,7 @@ IsTree-refuses w f h why = refuted f why
     refuted NotOneList k = k
 
 -- the texts of the tokens so far, with the next one's
-pub joined-more : (tokens : List LexedToken) (i : ℕ) (nothing : LexedToken) → i < length tokens → joined (take (i + 1) tokens) ≡ joined (take i tokens) ++ (get_or tokens i nothing).1.now
-joined-more tokens i nothing h =
-    ap joined (take_more tokens i nothing h) ∙ flat_map-append (λ (token : LexedToken). token.1.now) (take i tokens) (get_or tokens i nothing ∷ [])
-    ∙ ap (λ bs. joined (take i tokens) ++ bs) (append-nil (get_or tokens i nothing).1.now)
+pub tokens_text-more : (tokens : List LexedToken) (i : ℕ) (nothing : LexedToken) → i < length tokens → tokens_text (take (i + 1) tokens) ≡ tokens_text (take i tokens) ++ (get_or tokens i nothing).1.now
+tokens_text-more tokens i nothing h =
+    ap tokens_text (take_more tokens i nothing h) ∙ flat_map-append (λ (token : LexedToken). token.1.now) (take i tokens) (get_or tokens i nothing ∷ [])
+    ∙ ap (λ bs. tokens_text (take i tokens) ++ bs) (append-nil (get_or tokens i nothing).1.now)

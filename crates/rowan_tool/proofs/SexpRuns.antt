@@ -6,7 +6,7 @@ use Rattle.std.specs.List.{AllByRecursion}
 use Rattle.std.specs.Str.{NoCharPasses, NonePass, encode_utf8_all, IsUtf8, IsCharBoundary}
 use Rattle.std.specs.Str.Pattern.{FindsBy}
 use Rattle.std.proofs.lemmas.Str.{encode_same, length-encode, len_utf8_bounds, encode_ascii, IsCharBoundary-after_ascii}
-use Rattle.rowan_tool.specs.Sexp.{LexedToken, BeginsWith, IsStopped, IsRun, IsTextOf, EndsBefore, IsToken, AreApart, IsLexed, are_one, joined, is_delimiter}
+use Rattle.rowan_tool.specs.Sexp.{LexedToken, BeginsWith, IsStopped, IsRun, IsTextOf, EndsBefore, IsToken, AreApart, IsLexed, are_one, tokens_text, is_delimiter}
 use denote.Ref.{Bor}
 use Rattle.rowan_tool.specs.declared.sexp.lang.SyntaxKind.{SyntaxKind}
 use Rattle.rowan_tool.specs.declared.sexp.lang.SyntaxKind.TheVariants.{WORD, WHITESPACE}
@@ -69,7 +69,7 @@ apart_next WHITESPACE WHITESPACE rest text more whole ends fit = absurd (no_run 
 apart_next _ _ rest text more whole ends fit = refl
 
 -- what the tokens of a text are, from cutting them off one after the other
-joined_of : (text : List ℕ) (tokens : List LexedToken) → IsCutInto text tokens → joined tokens ≡ text
+joined_of : (text : List ℕ) (tokens : List LexedToken) → IsCutInto text tokens → tokens_text tokens ≡ text
 joined_of text [] cuts = sym cuts
 joined_of text (token ∷ tokens) cuts = ap (λ t. token.1.now ++ t) (joined_of cuts.0 tokens cuts.2) ∙ sym cuts.1.whole
 

@@ -1,5 +1,5 @@
--- What a parser's builder holds between two tokens: a root that is open, in it some open lists, and between them whole terms
--- that are not empty.
+-- What a parser's builder holds between two tokens: a root that is open, in it some open lists,
+-- and between them whole terms that are not empty.
 use Rattle.std.specs.Prelude.{◌≡◌, ℕ, ◌+◌, ◌<◌, ◌≤◌, List, [], ◌∷◌, length}
 use Rattle.rowan_green.specs.declared.utility_types.NodeOrToken.TheVariants.{Node}
 use Rattle.rowan_green.specs.Term.{NodeTerm, Term, term_len}
@@ -34,7 +34,8 @@ abbrev pub EndsWhole : List Item → Type 0
 EndsWhole [] = Unit {0}
 EndsWhole (i ∷ items) = IsWhole (last_item i items)
 
--- In the root stand whole terms with some text, and this many open lists, each with at least one term.
+-- In the root stand whole terms with some text, and this many open lists, each with at least one
+-- term.
 pub record IsInRoot (w : List Symbol) (open_lists : ℕ) : Type 0 where
   pub items : List Item
   pub parts : HasParts w (Bare root_kind ∷ items)

@@ -1,5 +1,5 @@
 -- What the program's arguments ask for, and what it does for an input.
-use Rattle.std.specs.Prelude.{◌≡◌, ◌≢◌, ℕ, ◌≤◌, List, [], ◌∷◌, length, map, codes, string_bytes, Option, Some, IfSome, String}
+use Rattle.std.specs.Prelude.{◌≡◌, ◌≢◌, ℕ, ◌≤◌, List, [], ◌∷◌, length, map, codes, string_bytes, Option, Some, IfSome, IsUtf8, String}
 use Rattle.std.specs.Io.KnownBytes.{Appends}
 use Rattle.std.specs.declared.alloc.Global.{Global}
 use Rattle.rowan_tool.specs.declared.program.Command.{Command}
@@ -11,12 +11,12 @@ use Rattle.rowan_green.specs.declared.fault.Fault.TheVariants.{Memory}
 use Rattle.rowan_tool.specs.declared.program.Stop.TheVariants.{Usage, CannotRead, NotUtf8, TooLong, NoMemory, CannotWrite}
 
 -- the word that asks for the command
-abbrev pub word_of : Command → List ℕ
-word_of Tree = codes "tree"
+abbrev pub argument_of : Command → List ℕ
+argument_of Tree = codes "tree"
 
 -- the arguments are that word alone
 abbrev pub AsksFor : List (String Global) → Command → Type 0
-AsksFor args command = map string_bytes args ≡ word_of command ∷ []
+AsksFor args command = map string_bytes args ≡ argument_of command ∷ []
 
 -- the arguments ask for some command
 abbrev pub IsCommandLine : List (String Global) → Type 0
@@ -31,13 +31,15 @@ pub record IsReadWhole (bytes : List ℕ) (rest : Option (List ℕ)) : Type 0 wh
   pub at_end : rest ≡ Some []
   pub within : length bytes ≤ longest_input
 
--- where it is known which bytes an input holds, they were read to its end, within the limit, and are such bytes
+-- where it is known which bytes an input holds, they were read to its end, within the limit, and
+-- are such bytes
 abbrev pub ReadsAll : (IsSuch : List ℕ → Type 0) (before after : Option (List ℕ)) → Type 0
 ReadsAll IsSuch before after = IfSome before (λ bytes. IsReadWhole bytes after × IsSuch bytes)
 
--- one text was written after what the output held
+-- one text was written after what the output held, where that is known
 pub record IsAnswered (old new : Option (List ℕ)) : Type 0 where
   pub shown : List ℕ
+  pub text : IsUtf8 shown
   pub written : Appends old new shown
 
 -- the exit status
@@ -58,6 +60,7 @@ line_of TooLong = codes "rowan: text too long"
 line_of NoMemory = codes "rowan: out of memory"
 line_of CannotWrite = codes "rowan: cannot write standard output"
 
--- memory stops the program as itself, and any other fault of what it prints as a text that is too long
+-- memory stops the program as itself, and any other fault of what it prints as a text that is too
+-- long
 abbrev pub StopsFor : Fault → Stop → Type 0
 StopsFor fault stop = (fault ≡ Memory → stop ≡ NoMemory) × (fault ≢ Memory → stop ≡ TooLong)

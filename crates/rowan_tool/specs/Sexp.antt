@@ -46,8 +46,8 @@ abbrev pub LexedToken : Type 0
 LexedToken = SyntaxKind × Bor (List ℕ)
 
 -- the texts of the tokens, one after the other
-abbrev pub joined : List LexedToken → List ℕ
-joined tokens = flat_map (λ token. token.1.now) tokens
+abbrev pub tokens_text : List LexedToken → List ℕ
+tokens_text tokens = flat_map (λ token. token.1.now) tokens
 
 -- what no word contains: '(', ')' and white space
 abbrev pub is_delimiter : ℕ → Bool
@@ -88,7 +88,7 @@ AreApart (token ∷ next ∷ tokens) = (are_one token.0 next.0 ≡ false) × Are
 -- the tokens of a text
 pub record IsLexed (text : List ℕ) (tokens : List LexedToken) : Type 0 where
   -- their texts are the text
-  pub whole : joined tokens ≡ text
+  pub whole : tokens_text tokens ≡ text
   -- each is a parenthesis, a word or white space
   pub each : AllByRecursion IsToken tokens
   -- words and white space are as long as can be

@@ -17,7 +17,7 @@ const READ_SIZE: usize = 64 * 1024;
 /// What the arguments ask for.
 #[derive(Clone, Copy, PartialEq, Eq, Debug)]
 pub enum Command {
-    /// `tree`
+    /// `tree`: prints the tree of the input, which is read as s-expressions.
     Tree,
 }
 
@@ -104,12 +104,13 @@ impl From<Fault> for Stop {
     }
 }
 
-/// Does what the arguments ask for, the words after the program's name: reads the whole input,
-/// prints it and writes that to the output at once.
+/// Does what the arguments ask for, the words after the program's name: reads the whole input, prints it into memory, and
+/// writes that.
 ///
-/// The arguments are looked at before anything is read, and an input past 4,294,967,295 bytes is too
-/// long whatever its bytes are. `CannotRead` comes only after a read that failed, and `CannotWrite` only
-/// after a write that failed.
+/// Stops with `Usage` where the arguments are no command, which is looked at before anything is read; with `CannotRead` after a
+/// read that failed; with `TooLong` where the input has more than 4,294,967,295 bytes, whatever they are; with `NotUtf8` where
+/// they are no text; with `NoMemory` where memory is refused; and with `CannotWrite` after a write that failed. Only then may
+/// something have been written.
 pub fn run<R: Read, W: Write>(
     alloc: Global,
     args: &[String],
@@ -128,6 +129,8 @@ pub fn run<R: Read, W: Write>(
     ensures cannot_write { result ≡ Err Stop.CannotWrite →
         ReadsAll IsUtf8 (R.remaining input.old) (R.remaining input.new) }
     ensures read { OnOk result (ReadsAll IsUtf8 (R.remaining input.old) (R.remaining input.new)) }
+
+    // Of an output whose bytes are known: which text is printed, is said by no clause.
     ensures written { OnOk result (IsAnswered (W.contents output.old) (W.contents output.new)) }
 {
     let Some(command) = Command::from_args(args) else {

@@ -1,4 +1,4 @@
-//! Printed trees of a language with two kinds, of which one has many raw kinds.
+//! Printed trees of a language with two kinds, of which one has many raw kinds, and of one in which both have.
 use rowan::{Fault, GreenNode, GreenNodeBuilder, Language, SyntaxKind, SyntaxNode};
 use std::alloc::Global;
 use std::test::Fail;
@@ -59,10 +59,7 @@ fn group(alloc: Global, leaves: &[&str]) -> Result<GreenNode, Fault> {
         }
     }
     builder.finish_node()?;
-    match builder.finish() {
-        Ok(group) => return Ok(group),
-        Err(unfinished) => return Err(unfinished.fault()),
-    }
+    Ok(builder.finish()?)
 }
 
 fn root_of(alloc: Global, leaves: &[&str]) -> Result<SyntaxNode<Groups>, Fault> {
@@ -123,5 +120,77 @@ fn shows_the_text(rt: HostRuntime) -> Result<(), Fail> {
     let root = root_of(rt.alloc(), ["(", "a b", ")", "é"].as_slice())?;
     assert!(rt; root.kind() == Kind::Group);
     assert!(rt; root.to_string(rt.alloc())?.as_str() == "(a b)é");
+    Ok(())
+}
+
+/// A language in which even raw kinds mean one kind, and odd ones the other.
+#[derive(Clone, Copy, PartialEq, Eq, PartialOrd, Ord, Hash, Debug)]
+struct Numbers;
+
+#[derive(Clone, Copy, PartialEq, Eq, PartialOrd, Ord, Hash, Debug)]
+enum Parity {
+    Even,
+    Odd,
+}
+
+impl Language for Numbers {
+    type Kind = Parity;
+
+    ghost use Rattle.std.specs.Prelude.{◌==◌, ◌%◌, codes, if◌then◌else◌};
+    ghost use Rattle.rowan_tool_tests.specs.declared.language.Parity.TheVariants.{Even, Odd};
+
+    ghost meaning = { λ raw. if raw % 2 == 0 then Even else Odd };
+
+    ghost name = { elim [ Even ↦ codes "EVEN" | Odd ↦ codes "ODD" ] };
+
+    fn kind_from_raw(raw: SyntaxKind) -> Parity {
+        if raw.0 % 2 == 0 {
+            Parity::Even
+        } else {
+            Parity::Odd
+        }
+    }
+
+    fn kind_to_raw(kind: Parity) -> SyntaxKind {
+        match kind {
+            Parity::Even => SyntaxKind(0),
+            Parity::Odd => SyntaxKind(1),
+        }
+    }
+
+    fn kind_name(kind: Parity) -> &'static str {
+        match kind {
+            Parity::Even => "EVEN",
+            Parity::Odd => "ODD",
+        }
+    }
+}
+
+/// A node in a node, each with tokens, where no raw kind comes twice.
+fn numbered(alloc: Global) -> Result<GreenNode, Fault> {
+    let mut builder = GreenNodeBuilder::new(alloc);
+    builder.start_node(SyntaxKind(4))?;
+    builder.token(SyntaxKind(1), "a")?;
+    builder.token(SyntaxKind(65534), "b")?;
+    builder.start_node(SyntaxKind(3))?;
+    builder.token(SyntaxKind(2), "c")?;
+    builder.token(SyntaxKind(65535), "d")?;
+    builder.finish_node()?;
+    builder.finish_node()?;
+    Ok(builder.finish()?)
+}
+
+const NUMBERED: &str = r#"EVEN@0..4
+  ODD@0..1 "a"
+  EVEN@1..2 "b"
+  ODD@2..4
+    EVEN@2..3 "c"
+    ODD@3..4 "d"
+"#;
+
+#[test]
+fn shows_what_even_and_odd_kinds_mean(rt: HostRuntime) -> Result<(), Fail> {
+    let root: SyntaxNode<Numbers> = SyntaxNode::new_root(rt.alloc(), numbered(rt.alloc())?)?;
+    assert!(rt; root.debug_tree(rt.alloc())?.as_str() == NUMBERED);
     Ok(())
 }

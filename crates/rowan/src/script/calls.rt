@@ -3,20 +3,23 @@ use crate::builder::Checkpoint;
 use crate::fault::Fault;
 use crate::green::SyntaxKind;
 
-/// A call of a builder, as a value.
+/// A call of a builder, as a value. Each but `Mark` may be refused with `Memory`, too.
 #[derive(PartialEq, Eq, Debug, Drop)]
 pub enum Call {
-    /// Adds a token.
+    /// Adds a token. Refused with `TextTooLong` for a text of more than 4,294,967,295 bytes.
     Token(SyntaxKind, String),
     /// Opens a node.
     StartNode(SyntaxKind),
-    /// Closes the innermost open node.
+    /// Closes the innermost open node. Refused with `NothingOpen` where none is open, and with `TooManyChildren` or
+    /// `TextTooLong` where the node would pass a limit.
     FinishNode,
-    /// Takes a checkpoint, which is the next mark.
+    /// Takes a checkpoint, which is the next mark. Never refused.
     Mark,
-    /// Opens a node at a mark of the script.
+    /// Opens a node at a mark of the script, which are numbered from 0. Refused with `UnknownMark` where the mark was not taken
+    /// yet, and else as `StartNodeAtCheckpoint`.
     StartNodeAt(usize, SyntaxKind),
-    /// Opens a node at a checkpoint from anywhere.
+    /// Opens a node at a checkpoint from anywhere. Refused with `CheckpointPast` where the builder holds fewer finished elements
+    /// than the checkpoint says, and with `CheckpointBefore` where the innermost open node was opened behind it.
     StartNodeAtCheckpoint(Checkpoint, SyntaxKind),
 }
 

@@ -4,9 +4,46 @@ use rowan_green::green::SyntaxKind;
 use std::fmt;
 use std::hash::Hash;
 
-/// The kinds of a language: what each raw kind means, and how it is called.
+/// The kinds of a language: what each raw kind means, and how it is called. None of the calls can be refused.
 ///
-/// The type that implements it stands for the language; its values say nothing.
+/// The type that implements it stands for the language; its values say nothing. Every raw kind means a kind, and several may
+/// mean the same one. The two ghost members are what contracts see: `meaning`, the kind of each raw kind, and `name`, the bytes
+/// of each kind's name.
+///
+/// A language of lists, which have the raw kind 0, and of words, which have all others:
+///
+/// ```rust
+/// #[derive(Clone, Copy, PartialEq, Eq, PartialOrd, Ord, Hash, Debug)]
+/// enum Kind {
+///     List,
+///     Word,
+/// }
+///
+/// #[derive(Clone, Copy, PartialEq, Eq, PartialOrd, Ord, Hash, Debug)]
+/// struct Lists;
+///
+/// impl Language for Lists {
+///     type Kind = Kind;
+///
+///     ghost meaning = { λ raw. if raw == 0 then List else Word };
+///     ghost name = { elim [ List ↦ codes "LIST" | Word ↦ codes "WORD" ] };
+///
+///     fn kind_from_raw(raw: SyntaxKind) -> Kind {
+///         if raw.0 == 0 { Kind::List } else { Kind::Word }
+///     }
+///
+///     fn kind_to_raw(kind: Kind) -> SyntaxKind {
+///         SyntaxKind(kind as u16)
+///     }
+///
+///     fn kind_name(kind: Kind) -> &'static str {
+///         match kind {
+///             Kind::List => "LIST",
+///             Kind::Word => "WORD",
+///         }
+///     }
+/// }
+/// ```
 pub trait Language: Sized + Copy + fmt::Debug + Eq + Ord + Hash {
     /// The kinds of the language.
     type Kind: Sized + Copy + fmt::Debug + Eq + Ord + Hash;

@@ -4,7 +4,7 @@ ghost use Rattle.rowan_green.specs.Lent.{pointee};
 ghost use Rattle.rowan_green.specs.Sizes.{term_size};
 ghost use Rattle.rowan_green.specs.Term.{node_size, node_children};
 ghost use Rattle.rowan_green.specs.Fits.{child_limit};
-ghost use Rattle.rowan_api.specs.Printed.{size_left};
+ghost use Rattle.rowan_api.specs.Printed.{size_from};
 
 use crate::api::language::Language;
 use itoa::Buffer;
@@ -34,9 +34,10 @@ struct OpenNode<'a> {
 
 impl<'a> OpenNode<'a> {
     fn new(node: &'a GreenNode, start: u32) -> OpenNode<'a>
-        ensures { size_left result.node.now result.next + 1 ≡ node_size node.now }
+        ensures { size_from result.node.now result.next + 1 ≡ node_size node.now }
     {
-        // Says that the number of children is within its limit, so that their places can be counted.
+        // Says that the number of children is within its limit, so that their places can be
+        // counted.
         let _ = node.text_len();
         OpenNode {
             node,
@@ -45,10 +46,12 @@ impl<'a> OpenNode<'a> {
         }
     }
 
-    // The next child with the offset of its text in that of the root, and the node without that child.
+    // The next child with the offset of its text in that of the root, and the node without that
+    // child.
     fn split_child(self) -> Option<(u32, GreenElementRef<'a>, OpenNode<'a>)>
         ensures { IfSome result (λ p.
-            size_left p.2.node.now p.2.next + term_size (pointee p.1) ≡ size_left self.entry.node.now self.entry.next) }
+            size_from p.2.node.now p.2.next + term_size (pointee p.1)
+            ≡ size_from self.entry.node.now self.entry.next) }
     {
         let OpenNode { node, start, next } = self;
         match node.child_ref(next) {
@@ -62,7 +65,8 @@ impl<'a> OpenNode<'a> {
     }
 }
 
-// The lines of a node and all that is in it. The start is the offset of its text in that of the root.
+// The lines of a node and all that is in it. The start is the offset of its text in that of the
+// root.
 pub(super) fn tree<L: Language>(
     alloc: Global,
     node: &GreenNode,

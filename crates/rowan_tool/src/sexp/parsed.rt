@@ -5,7 +5,7 @@ use rowan::{Fault, GreenNode, SyntaxNode};
 use std::alloc::Global;
 use std::marker::Model;
 
-/// The tree of a text.
+/// The tree of a text, as `parse` makes it. Of its calls only `syntax` can be refused, for want of memory.
 #[derive(Drop)]
 pub struct Parse {
     green: GreenNode,

@@ -8,7 +8,7 @@ ghost use Rattle.rowan_green.specs.declared.utility_types.NodeOrToken.TheVariant
 ghost use Rattle.rowan_green.specs.Term.{node_text};
 ghost use Rattle.rowan_green.specs.Word.{Open, Leaf, Close};
 ghost use Rattle.rowan_tool.specs.Parsing.{IsInRoot, IsTree};
-ghost use Rattle.rowan_tool.specs.Sexp.{IsTextOf, IsToken, joined, number_of};
+ghost use Rattle.rowan_tool.specs.Sexp.{IsTextOf, IsToken, tokens_text, number_of};
 ghost use Rattle.std.specs.List.{AllByRecursion};
 
 use crate::sexp::lang::SyntaxKind;
@@ -20,6 +20,12 @@ use std::alloc::Global;
 /// Parses a text. The tree holds each byte of it: a list that is never closed runs to the end of the text, and a parenthesis
 /// that closes no list stands in a node of its own. Refused with `TextTooLong` for a text of more than 4,294,967,295 bytes,
 /// before anything else, and else only for want of memory.
+///
+/// ```rust
+/// let parse = sexp::parse(alloc, "(+ 1 2")?;
+/// println!(rt; "{}", parse.green())?;                             // (+ 1 2
+/// println!(rt; "{}", parse.syntax(alloc)?.debug_tree(alloc)?)?;    // ROOT@0..6, and the lines below it
+/// ```
 pub fn parse(alloc: Global, text: &str) -> Result<Parse, Fault>
     ensures text { IfOk result (λ p. node_text p ≡ text.now) }
     ensures err { IfErr result (λ e. e ≢ Fault.Memory → e ≡ Fault.TextTooLong) }
@@ -61,10 +67,10 @@ pub fn parse_with(alloc: Global, text: &str, cache: &mut NodeCache) -> Result<Pa
 fn build(builder: &mut GreenNodeBuilder<'_>, tokens: &[Token<'_>]) -> Result<(), Fault>
     requires empty { word_of builder.old ≡ [] }
     requires tokens { AllByRecursion IsToken tokens.now }
-    requires room { length (joined tokens.now) ≤ byte_limit }
+    requires room { length (tokens_text tokens.now) ≤ byte_limit }
 
     ensures ok { OnOk result (IsTree (word_of builder.new)) }
-    ensures text { OnOk result (text_so_far builder.new ≡ joined tokens.now) }
+    ensures text { OnOk result (text_so_far builder.new ≡ tokens_text tokens.now) }
     ensures err { IfErr result (λ e. e ≡ Fault.Memory) }
 
     // The builder's cache.

@@ -3,7 +3,7 @@ use Rattle.std.proofs.lemmas.List.Folds.{length-flat_map-take}
 use Rattle.rowan_green.proofs.StreamLemmas.{BuildsOn-trans}
 use Rattle.rowan_tool.specs.declared.sexp.lang.SyntaxKind.TheVariants.{L_PAREN}
 use Rattle.rowan_tool.specs.Sexp.{LexedToken}
-use Rattle.rowan_tool.proofs.ParsingLemmas.{joined-more}
+use Rattle.rowan_tool.proofs.ParsingLemmas.{tokens_text-more}
 use Rattle.rowan_tool.proofs.sexp.parser.build.Goals as goal
 
 pub place-requires-clause-room : goal.place-requires-clause-room
@@ -23,7 +23,7 @@ loop-token-preserved c =
     let nothing : LexedToken = (L_PAREN, record { ref_ptr = (0, 0); now = [] }) in
     record {
       in_root = search rules;
-      so_far = c.in_ok-open_lists.ensures.text ∙ ap (λ bs. bs ++ (get_or tokens i nothing).1.now) c.loop-token.invariant.so_far ∙ sym (joined-more tokens i nothing (omega (arith, c.loop-token-test.true)));
+      so_far = c.in_ok-open_lists.ensures.text ∙ ap (λ bs. bs ++ (get_or tokens i nothing).1.now) c.loop-token.invariant.so_far ∙ sym (tokens_text-more tokens i nothing (omega (arith, c.loop-token-test.true)));
       builds = BuildsOn-trans _ _ _ c.loop-token.invariant.builds c.place.ensures.stream;
       same_loan = c.place.ensures.loan ∙ c.loop-token.invariant.same_loan;
     }

@@ -1,14 +1,14 @@
 use Rattle.std.proofs.Common.{◌≡◌, take}
 use Rattle.rowan_green.specs.Stream.{BuildsOn}
 use Rattle.rowan_green.specs.Word.{word_text}
-use Rattle.rowan_tool.specs.Sexp.{joined}
+use Rattle.rowan_tool.specs.Sexp.{tokens_text}
 use Rattle.rowan_tool.specs.Parsing.{IsInRoot}
 use Rattle.rowan_tool.proofs.sexp.parser.build.Given as goal
 
 abbrev pub invariant-loop-token : goal.invariant-loop-token
 invariant-loop-token l = record {
   in_root : IsInRoot l.builder.inner.word l.open_lists;
-  so_far : word_text l.builder.inner.word ≡ joined (take l.token-index l.tokens);
+  so_far : word_text l.builder.inner.word ≡ tokens_text (take l.token-index l.tokens);
   builds : BuildsOn l.fn.builder.inner l.builder.inner;
   same_loan : l.builder.home.ghost_name ≡ l.fn.builder.home.ghost_name;
 }

@@ -5,14 +5,14 @@ use Rattle.rowan_green.specs.Cache.{first_seen}
 use Rattle.rowan_green.specs.Stream.{subterms}
 use Rattle.rowan_green.specs.Term.{node_text}
 use Rattle.rowan_green.proofs.StreamLemmas.{AskedForWord-starts, AskedForWord-finished, asked_for-first_seen}
-use Rattle.rowan_tool.specs.Sexp.{joined}
+use Rattle.rowan_tool.specs.Sexp.{tokens_text}
 use Rattle.rowan_tool.proofs.ParsingLemmas.{IsTree-refuses}
 use Rattle.rowan_tool.proofs.sexp.parser.parse_with.Goals as goal
 
 pub returns-in-Ok-clause-text : goal.returns-in-Ok-clause-text
 returns-in-Ok-clause-text c =
     ap node_text c.new.ensures ∙ c.in-Ok.ensures.text ∙ c.in_ok-build.ensures.text
-    ∙ ap joined c.as_slice.ensures.value ∙ c.in_ok-tokens.ensures.lexed.whole
+    ∙ ap tokens_text c.as_slice.ensures.value ∙ c.in_ok-tokens.ensures.lexed.whole
 
 pub returns-in-Ok-clause-interned : goal.returns-in-Ok-clause-interned
 returns-in-Ok-clause-interned c =
