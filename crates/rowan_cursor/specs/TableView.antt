@@ -6,8 +6,8 @@ use Rattle.rowan_green.specs.Term.{NodeTerm}
 use Rattle.rowan_cursor.specs.declared.table.Entry.{Entry}
 use Rattle.rowan_cursor.specs.declared.table.Table.{Table}
 use Rattle.rowan_cursor.specs.Cursor.{Cursor}
-use Rattle.rowan_cursor.specs.Moves.{cursor_at, is_node_at, Element, element_at, numbers}
-use Rattle.rowan_cursor.specs.Table.{root_node, entry_path, green_of, children_in, IsEntry, IsRow, IsRowBack}
+use Rattle.rowan_cursor.specs.Moves.{cursor_at, is_node_at, Element, element_at, numbers, child_paths, following, preceding}
+use Rattle.rowan_cursor.specs.Table.{root_node, entry_path, green_of, children_in, Describes, IsRow, IsRowBack}
 
 -- the root of the tree
 abbrev pub root_of : Table → NodeTerm
@@ -71,16 +71,28 @@ row_paths t start end = map (path_at t) (numbers start (end - start))
 abbrev pub StretchShows : Table → ℕ → ℕ → List Path → Type 0
 StretchShows t start end paths = IsRow t.entries.items start end paths
 
--- the elements with these numbers are those at these paths, in the other order
+-- the elements with these numbers, from the last on, are those at these paths
 abbrev pub StretchShowsBack : Table → ℕ → ℕ → List Path → Type 0
 StretchShowsBack t start end paths = IsRowBack t.entries.items start end paths
 
--- this entry has the number
+-- this entry has the number, and tells of what stands there
 abbrev pub IsEntryAt : Table → ℕ → Entry → Type 0
-IsEntryAt t n e = IsEntry t.entries.items n e
+IsEntryAt t n e = Describes t.entries.items n e
 
 -- the numbers of the children of the element with a number go up to this one
 abbrev pub IsChildrenEnd : Table → ℕ → ℕ → Type 0
 IsChildrenEnd t n end =
     (e : Entry) → slice_get t.entries.items n ≡ Some e
     → end ≡ e.first_child + length (children_in (green_of e))
+
+-- the paths of the children of the element with a number
+abbrev pub paths_below : Table → ℕ → List Path
+paths_below t n = child_paths (root_of t) (path_at t n)
+
+-- the paths of its siblings behind it
+abbrev pub paths_behind : Table → ℕ → List Path
+paths_behind t n = following (root_of t) (path_at t n)
+
+-- the paths of its siblings before it, nearest first
+abbrev pub paths_before : Table → ℕ → List Path
+paths_before t n = preceding (root_of t) (path_at t n)

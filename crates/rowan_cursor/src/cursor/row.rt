@@ -126,7 +126,8 @@ impl Remainder<Row> {
 
     // The next element.
     pub(super) fn next_element(&mut self) -> Option<Result<SyntaxElement, Fault>>
-        ensures { YieldsOrRefuses (rest_of row_elements self.old) result (rest_of row_elements self.new) }
+        ensures { YieldsOrRefuses (rest_of row_elements self.old) result
+            (rest_of row_elements self.new) }
     {
         let mut row = match mem::replace(self, Remainder::Nothing) {
             Remainder::Walk(row) => row,
@@ -164,7 +165,8 @@ impl Remainder<Row> {
 
     // An equal one, which goes on by itself.
     pub(super) fn copy(&self) -> Result<Remainder<Row>, AllocError>
-        ensures elements { IfOk result (λ copy. rest_of row_elements copy ≡ rest_of row_elements self.now) }
+        ensures elements { IfOk result (λ copy.
+            rest_of row_elements copy ≡ rest_of row_elements self.now) }
         ensures nodes { IfOk result (λ copy. rest_of row_nodes copy ≡ rest_of row_nodes self.now) }
     {
         match self {
