@@ -17,6 +17,10 @@ root_of t = root_node t.entries.items
 abbrev pub IsWithin : Table → ℕ → Type 0
 IsWithin t n = n < length t.entries.items
 
+-- the table has entries with all numbers below this one
+abbrev pub EndsWithin : Table → ℕ → Type 0
+EndsWithin t end = end ≤ length t.entries.items
+
 -- the path of the element with this number
 abbrev pub path_at : Table → ℕ → Path
 path_at t n = entry_path t.entries.items n
@@ -61,7 +65,7 @@ pub record LeadsToToken (t : Table) (number : Option ℕ) (place : Option Path) 
 -- the table has entries with the numbers from a start up to an end
 pub record IsStretch (t : Table) (start end : ℕ) : Type 0 where
   pub order : start ≤ end
-  pub within : end ≤ length t.entries.items
+  pub within : EndsWithin t end
 
 -- the paths of the elements with these numbers
 abbrev pub row_paths : Table → ℕ → ℕ → List Path
