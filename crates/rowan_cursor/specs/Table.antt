@@ -19,17 +19,17 @@ use Rattle.rowan_cursor.specs.declared.table.Entry.{Entry}
 use Rattle.rowan_cursor.specs.declared.table.Content.{Content}
 use Rattle.rowan_cursor.specs.declared.table.Content.TheVariants.{OfNode, OfToken}
 
--- the node that an entry keeps, if it is that of one
+-- the node, by what stands in an entry; none in that of a token
 abbrev pub green_in : Content → Option NodeTerm
 green_in (OfNode start n) = Some n
 green_in (OfToken start) = None
 
--- where its text starts
+-- where the text starts, by what stands in an entry
 abbrev pub offset_in : Content → ℕ
 offset_in (OfNode start n) = start
 offset_in (OfToken start) = start
 
--- the node of an entry, if it is that of one
+-- the node of an entry; none of that of a token
 abbrev pub green_of : Entry → Option NodeTerm
 green_of e = green_in e.content
 
@@ -47,7 +47,7 @@ abbrev pub len_in : Option NodeTerm → ℕ
 len_in None = 0
 len_in (Some n) = node_len n
 
--- the node, if there is one
+-- the node, or an empty one where there is none
 abbrev pub node_in : Option NodeTerm → NodeTerm
 node_in None = node 0 empty
 node_in (Some n) = n

@@ -25,7 +25,7 @@ EndsWithin t end = end ≤ length t.entries.items
 abbrev pub path_at : Table → ℕ → Path
 path_at t n = entry_path t.entries.items n
 
--- whether that is a node
+-- whether a node stands at the path of this number
 abbrev pub stands_for_node : Table → ℕ → Bool
 stands_for_node t n = is_node_at (root_of t) (path_at t n)
 
@@ -93,10 +93,10 @@ IsChildrenEnd t n end =
 abbrev pub paths_below : Table → ℕ → List Path
 paths_below t n = child_paths (root_of t) (path_at t n)
 
--- the paths of its siblings behind it
+-- the paths of the siblings behind the element with a number
 abbrev pub paths_behind : Table → ℕ → List Path
 paths_behind t n = following (root_of t) (path_at t n)
 
--- the paths of its siblings before it, nearest first
+-- the paths of the siblings before the element with a number, nearest first
 abbrev pub paths_before : Table → ℕ → List Path
 paths_before t n = preceding (root_of t) (path_at t n)
