@@ -21,7 +21,25 @@ use std::hash::{Hash, Hasher};
 use std::marker::Model;
 use std::rc::Rc;
 
-/// A node in a tree: a root, and the way from it to the node. A clone shares the tree.
+/// A node in a tree: a root, and the way from it to the node.
+///
+/// All cursors of one tree share it, and it lives as long as one of them. A move goes by a table of the tree, which `new_root`
+/// fills, and asks for no memory. It is refused only where the tree cannot be shared once more, since its reference count is
+/// full; then the answer is `Err(Fault::Memory)`. Two nodes are equal if they have equal green nodes and their texts start at
+/// the same offset.
+///
+/// ```rust
+/// // `green` is the node of `f(x)`: a token `f`, and a node with the tokens `(`, `x` and `)`
+/// let call = SyntaxNode::new_root(alloc, green)?;
+/// if let Some(arguments) = call.first_child()? {
+///     assert_eq!(rt; arguments.index(), 1);
+///     assert_eq!(rt; arguments.text_range(), TextRange::new(TextSize::from(1), TextSize::from(4)));
+///     assert_eq!(rt; arguments.parent()?, Some(call));
+///     for element in arguments.children_with_tokens() {
+///         let kind = element?.kind();
+///     }
+/// }
+/// ```
 #[derive(Drop)]
 pub struct SyntaxNode {
     table: Rc<Table>,
@@ -67,8 +85,9 @@ impl SyntaxNode {
         }
     }
 
-    /// The cursor at the root of a green tree. Refused only for want of memory, and where the tree has more than 4,294,967,295 nodes
-    /// and tokens, whose table would take 100 GB.
+    /// The cursor at the root of a green tree. It visits each node and token once.
+    /// `Err(Fault::Memory)` for want of memory, and where the tree has more than 4,294,967,295 nodes and tokens, whose table
+    /// would take 100 GB.
     pub fn new_root(alloc: Global, green: GreenNode) -> Result<SyntaxNode, Fault>
         ensures ok { IfOk result (λ n. n ≡ record { root = green; path = [] }) }
         ensures err { IfErr result (λ e. e ≡ Fault.Memory) }
@@ -77,7 +96,8 @@ impl SyntaxNode {
         Ok(SyntaxNode { table, number: 0 })
     }
 
-    /// The root of a new tree, which has the green node of this one. Refused as `new_root` is.
+    /// The root of a new tree, which has the green node of this one. It visits each node and token below this one once.
+    /// `Err(Fault::Memory)` for want of memory.
     pub fn clone_subtree(&self) -> Result<SyntaxNode, Fault>
         ensures ok { IfOk result (λ n. StandsAt self.now n.root) }
         ensures top { IfOk result (λ n. n.path ≡ []) }
@@ -115,6 +135,7 @@ impl SyntaxNode {
     }
 
     /// The root of the tree.
+    /// `Err(Fault::Memory)` where the tree cannot be shared once more.
     pub fn tree_top(&self) -> Result<SyntaxNode, Fault>
         ensures ok { IfOk result (λ n. n ≡ tree_top self.now) }
         ensures err { IfErr result (λ e. e ≡ Fault.Memory) }
@@ -123,6 +144,7 @@ impl SyntaxNode {
     }
 
     /// The parent, or `None` of a root.
+    /// `Err(Fault::Memory)` where the tree cannot be shared once more.
     pub fn parent(&self) -> Result<Option<SyntaxNode>, Fault>
         ensures ok { IfOk result (λ found. found ≡ parent self.now) }
         ensures err { IfErr result (λ e. e ≡ Fault.Memory) }
@@ -131,6 +153,7 @@ impl SyntaxNode {
     }
 
     /// The first child that is a node.
+    /// `Err(Fault::Memory)` where the tree cannot be shared once more.
     pub fn first_child(&self) -> Result<Option<SyntaxNode>, Fault>
         ensures ok { IfOk result (λ found. found ≡ first_child self.now) }
         ensures err { IfErr result (λ e. e ≡ Fault.Memory) }
@@ -139,6 +162,7 @@ impl SyntaxNode {
     }
 
     /// The last child that is a node.
+    /// `Err(Fault::Memory)` where the tree cannot be shared once more.
     pub fn last_child(&self) -> Result<Option<SyntaxNode>, Fault>
         ensures ok { IfOk result (λ found. found ≡ last_child self.now) }
         ensures err { IfErr result (λ e. e ≡ Fault.Memory) }
@@ -147,6 +171,7 @@ impl SyntaxNode {
     }
 
     /// The first child.
+    /// `Err(Fault::Memory)` where the tree cannot be shared once more.
     pub fn first_child_or_token(&self) -> Result<Option<SyntaxElement>, Fault>
         ensures ok { IfOk result (λ found. found ≡ first_child_or_token self.now) }
         ensures err { IfErr result (λ e. e ≡ Fault.Memory) }
@@ -155,6 +180,7 @@ impl SyntaxNode {
     }
 
     /// The last child.
+    /// `Err(Fault::Memory)` where the tree cannot be shared once more.
     pub fn last_child_or_token(&self) -> Result<Option<SyntaxElement>, Fault>
         ensures ok { IfOk result (λ found. found ≡ last_child_or_token self.now) }
         ensures err { IfErr result (λ e. e ≡ Fault.Memory) }
@@ -163,6 +189,7 @@ impl SyntaxNode {
     }
 
     /// The child at an index among all children, or `None` past the last one.
+    /// `Err(Fault::Memory)` where the tree cannot be shared once more.
     pub fn child_or_token_at_index(&self, index: usize) -> Result<Option<SyntaxElement>, Fault>
         ensures ok { IfOk result (λ found. found ≡ child_or_token_at_index self.now index) }
         ensures err { IfErr result (λ e. e ≡ Fault.Memory) }
@@ -171,6 +198,7 @@ impl SyntaxNode {
     }
 
     /// The next sibling that is a node.
+    /// `Err(Fault::Memory)` where the tree cannot be shared once more.
     pub fn next_sibling(&self) -> Result<Option<SyntaxNode>, Fault>
         ensures ok { IfOk result (λ found. found ≡ next_sibling self.now) }
         ensures err { IfErr result (λ e. e ≡ Fault.Memory) }
@@ -179,6 +207,7 @@ impl SyntaxNode {
     }
 
     /// The nearest sibling before this one that is a node.
+    /// `Err(Fault::Memory)` where the tree cannot be shared once more.
     pub fn prev_sibling(&self) -> Result<Option<SyntaxNode>, Fault>
         ensures ok { IfOk result (λ found. found ≡ prev_sibling self.now) }
         ensures err { IfErr result (λ e. e ≡ Fault.Memory) }
@@ -187,6 +216,7 @@ impl SyntaxNode {
     }
 
     /// The next sibling.
+    /// `Err(Fault::Memory)` where the tree cannot be shared once more.
     pub fn next_sibling_or_token(&self) -> Result<Option<SyntaxElement>, Fault>
         ensures ok { IfOk result (λ found. found ≡ next_sibling_or_token self.now) }
         ensures err { IfErr result (λ e. e ≡ Fault.Memory) }
@@ -195,6 +225,7 @@ impl SyntaxNode {
     }
 
     /// The sibling before this one.
+    /// `Err(Fault::Memory)` where the tree cannot be shared once more.
     pub fn prev_sibling_or_token(&self) -> Result<Option<SyntaxElement>, Fault>
         ensures ok { IfOk result (λ found. found ≡ prev_sibling_or_token self.now) }
         ensures err { IfErr result (λ e. e ≡ Fault.Memory) }
@@ -203,6 +234,7 @@ impl SyntaxNode {
     }
 
     /// The first token of all that are in this node, also an empty one.
+    /// `Err(Fault::Memory)` where the tree cannot be shared once more.
     pub fn first_token(&self) -> Result<Option<SyntaxToken>, Fault>
         ensures ok { IfOk result (λ found. found ≡ first_token self.now) }
         ensures err { IfErr result (λ e. e ≡ Fault.Memory) }
@@ -211,6 +243,7 @@ impl SyntaxNode {
     }
 
     /// The last token of all that are in this node, also an empty one.
+    /// `Err(Fault::Memory)` where the tree cannot be shared once more.
     pub fn last_token(&self) -> Result<Option<SyntaxToken>, Fault>
         ensures ok { IfOk result (λ found. found ≡ last_token self.now) }
         ensures err { IfErr result (λ e. e ≡ Fault.Memory) }
@@ -219,6 +252,7 @@ impl SyntaxNode {
     }
 
     /// The node and the nodes above it, up to the root.
+    /// An item is `Err(Fault::Memory)` where the tree cannot be shared once more; then the iterator ends.
     pub fn ancestors(&self) -> Ancestors
         ensures ok { IfOk result (λ list. list ≡ ancestors self.now) }
         ensures err { IfErr result (λ e. e ≡ Fault.Memory) }
@@ -227,6 +261,7 @@ impl SyntaxNode {
     }
 
     /// The children that are nodes.
+    /// An item is `Err(Fault::Memory)` where the tree cannot be shared once more; then the iterator ends.
     pub fn children(&self) -> SyntaxNodeChildren
         ensures ok { IfOk result (λ list. list ≡ children self.now) }
         ensures err { IfErr result (λ e. e ≡ Fault.Memory) }
@@ -235,6 +270,7 @@ impl SyntaxNode {
     }
 
     /// The children.
+    /// An item is `Err(Fault::Memory)` where the tree cannot be shared once more; then the iterator ends.
     pub fn children_with_tokens(&self) -> SyntaxElementChildren
         ensures ok { IfOk result (λ list. list ≡ children_with_tokens self.now) }
         ensures err { IfErr result (λ e. e ≡ Fault.Memory) }
@@ -243,6 +279,7 @@ impl SyntaxNode {
     }
 
     /// The node, and then its siblings in a direction that are nodes, nearest first. A root has none.
+    /// An item is `Err(Fault::Memory)` where the tree cannot be shared once more; then the iterator ends.
     pub fn siblings(&self, direction: Direction) -> Siblings
         ensures ok { IfOk result (λ list. list ≡ siblings direction self.now) }
         ensures err { IfErr result (λ e. e ≡ Fault.Memory) }
@@ -251,6 +288,7 @@ impl SyntaxNode {
     }
 
     /// The node, and then its siblings in a direction, nearest first. A root has none.
+    /// An item is `Err(Fault::Memory)` where the tree cannot be shared once more; then the iterator ends.
     pub fn siblings_with_tokens(&self, direction: Direction) -> SiblingsWithTokens
         ensures ok { IfOk result (λ list. list ≡ siblings_with_tokens direction self.now) }
         ensures err { IfErr result (λ e. e ≡ Fault.Memory) }
