@@ -8,3 +8,5 @@ pub mod RowViews
 pub mod SizeLemmas
 pub mod TableLemmas
 pub mod TokenLemmas
+pub mod WalkLaws
+pub mod WalkLemmas

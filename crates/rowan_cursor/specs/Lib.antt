@@ -8,6 +8,9 @@ pub mod Pass
 pub mod Rows
 pub mod Table
 pub mod TableProp
+pub mod Walk
+pub mod WalkRuns
+pub mod WalkView
 pub mod Yields
 pub mod YieldsCode
 pub use Rattle.rowan_green.specs.Term

@@ -1,0 +1,45 @@
+-- What is left of a walk, by the event that comes next.
+use Rattle.std.specs.Prelude.{◌≡◌, ℕ, suc, ◌<◌, true, List, [], ◌∷◌, ◌++◌, length, drop, Option, Some, None}
+use Rattle.rowan_green.specs.declared.utility_types.NodeOrToken.TheVariants.{Node}
+use Rattle.rowan_green.specs.declared.utility_types.WalkEvent.{WalkEvent}
+use Rattle.rowan_green.specs.declared.utility_types.WalkEvent.TheVariants.{Enter, Leave}
+use Rattle.rowan_green.specs.Term.{NodeTerm, Term}
+use Rattle.rowan_green.specs.Path.{Path, subterm, begins}
+use Rattle.rowan_cursor.specs.declared.tree.Entry.{Entry}
+use Rattle.rowan_cursor.specs.Moves.{children_of}
+use Rattle.rowan_cursor.specs.Table.{root_of, path_at}
+use Rattle.rowan_cursor.specs.Walk.{event_map, term_events, path_events}
+
+-- the events of the children of the node at a path, from index i on
+abbrev pub events_from : Path → ℕ → List Term → List (WalkEvent Path)
+events_from p i [] = []
+events_from p i (t ∷ ts) = term_events (p ++ i ∷ []) (Some t) ++ events_from p (suc i) ts
+
+abbrev pub child_events : NodeTerm → Path → ℕ → List (WalkEvent Path)
+child_events root p i = events_from p i (drop i (children_of (subterm (Node root) p)))
+
+-- the events behind an element in a walk from `top`, which this way leads to from there
+abbrev pub behind : NodeTerm → Path → Path → List (WalkEvent Path)
+behind root top [] = []
+behind root top (i ∷ way) =
+    behind root (top ++ i ∷ []) way ++ (child_events root top (suc i) ++ Leave top ∷ [])
+
+-- the events behind the element at a path
+abbrev pub behind_path : NodeTerm → Path → Path → List (WalkEvent Path)
+behind_path root top p = behind root top (drop (length top) p)
+
+-- the events from this one on
+abbrev pub events_on : NodeTerm → Path → WalkEvent Path → List (WalkEvent Path)
+events_on root top (Enter p) = path_events root p ++ behind_path root top p
+events_on root top (Leave p) = Leave p ∷ behind_path root top p
+
+-- the same by numbers of entries, where there is a next event
+abbrev pub events_left : List Entry → ℕ → Option (WalkEvent ℕ) → List (WalkEvent Path)
+events_left es start None = []
+events_left es start (Some e) =
+    events_on (root_of es) (path_at es start) (event_map (path_at es) e)
+
+-- the table has an entry with this number, at or below that of the start
+pub record IsInside (es : List Entry) (start n : ℕ) : Type 0 where
+  pub within : n < length es
+  pub inside : begins (path_at es start) (path_at es n) ≡ true
