@@ -16,7 +16,7 @@ use Rattle.rowan_green.proofs.SearchLemmas.{child_start-le_all}
 use Rattle.rowan_cursor.specs.Cursor.{last_index}
 use Rattle.rowan_cursor.specs.Moves.{numbers, below, child_count, children_of, is_node, child_paths, first_at, following, preceding}
 use Rattle.rowan_cursor.specs.Table.{root_of, green_of, offset_of, index_of, children_in, len_in, counts, path_within, path_at, IsTop, IsChildOf, IsDraft, IsTable, IsRow, IsRowBack, IsEntry, IsNodeEntry}
-use Rattle.rowan_cursor.specs.declared.tree.Entry.{Entry}
+use Rattle.rowan_cursor.specs.declared.table.Entry.{Entry}
 use Rattle.rowan_cursor.proofs.RowLemmas.{map-reverse, first_split, last_split, empty_row}
 use Rattle.rowan_cursor.proofs.PathLemmas.{subterm-child, offset-child, last_index-child, following-child, preceding-child, child_start-next, node_len-children}
 

@@ -15,9 +15,9 @@ use Rattle.rowan_green.specs.Term.{NodeTerm, node, empty, Term, node_children, n
 use Rattle.rowan_green.specs.Path.{Path, subterm, offset, len_of}
 use Rattle.rowan_cursor.specs.Cursor.{last_index}
 use Rattle.rowan_cursor.specs.Moves.{child_paths, is_node_at, numbers}
-use Rattle.rowan_cursor.specs.declared.tree.Entry.{Entry}
-use Rattle.rowan_cursor.specs.declared.tree.Kept.{Kept}
-use Rattle.rowan_cursor.specs.declared.tree.Kept.TheVariants.{OfNode, OfToken}
+use Rattle.rowan_cursor.specs.declared.table.Entry.{Entry}
+use Rattle.rowan_cursor.specs.declared.table.Kept.{Kept}
+use Rattle.rowan_cursor.specs.declared.table.Kept.TheVariants.{OfNode, OfToken}
 
 -- what an entry keeps: its node, if it is one, and where its text starts
 abbrev pub green_in : Kept → Option NodeTerm

@@ -5,7 +5,7 @@ ghost use Rattle.rowan_cursor.specs.CursorView.{element_of};
 ghost use Rattle.rowan_cursor.specs.Moves.{Element, place_of, tree_top, parent, next_sibling_or_token, prev_sibling_or_token, first_token, last_token, element_ancestors};
 
 use crate::cursor::{Ancestors, SyntaxNode, SyntaxToken};
-use crate::tree::Tree;
+use crate::table::Table;
 use rowan_green::fault::Fault;
 use rowan_green::green::SyntaxKind;
 use rowan_green::text::TextRange;
@@ -16,26 +16,26 @@ use std::rc::Rc;
 pub type SyntaxElement = NodeOrToken<SyntaxNode, SyntaxToken>;
 
 // The element of a number.
-pub(super) fn at(tree: &Rc<Tree>, entry: usize) -> Result<SyntaxElement, Fault>
-    requires { entry < length tree.now.value.entries.items }
-    ensures ok { IfOk result (λ e. e ≡ element_of tree.now.value.entries.items entry) }
+pub(super) fn at(table: &Rc<Table>, number: usize) -> Result<SyntaxElement, Fault>
+    requires { number < length table.now.value.entries.items }
+    ensures ok { IfOk result (λ e. e ≡ element_of table.now.value.entries.items number) }
     ensures err { IfErr result (λ e. e ≡ Fault.Memory) }
 {
-    if tree.is_node(entry) {
-        Ok(NodeOrToken::Node(SyntaxNode::at(tree, entry)?))
+    if table.is_node(number) {
+        Ok(NodeOrToken::Node(SyntaxNode::at(table, number)?))
     } else {
-        Ok(NodeOrToken::Token(SyntaxToken::at(tree, entry)?))
+        Ok(NodeOrToken::Token(SyntaxToken::at(table, number)?))
     }
 }
 
 // The same, where there is a number.
-pub(super) fn found(tree: &Rc<Tree>, entry: Option<usize>) -> Result<Option<SyntaxElement>, Fault>
-    requires { IfSome entry (λ n. n < length tree.now.value.entries.items) }
-    ensures ok { IfOk result (λ found. found ≡ option_map (element_of tree.now.value.entries.items) entry) }
+pub(super) fn found(table: &Rc<Table>, number: Option<usize>) -> Result<Option<SyntaxElement>, Fault>
+    requires { IfSome number (λ n. n < length table.now.value.entries.items) }
+    ensures ok { IfOk result (λ found. found ≡ option_map (element_of table.now.value.entries.items) number) }
     ensures err { IfErr result (λ e. e ≡ Fault.Memory) }
 {
-    match entry {
-        Some(entry) => Ok(Some(at(tree, entry)?)),
+    match number {
+        Some(number) => Ok(Some(at(table, number)?)),
         None => Ok(None),
     }
 }
