@@ -10,3 +10,4 @@ pub mod TableLemmas
 pub mod TokenLemmas
 pub mod WalkLaws
 pub mod WalkLemmas
+pub mod WalkViews

@@ -49,7 +49,7 @@ whole_run-leaves calls es h e =
     subst (λ fs. LeavesAll fs []) (ap (λ fs. given calls es ++ fs) e ∙ append-nil (given calls es)) (run-leaves calls es [] h)
 
 -- the events of one element leave what they enter, also those of some elements alone
-abbrev kept : (Path → Bool) → List (WalkEvent Path) → List (WalkEvent Path)
+abbrev pub kept : (Path → Bool) → List (WalkEvent Path) → List (WalkEvent Path)
 kept k es = filter (λ e. k (event_value e)) es
 
 token-leaves : (b : Bool) (p : Path) (es : List (WalkEvent Path)) (xs : List Path) → LeavesAll es xs → LeavesAll (cond b (Enter p ∷ cond b (Leave p ∷ es) es) (cond b (Leave p ∷ es) es)) xs
@@ -97,7 +97,7 @@ map-leaves f (Enter y ∷ es) xs h = map-leaves f es (y ∷ xs) h
 map-leaves f (Leave y ∷ es) [] h = h
 map-leaves f (Leave y ∷ es) (x ∷ xs) h = (ap f h.0, map-leaves f es xs h.1)
 
-all_kept : (es : List (WalkEvent Path)) → kept (λ p. true) es ≡ es
+pub all_kept : (es : List (WalkEvent Path)) → kept (λ p. true) es ≡ es
 all_kept [] = refl
 all_kept (e ∷ es) = ap (λ fs. e ∷ fs) (all_kept es)
 

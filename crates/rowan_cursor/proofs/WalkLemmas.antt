@@ -3,6 +3,7 @@ use Rattle.std.proofs.Common.{◌≡◌, ◌≢◌, ℕ, zero, suc, ◌+◌, ◌
 use Rattle.std.specs.Prelude.{slice_get}
 use Rattle.std.specs.Option.{option_map, unwrap_or}
 use Rattle.std.proofs.Math.Seq.{drop-append_seam, drop-length}
+use Rattle.std.proofs.lemmas.Bool.{true≢false}
 use Rattle.std.proofs.lemmas.List.{append-nil, drop_all}
 use Rattle.std.proofs.lemmas.List.Elements.{filter-append}
 use Rattle.std.proofs.lemmas.Option.{slice_get_within, get_or_from_slice_get}
@@ -13,11 +14,13 @@ use Rattle.rowan_green.specs.WalkEvent.{event_value}
 use Rattle.rowan_green.specs.Term.{NodeTerm, node, Forest, empty, node_then, token_then, Term, terms}
 use Rattle.rowan_green.specs.Path.{Path, term_children, subterm, begins}
 use Rattle.rowan_cursor.specs.Moves.{parent_path, children_of, child_count, child_paths, following, first_at}
+use Rattle.rowan_cursor.specs.declared.table.Table.{Table}
+use Rattle.rowan_cursor.specs.Table.{path_at}
 use Rattle.rowan_cursor.specs.Walk.{event_map, node_events, forest_events, term_events, path_events, from_leave, skip}
-use Rattle.rowan_cursor.specs.WalkView.{events_from, child_events, behind, behind_path, events_on}
-use Rattle.rowan_cursor.proofs.PathLemmas.{begins-rest, subterm-child, following-child, below-first, below-none}
+use Rattle.rowan_cursor.specs.WalkView.{events_from, child_events, behind, behind_path, events_on, IsInside}
+use Rattle.rowan_cursor.proofs.PathLemmas.{begins-own, begins-rest, subterm-child, following-child, below-first, below-none}
 use Rattle.rowan_cursor.proofs.TableLemmas.{slice_get-some}
-use Rattle.rowan_cursor.proofs.TokenLemmas.{has_behind, split-parent, inside-parent}
+use Rattle.rowan_cursor.proofs.TokenLemmas.{has_behind, split-parent, inside-parent, no_parent}
 
 -- ---- the events of an element, and of its children
 
@@ -242,3 +245,18 @@ skip-map {A = A} f es =
     by : (o : Option (List (WalkEvent A))) → unwrap_or (option_map (map (event_map f)) o) (map (event_map f) es) ≡ map (event_map f) (unwrap_or o es)
     by None = refl
     by (Some fs) = refl
+
+-- a path that another one begins is that one, or has a parent
+pub no_parent-inside : (top p : Path) → begins top p ≡ true → p ≢ top → ◌≡◌ {A = Option Path} None (parent_path p) → ⊥
+no_parent-inside [] p h apart e = apart (no_parent p e)
+no_parent-inside (i ∷ top) p h apart e = true≢false (sym h ∙ ap (begins (i ∷ top)) (no_parent p e))
+
+begins-itself : (p : Path) → begins p p ≡ true
+begins-itself p = ap (begins p) (sym (append-nil p)) ∙ begins-own p []
+
+pub start-inside : (t : Table) (n : ℕ) → n < length t.entries.items → IsInside t n n
+start-inside t n h = record { within = h; inside = begins-itself (path_at t.entries.items n) }
+
+-- a walk that is to enter its start is whole
+pub whole : (root : NodeTerm) (top : Path) → events_on root top (Enter top) ≡ path_events root top
+whole root top = ap (λ es. path_events root top ++ es) (behind-top root top) ∙ append-nil (path_events root top)

@@ -9,6 +9,8 @@ pub mod Rows
 pub mod Table
 pub mod TableProp
 pub mod Walk
+pub mod WalkCode
+pub mod WalkLeft
 pub mod WalkRuns
 pub mod WalkView
 pub mod Yields

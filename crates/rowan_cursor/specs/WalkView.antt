@@ -1,13 +1,15 @@
 -- What is left of a walk, by the event that comes next.
 use Rattle.std.specs.Prelude.{◌≡◌, ℕ, suc, ◌<◌, true, List, [], ◌∷◌, ◌++◌, length, drop, Option, Some, None}
+use Rattle.std.proofs.Props.{props}
 use Rattle.rowan_green.specs.declared.utility_types.NodeOrToken.TheVariants.{Node}
 use Rattle.rowan_green.specs.declared.utility_types.WalkEvent.{WalkEvent}
 use Rattle.rowan_green.specs.declared.utility_types.WalkEvent.TheVariants.{Enter, Leave}
+use Rattle.rowan_green.specs.WalkEvent.{event_value}
 use Rattle.rowan_green.specs.Term.{NodeTerm, Term}
 use Rattle.rowan_green.specs.Path.{Path, subterm, begins}
-use Rattle.rowan_cursor.specs.declared.tree.Entry.{Entry}
+use Rattle.rowan_cursor.specs.declared.table.Table.{Table}
 use Rattle.rowan_cursor.specs.Moves.{children_of}
-use Rattle.rowan_cursor.specs.Table.{root_of, path_at}
+use Rattle.rowan_cursor.specs.Table.{root_of, path_at, IsNodeEntry}
 use Rattle.rowan_cursor.specs.Walk.{event_map, term_events, path_events}
 
 -- the events of the children of the node at a path, from index i on
@@ -33,13 +35,35 @@ abbrev pub events_on : NodeTerm → Path → WalkEvent Path → List (WalkEvent 
 events_on root top (Enter p) = path_events root p ++ behind_path root top p
 events_on root top (Leave p) = Leave p ∷ behind_path root top p
 
--- the same by numbers of entries, where there is a next event
-abbrev pub events_left : List Entry → ℕ → Option (WalkEvent ℕ) → List (WalkEvent Path)
-events_left es start None = []
-events_left es start (Some e) =
-    events_on (root_of es) (path_at es start) (event_map (path_at es) e)
+-- the events from this one on, which is given by the number of its element
+abbrev pub events_left : Table → ℕ → Option (WalkEvent ℕ) → List (WalkEvent Path)
+events_left t start None = []
+events_left t start (Some e) =
+    events_on (root_of t.entries.items) (path_at t.entries.items start) (event_map (path_at t.entries.items) e)
+
+-- the event with this number's path
+abbrev pub event_of : Table → WalkEvent ℕ → WalkEvent Path
+event_of t e = event_map (path_at t.entries.items) e
 
 -- the table has an entry with this number, at or below that of the start
-pub record IsInside (es : List Entry) (start n : ℕ) : Type 0 where
-  pub within : n < length es
-  pub inside : begins (path_at es start) (path_at es n) ≡ true
+pub record IsInside (t : Table) (start n : ℕ) : Type 0 where
+  pub within : n < length t.entries.items
+  pub inside : begins (path_at t.entries.items start) (path_at t.entries.items n) ≡ true
+
+-- the table has the element of the event that comes next, where there is one, at or below the start
+abbrev pub NextIsInside : Table → ℕ → Option (WalkEvent ℕ) → Type 0
+NextIsInside t start None = Unit {0}
+NextIsInside t start (Some e) = IsInside t start (event_value e)
+
+IsInside-prop : (t : Table) (start n : ℕ) → IsProp (IsInside t start n)
+IsInside-prop t start n = hlevel props
+
+pub NextIsInside-prop : (t : Table) (start : ℕ) (next : Option (WalkEvent ℕ)) → IsProp (NextIsInside t start next)
+NextIsInside-prop t start None = hlevel props
+NextIsInside-prop t start (Some e) = IsInside-prop t start (event_value e)
+
+-- what comes next is no Leave of a token
+abbrev pub NextLeavesNoToken : Table → Option (WalkEvent ℕ) → Type 0
+NextLeavesNoToken t None = Unit {0}
+NextLeavesNoToken t (Some (Enter n)) = Unit {0}
+NextLeavesNoToken t (Some (Leave n)) = IsNodeEntry t.entries.items n

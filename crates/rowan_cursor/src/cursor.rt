@@ -6,6 +6,7 @@ mod iterators;
 mod node;
 mod rows;
 mod token;
+mod walk;
 
 pub use element::{ElementCalls, SyntaxElement};
 pub use iterators::{

@@ -4,6 +4,7 @@ mod elements;
 mod draft;
 mod rows;
 mod tokens;
+mod walk;
 
 ghost use Rattle.std.specs.Prelude.{◌≡◌, ◌<◌, IfOk, IfErr, IfSome, length, reverse};
 ghost use Rattle.std.specs.Option.{option_map};
