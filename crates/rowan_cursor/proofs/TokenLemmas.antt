@@ -10,12 +10,12 @@ use Rattle.rowan_green.specs.Term.{NodeTerm, Term}
 use Rattle.rowan_green.specs.Path.{Path, term_children, subterm, begins}
 use Rattle.rowan_cursor.specs.Moves.{parent_path, children_of, numbers, below, child_count, child_paths, following, preceding, is_node, is_node_at, first_at, first_leaf_path, last_leaf_path, next_leaf_path, prev_leaf_path}
 use Rattle.rowan_cursor.specs.Pass.{Lists, row, of_some, after, before, entered, rest, reached, upto, leaf_list, element_list, ComesBehind, ComesNext, ComesBefore, ComesBack, first_inside, last_inside}
-use Rattle.rowan_cursor.specs.Table.{IsDraft, IsTable, green_of, index_of, root_of, path_at}
+use Rattle.rowan_cursor.specs.Table.{IsDraft, IsTable, green_of, index_of, root_node, entry_path}
 use Rattle.rowan_cursor.specs.declared.table.Entry.{Entry}
 use Rattle.rowan_cursor.proofs.PathLemmas.{last-split, parent_path-child, following-child, preceding-child, begins-rest, begins-own, begins-same, not-begins, subterm-child, below-first, below-none}
 use Rattle.rowan_cursor.proofs.LeafLemmas.{after-child, rest-child, rest-none, before-child, upto-child, upto-none, upto-all, leaf_list-node, element_list-term, filter_same, filter_row-const, filter-row, find-first, find-last, last_at, first_leaf-below, last_leaf-below, next_leaf-rest, prev_leaf-before}
 use Rattle.rowan_cursor.proofs.RowLemmas.{map-reverse, row-last}
-use Rattle.rowan_cursor.proofs.TableLemmas.{slice_get-some, index_above, path_at-child, is_entry, kept-some}
+use Rattle.rowan_cursor.proofs.TableLemmas.{slice_get-some, index_above, entry_path-child, is_entry, content-some}
 
 -- The last of a list of children.
 below-back : (p : Path) (n : ℕ) → reverse (below p (numbers 0 (suc n))) ≡ (p ++ n ∷ []) ∷ reverse (below p (numbers 0 n))
@@ -270,7 +270,7 @@ ends_apart : (p : Path) (i : ℕ) → p ++ i ∷ [] ≡ [] → ⊥
 ends_apart [] i e = cc
 ends_apart (j ∷ p) i e = cc
 
-same_number : (es : List Entry) → IsDraft (length es) es → (k m n : ℕ) → m < k → m < length es → n < length es → path_at es m ≡ path_at es n → m ≡ n
+same_number : (es : List Entry) → IsDraft (length es) es → (k m n : ℕ) → m < k → m < length es → n < length es → entry_path es m ≡ entry_path es n → m ≡ n
 same_number es f zero m n b i j h = absurd (omega arith)
 same_number es f (suc k) m n b i j h =
     let d = slice_get-some es m i in
@@ -278,7 +278,7 @@ same_number es f (suc k) m n b i j h =
     elim (cases_lt 0 m) [
       | inl x ↦ elim (cases_lt 0 n) [
         | inl y ↦ (
-            let ends = same_from_push (path_at es d.0.parent) (path_at es e.0.parent) (index_of es m d.0) (index_of es n e.0) (sym (path_at-child es f m d.0 d.1 x) ∙ h ∙ path_at-child es f n e.0 e.1 y) in
+            let ends = same_from_push (entry_path es d.0.parent) (entry_path es e.0.parent) (index_of es m d.0) (index_of es n e.0) (sym (entry_path-child es f m d.0 d.1 x) ∙ h ∙ entry_path-child es f n e.0 e.1 y) in
             let less : d.0.parent < m = (f.earlier m d.0 d.1 x).0 in
             let lesser : e.0.parent < n = (f.earlier n e.0 e.1 y).0 in
             let parents : d.0.parent ≡ e.0.parent = same_number es f k d.0.parent e.0.parent (omega arith) (omega arith) (omega arith) ends.0 in
@@ -288,21 +288,21 @@ same_number es f (suc k) m n b i j h =
             omega (arith, one.place, other.place, ends.1, index_above es m d.0 above.0 above.1, index_above es n e.0 above.0 (ap (slice_get es) (sym parents) ∙ above.1)))
         | inr y ↦ (
             let zero_n : n ≡ 0 = omega arith in
-            absurd (ends_apart (path_at es d.0.parent) (index_of es m d.0) (sym (path_at-child es f m d.0 d.1 x) ∙ h ∙ ap (path_at es) zero_n)))
+            absurd (ends_apart (entry_path es d.0.parent) (index_of es m d.0) (sym (entry_path-child es f m d.0 d.1 x) ∙ h ∙ ap (entry_path es) zero_n)))
       ]
       | inr x ↦ elim (cases_lt 0 n) [
         | inl y ↦ (
             let zero_m : m ≡ 0 = omega arith in
-            absurd (ends_apart (path_at es e.0.parent) (index_of es n e.0) (sym (path_at-child es f n e.0 e.1 y) ∙ sym h ∙ ap (path_at es) zero_m)))
+            absurd (ends_apart (entry_path es e.0.parent) (index_of es n e.0) (sym (entry_path-child es f n e.0 e.1 y) ∙ sym h ∙ ap (entry_path es) zero_m)))
         | inr y ↦ omega arith
       ]
     ]
 
-pub apart_paths : (es : List Entry) → IsTable es → (m n : ℕ) → m < length es → n < length es → m ≢ n → path_at es m ≢ path_at es n
+pub apart_paths : (es : List Entry) → IsTable es → (m n : ℕ) → m < length es → n < length es → m ≢ n → entry_path es m ≢ entry_path es n
 apart_paths es t m n i j apart h = apart (same_number es t.draft (suc m) m n (omega arith) i j h)
 
 -- something stands at each path of a table
-pub stands_at : (es : List Entry) → IsTable es → (n : ℕ) → n < length es → (u : Term) × (subterm (Node (root_of es)) (path_at es n) ≡ Some u)
+pub stands_at : (es : List Entry) → IsTable es → (n : ℕ) → n < length es → (u : Term) × (subterm (Node (root_node es)) (entry_path es n) ≡ Some u)
 stands_at es t n i =
     let e = slice_get-some es n i in
-    kept-some (subterm (Node (root_of es)) (path_at es n)) (green_of e.0) (is_entry es t n e.0 e.1).green
+    content-some (subterm (Node (root_node es)) (entry_path es n)) (green_of e.0) (is_entry es t n e.0 e.1).green

@@ -16,23 +16,23 @@ use Rattle.rowan_green.specs.Path.{Path, subterm, offset, len_of}
 use Rattle.rowan_cursor.specs.Cursor.{last_index}
 use Rattle.rowan_cursor.specs.Moves.{child_paths, is_node_at, numbers}
 use Rattle.rowan_cursor.specs.declared.table.Entry.{Entry}
-use Rattle.rowan_cursor.specs.declared.table.Kept.{Kept}
-use Rattle.rowan_cursor.specs.declared.table.Kept.TheVariants.{OfNode, OfToken}
+use Rattle.rowan_cursor.specs.declared.table.Content.{Content}
+use Rattle.rowan_cursor.specs.declared.table.Content.TheVariants.{OfNode, OfToken}
 
 -- what an entry keeps: its node, if it is one, and where its text starts
-abbrev pub green_in : Kept → Option NodeTerm
+abbrev pub green_in : Content → Option NodeTerm
 green_in (OfNode start n) = Some n
 green_in (OfToken start) = None
 
-abbrev pub offset_in : Kept → ℕ
+abbrev pub offset_in : Content → ℕ
 offset_in (OfNode start n) = start
 offset_in (OfToken start) = start
 
 abbrev pub green_of : Entry → Option NodeTerm
-green_of e = green_in e.kept
+green_of e = green_in e.content
 
 abbrev pub offset_of : Entry → ℕ
-offset_of e = offset_in e.kept
+offset_of e = offset_in e.content
 
 -- the children of a node, and its length
 abbrev pub children_in : Option NodeTerm → List Term
@@ -48,9 +48,9 @@ node_in None = node 0 empty
 node_in (Some n) = n
 
 -- the node of the first entry
-abbrev pub root_of : List Entry → NodeTerm
-root_of [] = node 0 empty
-root_of (e ∷ es) = node_in (green_of e)
+abbrev pub root_node : List Entry → NodeTerm
+root_node [] = node 0 empty
+root_node (e ∷ es) = node_in (green_of e)
 
 -- how many children these entries have together
 abbrev pub counts : List Entry → ℕ
@@ -68,12 +68,12 @@ path_within (suc steps) es (suc n) =
     option_map_or (λ e. path_within steps es e.parent ++ index_of es (suc n) e ∷ []) (slice_get es (suc n)) []
 
 -- the path of the entry with this number; a parent's number is less than its child's
-abbrev pub path_at : List Entry → ℕ → Path
-path_at es n = path_within n es n
+abbrev pub entry_path : List Entry → ℕ → Path
+entry_path es n = path_within n es n
 
 -- the first entry is that of a root
 pub record IsTop (es : List Entry) (e : Entry) : Type 0 where
-  pub green : green_of e ≡ Some (root_of es)
+  pub green : green_of e ≡ Some (root_node es)
   pub start : offset_of e ≡ 0
 
 -- entry e, with the number n, is a child of entry p
@@ -100,32 +100,32 @@ pub record IsTable (es : List Entry) : Type 0 where
 pub record IsRow (es : List Entry) (start end : ℕ) (paths : List Path) : Type 0 where
   pub order : start ≤ end
   pub within : end ≤ length es
-  pub row : map (path_at es) (numbers start (end - start)) ≡ paths
+  pub row : map (entry_path es) (numbers start (end - start)) ≡ paths
 
 -- the same in the other order
 pub record IsRowBack (es : List Entry) (start end : ℕ) (paths : List Path) : Type 0 where
   pub order : start ≤ end
   pub within : end ≤ length es
-  pub row : reverse (map (path_at es) (numbers start (end - start))) ≡ paths
+  pub row : reverse (map (entry_path es) (numbers start (end - start))) ≡ paths
 
 -- where an entry's parent stands, if it is not the root
 pub record IsBelow (es : List Entry) (n : ℕ) (e : Entry) : Type 0 where
   pub earlier : e.parent < n
-  pub path : path_at es n ≡ path_at es e.parent ++ index_of es n e ∷ []
+  pub path : entry_path es n ≡ entry_path es e.parent ++ index_of es n e ∷ []
 
 -- what stands in a table at a number, in terms of the paths in its root
 pub record IsEntry (es : List Entry) (n : ℕ) (e : Entry) : Type 0 where
   pub at : slice_get es n ≡ Some e
-  pub green : option_map into_node (subterm (Node (root_of es)) (path_at es n)) ≡ Some (green_of e)
-  pub start : offset (Node (root_of es)) (path_at es n) ≡ offset_of e
-  pub end : offset_of e + len_of (subterm (Node (root_of es)) (path_at es n)) ≤ byte_limit
-  pub index : last_index (path_at es n) ≡ index_of es n e
+  pub green : option_map into_node (subterm (Node (root_node es)) (entry_path es n)) ≡ Some (green_of e)
+  pub start : offset (Node (root_node es)) (entry_path es n) ≡ offset_of e
+  pub end : offset_of e + len_of (subterm (Node (root_node es)) (entry_path es n)) ≤ byte_limit
+  pub index : last_index (entry_path es n) ≡ index_of es n e
   pub below : 0 < n → IsBelow es n e
-  pub children : IsRow es e.first_child (e.first_child + length (children_in (green_of e))) (child_paths (root_of es) (path_at es n))
+  pub children : IsRow es e.first_child (e.first_child + length (children_in (green_of e))) (child_paths (root_node es) (entry_path es n))
 
 -- the entry with this number is that of a node
 abbrev pub IsNodeEntry : List Entry → ℕ → Type 0
-IsNodeEntry es n = is_node_at (root_of es) (path_at es n) ≡ true
+IsNodeEntry es n = is_node_at (root_node es) (entry_path es n) ≡ true
 
 -- the entries that were added are those of these terms, in this order
 pub record GrowsBy (old new : List Entry) (ts : List Term) : Type 0 where

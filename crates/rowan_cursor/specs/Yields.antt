@@ -16,6 +16,6 @@ YieldsOrRefuses (Err f) (Some (Err e)) after = (e ≡ f) × (after ≡ Ok [])
 YieldsOrRefuses (Err f) _ after = ⊥
 
 -- how many items are left at most, a refusal counted
-abbrev pub count_left : {A : Type 0} → Rest A → ℕ
-count_left (Ok xs) = length xs
-count_left (Err e) = 1
+abbrev pub count_of : {A : Type 0} → Rest A → ℕ
+count_of (Ok xs) = length xs
+count_of (Err e) = 1

@@ -4,8 +4,8 @@ ghost use Rattle.rowan_green.specs.Path.{Path};
 ghost use Rattle.rowan_green.specs.Term.{Term};
 ghost use Rattle.rowan_cursor.specs.Cursor.{Cursor, term_at};
 ghost use Rattle.rowan_cursor.specs.Equal.{same_place, start_of};
-ghost use Rattle.rowan_cursor.specs.Walk.{preorder_with_tokens, preorder, descendants_with_tokens, descendants, entered_by};
-ghost use Rattle.rowan_cursor.specs.WalkRuns.{WalkCall, given, still_to_come, LeavesAll};
+ghost use Rattle.rowan_cursor.specs.Preorder.{preorder_with_tokens, preorder, descendants_with_tokens, descendants, entered_by};
+ghost use Rattle.rowan_cursor.specs.PreorderRuns.{WalkCall, given, still_to_come, LeavesAll};
 
 /// Two cursors are equal exactly if the same stands there, and its text starts at the same offset.
 pub fn cursors_are_equal_by_value_and_start()

@@ -13,3 +13,5 @@ mod example;
 mod fixture;
 #[cfg(test)]
 mod twins;
+#[cfg(test)]
+mod walks;

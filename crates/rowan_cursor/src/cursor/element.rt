@@ -1,7 +1,7 @@
-ghost use Rattle.std.specs.Prelude.{◌≡◌, ◌<◌, IfOk, IfErr, IfSome, Some, length};
+ghost use Rattle.std.specs.Prelude.{◌≡◌, IfOk, IfErr, IfSome, Some};
 ghost use Rattle.std.specs.Option.{option_map};
 ghost use Rattle.rowan_cursor.specs.Cursor.{index, kind, text_range};
-ghost use Rattle.rowan_cursor.specs.CursorView.{element_of};
+ghost use Rattle.rowan_cursor.specs.TableView.{IsWithin, element_of};
 ghost use Rattle.rowan_cursor.specs.Moves.{Element, place_of, tree_top, parent, next_sibling_or_token, prev_sibling_or_token, first_token, last_token, element_ancestors};
 
 use crate::cursor::{Ancestors, SyntaxNode, SyntaxToken};
@@ -10,16 +10,16 @@ use rowan_green::fault::Fault;
 use rowan_green::green::SyntaxKind;
 use rowan_green::text::TextRange;
 use rowan_green::utility_types::NodeOrToken;
+use std::alloc::AllocError;
 use std::rc::Rc;
 
 /// A node or a token in a tree.
 pub type SyntaxElement = NodeOrToken<SyntaxNode, SyntaxToken>;
 
-// The element of a number.
-pub(super) fn at(table: &Rc<Table>, number: usize) -> Result<SyntaxElement, Fault>
-    requires { number < length table.now.value.entries.items }
-    ensures ok { IfOk result (λ e. e ≡ element_of table.now.value.entries.items number) }
-    ensures err { IfErr result (λ e. e ≡ Fault.Memory) }
+// The element with a number.
+pub(super) fn at(table: &Rc<Table>, number: usize) -> Result<SyntaxElement, AllocError>
+    requires { IsWithin table.now.value number }
+    ensures { IfOk result (λ element. element ≡ element_of table.now.value number) }
 {
     if table.is_node(number) {
         Ok(NodeOrToken::Node(SyntaxNode::at(table, number)?))
@@ -28,11 +28,13 @@ pub(super) fn at(table: &Rc<Table>, number: usize) -> Result<SyntaxElement, Faul
     }
 }
 
-// The same, where there is a number.
-pub(super) fn found(table: &Rc<Table>, number: Option<usize>) -> Result<Option<SyntaxElement>, Fault>
-    requires { IfSome number (λ n. n < length table.now.value.entries.items) }
-    ensures ok { IfOk result (λ found. found ≡ option_map (element_of table.now.value.entries.items) number) }
-    ensures err { IfErr result (λ e. e ≡ Fault.Memory) }
+// The element with the number that a move found, if it found one.
+pub(super) fn found(
+    table: &Rc<Table>,
+    number: Option<usize>,
+) -> Result<Option<SyntaxElement>, AllocError>
+    requires { IfSome number (IsWithin table.now.value) }
+    ensures { IfOk result (λ found. found ≡ option_map (element_of table.now.value) number) }
 {
     match number {
         Some(number) => Ok(Some(at(table, number)?)),

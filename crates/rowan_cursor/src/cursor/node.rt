@@ -1,11 +1,13 @@
 ghost use Rattle.std.specs.Prelude.{◌≡◌, [], IfOk, IfErr, IfSome, Some};
 ghost use Rattle.std.specs.Option.{option_map};
 ghost use Rattle.rowan_cursor.specs.Cursor.{StandsAt, index, kind, text_range};
-ghost use Rattle.rowan_cursor.specs.CursorView.{cursor_of, HasNode};
+ghost use Rattle.rowan_cursor.specs.TableView.{cursor_of, IsNodeIn};
 ghost use Rattle.rowan_cursor.specs.Moves.{tree_top, parent, first_child, last_child, first_child_or_token, last_child_or_token, child_or_token_at_index, next_sibling, prev_sibling, next_sibling_or_token, prev_sibling_or_token, first_token, last_token, children, children_with_tokens, siblings, siblings_with_tokens, ancestors};
 
-use crate::cursor::ancestors::Climb;
-use crate::cursor::rows::Row;
+mod walks;
+
+use crate::cursor::climb::Climb;
+use crate::cursor::row::Row;
 use crate::cursor::{
     Ancestors, Siblings, SiblingsWithTokens, SyntaxElement, SyntaxElementChildren,
     SyntaxNodeChildren, SyntaxToken, element,
@@ -36,29 +38,30 @@ impl Model for SyntaxNode {
 
     ghost coded = { coded_cursor };
 
-    ghost use Rattle.rowan_cursor.specs.CursorView.{cursor_of, HasNode};
+    ghost use Rattle.rowan_cursor.specs.TableView.{cursor_of, IsNodeIn};
 
-    ghost view = { λ n. cursor_of n.table.value.entries.items n.number };
+    ghost view = { λ n. cursor_of n.table.value n.number };
 
-    ghost invariant = { λ n. HasNode n.table.value.entries.items n.number };
+    ghost invariant = { λ n. IsNodeIn n.table.value n.number };
 }
 
 impl SyntaxNode {
-    // The cursor at the node of a number.
-    pub(super) fn at(table: &Rc<Table>, number: usize) -> Result<SyntaxNode, Fault>
-        requires { HasNode table.now.value.entries.items number }
-        ensures ok { IfOk result (λ n. n ≡ cursor_of table.now.value.entries.items number) }
-        ensures err { IfErr result (λ e. e ≡ Fault.Memory) }
+    // The cursor at the node with a number.
+    pub(super) fn at(table: &Rc<Table>, number: usize) -> Result<SyntaxNode, AllocError>
+        requires { IsNodeIn table.now.value number }
+        ensures { IfOk result (λ node. node ≡ cursor_of table.now.value number) }
     {
         let table = table.clone()?;
         Ok(SyntaxNode { table, number })
     }
 
-    // The same, where there is a number.
-    pub(super) fn found(table: &Rc<Table>, number: Option<usize>) -> Result<Option<SyntaxNode>, Fault>
-        requires { IfSome number (HasNode table.now.value.entries.items) }
-        ensures ok { IfOk result (λ found. found ≡ option_map (cursor_of table.now.value.entries.items) number) }
-        ensures err { IfErr result (λ e. e ≡ Fault.Memory) }
+    // The cursor at the node with the number that a move found, if it found one.
+    pub(super) fn found(
+        table: &Rc<Table>,
+        number: Option<usize>,
+    ) -> Result<Option<SyntaxNode>, AllocError>
+        requires { IfSome number (IsNodeIn table.now.value) }
+        ensures { IfOk result (λ found. found ≡ option_map (cursor_of table.now.value) number) }
     {
         match number {
             Some(number) => Ok(Some(SyntaxNode::at(table, number)?)),
@@ -118,7 +121,7 @@ impl SyntaxNode {
         ensures ok { IfOk result (λ n. n ≡ tree_top self.now) }
         ensures err { IfErr result (λ e. e ≡ Fault.Memory) }
     {
-        SyntaxNode::at(&self.table, 0)
+        Ok(SyntaxNode::at(&self.table, 0)?)
     }
 
     /// The parent, or `None` of a root.
@@ -126,7 +129,7 @@ impl SyntaxNode {
         ensures ok { IfOk result (λ found. found ≡ parent self.now) }
         ensures err { IfErr result (λ e. e ≡ Fault.Memory) }
     {
-        SyntaxNode::found(&self.table, self.table.parent(self.number))
+        Ok(SyntaxNode::found(&self.table, self.table.parent(self.number))?)
     }
 
     /// The first child that is a node.
@@ -134,7 +137,7 @@ impl SyntaxNode {
         ensures ok { IfOk result (λ found. found ≡ first_child self.now) }
         ensures err { IfErr result (λ e. e ≡ Fault.Memory) }
     {
-        SyntaxNode::found(&self.table, self.table.first_child(self.number))
+        Ok(SyntaxNode::found(&self.table, self.table.first_child(self.number))?)
     }
 
     /// The last child that is a node.
@@ -142,7 +145,7 @@ impl SyntaxNode {
         ensures ok { IfOk result (λ found. found ≡ last_child self.now) }
         ensures err { IfErr result (λ e. e ≡ Fault.Memory) }
     {
-        SyntaxNode::found(&self.table, self.table.last_child(self.number))
+        Ok(SyntaxNode::found(&self.table, self.table.last_child(self.number))?)
     }
 
     /// The first child.
@@ -150,7 +153,7 @@ impl SyntaxNode {
         ensures ok { IfOk result (λ found. found ≡ first_child_or_token self.now) }
         ensures err { IfErr result (λ e. e ≡ Fault.Memory) }
     {
-        element::found(&self.table, self.table.first_child_or_token(self.number))
+        Ok(element::found(&self.table, self.table.first_child_or_token(self.number))?)
     }
 
     /// The last child.
@@ -158,7 +161,7 @@ impl SyntaxNode {
         ensures ok { IfOk result (λ found. found ≡ last_child_or_token self.now) }
         ensures err { IfErr result (λ e. e ≡ Fault.Memory) }
     {
-        element::found(&self.table, self.table.last_child_or_token(self.number))
+        Ok(element::found(&self.table, self.table.last_child_or_token(self.number))?)
     }
 
     /// The child at an index among all children, or `None` past the last one.
@@ -166,7 +169,7 @@ impl SyntaxNode {
         ensures ok { IfOk result (λ found. found ≡ child_or_token_at_index self.now index) }
         ensures err { IfErr result (λ e. e ≡ Fault.Memory) }
     {
-        element::found(&self.table, self.table.child_at(self.number, index))
+        Ok(element::found(&self.table, self.table.child_at(self.number, index))?)
     }
 
     /// The next sibling that is a node.
@@ -174,7 +177,7 @@ impl SyntaxNode {
         ensures ok { IfOk result (λ found. found ≡ next_sibling self.now) }
         ensures err { IfErr result (λ e. e ≡ Fault.Memory) }
     {
-        SyntaxNode::found(&self.table, self.table.next_sibling(self.number))
+        Ok(SyntaxNode::found(&self.table, self.table.next_sibling(self.number))?)
     }
 
     /// The nearest sibling before this one that is a node.
@@ -182,7 +185,7 @@ impl SyntaxNode {
         ensures ok { IfOk result (λ found. found ≡ prev_sibling self.now) }
         ensures err { IfErr result (λ e. e ≡ Fault.Memory) }
     {
-        SyntaxNode::found(&self.table, self.table.prev_sibling(self.number))
+        Ok(SyntaxNode::found(&self.table, self.table.prev_sibling(self.number))?)
     }
 
     /// The next sibling.
@@ -190,7 +193,7 @@ impl SyntaxNode {
         ensures ok { IfOk result (λ found. found ≡ next_sibling_or_token self.now) }
         ensures err { IfErr result (λ e. e ≡ Fault.Memory) }
     {
-        element::found(&self.table, self.table.next_sibling_or_token(self.number))
+        Ok(element::found(&self.table, self.table.next_sibling_or_token(self.number))?)
     }
 
     /// The sibling before this one.
@@ -198,7 +201,7 @@ impl SyntaxNode {
         ensures ok { IfOk result (λ found. found ≡ prev_sibling_or_token self.now) }
         ensures err { IfErr result (λ e. e ≡ Fault.Memory) }
     {
-        element::found(&self.table, self.table.prev_sibling_or_token(self.number))
+        Ok(element::found(&self.table, self.table.prev_sibling_or_token(self.number))?)
     }
 
     /// The first token of all that are in this node, also an empty one.
@@ -206,7 +209,7 @@ impl SyntaxNode {
         ensures ok { IfOk result (λ found. found ≡ first_token self.now) }
         ensures err { IfErr result (λ e. e ≡ Fault.Memory) }
     {
-        SyntaxToken::found(&self.table, self.table.first_token(self.number))
+        Ok(SyntaxToken::found(&self.table, self.table.first_token(self.number))?)
     }
 
     /// The last token of all that are in this node, also an empty one.
@@ -214,7 +217,7 @@ impl SyntaxNode {
         ensures ok { IfOk result (λ found. found ≡ last_token self.now) }
         ensures err { IfErr result (λ e. e ≡ Fault.Memory) }
     {
-        SyntaxToken::found(&self.table, self.table.last_token(self.number))
+        Ok(SyntaxToken::found(&self.table, self.table.last_token(self.number))?)
     }
 
     /// The node and the nodes above it, up to the root.

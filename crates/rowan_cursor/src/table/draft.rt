@@ -1,16 +1,15 @@
 //! Filling a table: level by level, in one pass.
-ghost use Rattle.std.specs.Prelude.{◌≡◌, ◌+◌, ◌<◌, ◌++◌, [], ◌∷◌, IfOk, IfErr, OnOk, Some, length, map, take, slice_get};
+ghost use Rattle.std.specs.Prelude.{◌≡◌, ◌+◌, ◌<◌, ◌++◌, [], ◌∷◌, IfOk, OnOk, Some, length, map, take, slice_get};
 ghost use Rattle.rowan_green.specs.Lent.{into_node, pointee};
 ghost use Rattle.rowan_green.specs.Term.{Term};
-ghost use Rattle.rowan_cursor.specs.Table.{IsDraft, GrowsBy, children_in, counts, green_in, green_of, offset_in, root_of};
+ghost use Rattle.rowan_cursor.specs.Table.{IsDraft, GrowsBy, children_in, counts, green_in, green_of, offset_in, root_node};
 ghost use Rattle.rowan_cursor.specs.declared.table.Entry.{Entry};
 
-use super::{Entry, Kept, Table};
-use rowan_green::fault::Fault;
+use super::{Content, Entry, Table};
 use rowan_green::green::{GreenElementRef, GreenNode};
 use rowan_green::text::TextSize;
 use rowan_green::utility_types::NodeOrToken;
-use std::alloc::Global;
+use std::alloc::{AllocError, Global};
 
 /// A table in the making. The entries get their children in order: those of one stand behind those of all before it.
 /// Until it gets them, an entry has 0 as its first child.
@@ -21,17 +20,16 @@ pub(super) struct Draft {
 
 impl Draft {
     /// The entry of the root alone.
-    pub(super) fn new(alloc: Global, green: GreenNode) -> Result<Draft, Fault>
+    pub(super) fn new(alloc: Global, green: GreenNode) -> Result<Draft, AllocError>
         ensures draft { IfOk result (λ draft. IsDraft 0 draft.entries.items) }
-        ensures root { IfOk result (λ draft. root_of draft.entries.items ≡ green) }
+        ensures root { IfOk result (λ draft. root_node draft.entries.items ≡ green) }
         ensures one { IfOk result (λ draft. length draft.entries.items ≡ 1) }
-        ensures err { IfErr result (λ e. e ≡ Fault.Memory) }
     {
         // What has a length is within the limits.
         let _len = green.text_len();
         let mut entries = Vec::new(alloc);
         entries.push(Entry {
-            kept: Kept::OfNode(TextSize::from(0), green),
+            content: Content::OfNode(TextSize::from(0), green),
             parent: 0,
             first_child: 0,
         })?;
@@ -46,7 +44,7 @@ impl Draft {
     }
 
     /// Adds the children of the next entry, and notes there where they start.
-    pub(super) fn push_children(&mut self, parent: u32) -> Result<(), Fault>
+    pub(super) fn push_children(&mut self, parent: u32) -> Result<(), AllocError>
         requires within { parent < length self.old.entries.items }
         requires draft { IsDraft parent self.old.entries.items }
         requires place { length self.old.entries.items ≡ counts (take parent self.old.entries.items) + 1 }
@@ -54,14 +52,13 @@ impl Draft {
         ensures draft { OnOk result (IsDraft (parent + 1) self.new.entries.items) }
         ensures grown { OnOk result ((e : Entry) → slice_get self.old.entries.items parent ≡ Some e
             → map green_of self.new.entries.items ≡ map green_of self.old.entries.items ++ map into_node (children_in (green_of e))) }
-        ensures err { IfErr result (λ e. e ≡ Fault.Memory) }
     {
         let Ok(first_child) = u32::try_from(self.entries.len()) else {
-            return Err(Fault::Memory);
+            return Err(AllocError);
         };
         let entry = &mut self.entries[parent as usize];
         entry.first_child = first_child;
-        let count = child_count(&entry.kept);
+        let count = child_count(&entry.content);
         for index in 0..count {
             self.push_child(parent, index)?;
         }
@@ -69,7 +66,7 @@ impl Draft {
     }
 
     // Adds the child at an index, whose number is the next.
-    fn push_child(&mut self, parent: u32, index: u32) -> Result<(), Fault>
+    fn push_child(&mut self, parent: u32, index: u32) -> Result<(), AllocError>
         requires within { parent < length self.old.entries.items }
         requires draft { IsDraft (parent + 1) self.old.entries.items }
         requires place { (e : Entry) → slice_get self.old.entries.items parent ≡ Some e
@@ -77,19 +74,18 @@ impl Draft {
         ensures draft { OnOk result (IsDraft (parent + 1) self.new.entries.items) }
         ensures grown { OnOk result ((e : Entry) (t : Term) → slice_get self.old.entries.items parent ≡ Some e
             → slice_get (children_in (green_of e)) index ≡ Some t → GrowsBy self.old.entries.items self.new.entries.items (t ∷ [])) }
-        ensures err { IfErr result (λ e. e ≡ Fault.Memory) }
     {
         let above = &self.entries[parent as usize];
-        let Kept::OfNode(offset, node) = &above.kept else {
+        let Content::OfNode(offset, node) = &above.content else {
             unreachable!();
         };
         let Some(found) = node.child_ref(index as usize) else {
             unreachable!();
         };
         let (start, child) = found;
-        let kept = kept(TextSize::from(u32::from(*offset) + u32::from(start)), child)?;
+        let content = content(TextSize::from(u32::from(*offset) + u32::from(start)), child)?;
         self.entries.push(Entry {
-            kept,
+            content,
             parent,
             first_child: 0,
         })?;
@@ -108,27 +104,26 @@ impl Draft {
 }
 
 // How many children a node has; a token has none.
-fn child_count(kept: &Kept) -> u32
-    ensures { result ≡ length (children_in (green_in kept.now)) }
+fn child_count(content: &Content) -> u32
+    ensures { result ≡ length (children_in (green_in content.now)) }
 {
-    match kept {
-        Kept::OfNode(_, node) => {
+    match content {
+        Content::OfNode(_, node) => {
             // What has a length is within the limits.
             let _len = node.text_len();
             node.children().len() as u32
         }
-        Kept::OfToken(_) => 0,
+        Content::OfToken(_) => 0,
     }
 }
 
 // What an entry keeps of an element whose text starts there: a node is shared.
-fn kept(offset: TextSize, child: GreenElementRef<'_>) -> Result<Kept, Fault>
-    ensures start { IfOk result (λ kept. offset_in kept ≡ offset) }
-    ensures green { IfOk result (λ kept. green_in kept ≡ into_node (pointee child.entry)) }
-    ensures err { IfErr result (λ e. e ≡ Fault.Memory) }
+fn content(offset: TextSize, child: GreenElementRef<'_>) -> Result<Content, AllocError>
+    ensures start { IfOk result (λ content. offset_in content ≡ offset) }
+    ensures green { IfOk result (λ content. green_in content ≡ into_node (pointee child.entry)) }
 {
     match child {
-        NodeOrToken::Node(node) => Ok(Kept::OfNode(offset, node.clone()?)),
-        NodeOrToken::Token(_) => Ok(Kept::OfToken(offset)),
+        NodeOrToken::Node(node) => Ok(Content::OfNode(offset, node.clone()?)),
+        NodeOrToken::Token(_) => Ok(Content::OfToken(offset)),
     }
 }

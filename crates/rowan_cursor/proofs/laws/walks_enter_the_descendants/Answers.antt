@@ -1,4 +1,4 @@
-use Rattle.rowan_cursor.proofs.WalkLaws.{enters-descendants_with_tokens, enters-descendants}
+use Rattle.rowan_cursor.proofs.PreorderLaws.{enters-descendants_with_tokens, enters-descendants}
 use Rattle.rowan_cursor.proofs.laws.walks_enter_the_descendants.Goals as goal
 
 pub returns-clause-with_tokens : goal.returns-clause-with_tokens

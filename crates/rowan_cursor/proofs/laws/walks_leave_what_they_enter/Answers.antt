@@ -1,4 +1,4 @@
-use Rattle.rowan_cursor.proofs.WalkLaws.{preorder_with_tokens-leaves, preorder-leaves}
+use Rattle.rowan_cursor.proofs.PreorderLaws.{preorder_with_tokens-leaves, preorder-leaves}
 use Rattle.rowan_cursor.proofs.laws.walks_leave_what_they_enter.Goals as goal
 
 pub returns-clause-with_tokens : goal.returns-clause-with_tokens
