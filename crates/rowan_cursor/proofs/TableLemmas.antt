@@ -14,8 +14,8 @@ use Rattle.rowan_green.specs.Path.{Path, subterm, offset, len_of, term_children}
 use Rattle.rowan_green.proofs.Paths.{offset-empty}
 use Rattle.rowan_green.proofs.SearchLemmas.{child_start-le_all}
 use Rattle.rowan_cursor.specs.Cursor.{last_index}
-use Rattle.rowan_cursor.specs.Moves.{numbers, below, child_count, children_of, is_node, child_paths, first_at, following, preceding}
-use Rattle.rowan_cursor.specs.Table.{root_node, green_of, offset_of, index_of, children_in, len_in, counts, path_within, entry_path, IsTop, IsChildOf, IsDraft, IsTable, IsRow, IsRowBack, IsEntry, IsNodeEntry}
+use Rattle.rowan_cursor.specs.Moves.{is_node_at, numbers, below, child_count, children_of, is_node, child_paths, first_at, following, preceding}
+use Rattle.rowan_cursor.specs.Table.{root_node, green_of, offset_of, entry_index, children_in, len_in, counts, path_within, entry_path, IsTop, IsChildOf, IsDraft, IsTable, IsRow, IsRowBack, Describes}
 use Rattle.rowan_cursor.specs.declared.table.Entry.{Entry}
 use Rattle.rowan_cursor.proofs.RowLemmas.{map-reverse, first_split, last_split, empty_row}
 use Rattle.rowan_cursor.proofs.PathLemmas.{subterm-child, offset-child, last_index-child, following-child, preceding-child, child_start-next, node_len-children}
@@ -82,9 +82,9 @@ first_child-counts : (es : List Entry) → IsDraft (length es) es → (n : ℕ) 
 first_child-counts es t n e at = t.firsts n e at (slice_get_within es n e at)
 
 same_step : (es : List Entry) (f g : ℕ → Path) (n : ℕ) → IsDraft (length es) es → ((m : ℕ) → m < n → f m ≡ g m) → 0 < n → (o : Option Entry) → slice_get es n ≡ o
-    → option_map_or (λ e. f e.parent ++ index_of es n e ∷ []) o [] ≡ option_map_or (λ e. g e.parent ++ index_of es n e ∷ []) o []
+    → option_map_or (λ e. f e.parent ++ entry_index es n e ∷ []) o [] ≡ option_map_or (λ e. g e.parent ++ entry_index es n e ∷ []) o []
 same_step es f g n t same h None e = refl
-same_step es f g n t same h (Some x) e = ap (λ p. p ++ index_of es n x ∷ []) (same x.parent (t.earlier n x e h).0)
+same_step es f g n t same h (Some x) e = ap (λ p. p ++ entry_index es n x ∷ []) (same x.parent (t.earlier n x e h).0)
 
 -- going up any further than to the root changes nothing
 path_within-enough : (es : List Entry) → IsDraft (length es) es → (a b n : ℕ) → n ≤ a → n ≤ b → path_within a es n ≡ path_within b es n
@@ -98,14 +98,14 @@ path_within-enough es t (suc a) (suc b) (suc n) h k =
     same_step es (path_within a es) (path_within b es) (suc n) t (λ m less. path_within-enough es t a b m (omega arith) (omega arith)) (omega arith) (slice_get es (suc n)) refl
 
 -- the path of an entry is that of its parent, and its index
-pub entry_path-child : (es : List Entry) → IsDraft (length es) es → (n : ℕ) (e : Entry) → slice_get es n ≡ Some e → 0 < n → entry_path es n ≡ entry_path es e.parent ++ index_of es n e ∷ []
+pub entry_path-child : (es : List Entry) → IsDraft (length es) es → (n : ℕ) (e : Entry) → slice_get es n ≡ Some e → 0 < n → entry_path es n ≡ entry_path es e.parent ++ entry_index es n e ∷ []
 entry_path-child es t zero e at h = absurd (omega arith)
 entry_path-child es t (suc n) e at h =
     let less : e.parent < suc n = (t.earlier (suc n) e at h).0 in
-    ap (λ o. option_map_or (λ d. path_within n es d.parent ++ index_of es (suc n) d ∷ []) o []) at
-    ∙ ap (λ p. p ++ index_of es (suc n) e ∷ []) (path_within-enough es t n e.parent e.parent (omega arith) (omega arith))
+    ap (λ o. option_map_or (λ d. path_within n es d.parent ++ entry_index es (suc n) d ∷ []) o []) at
+    ∙ ap (λ p. p ++ entry_index es (suc n) e ∷ []) (path_within-enough es t n e.parent e.parent (omega arith) (omega arith))
 
-pub index_above : (es : List Entry) (n : ℕ) (e p : Entry) → slice_get es e.parent ≡ Some p → index_of es n e ≡ n - p.first_child
+pub index_above : (es : List Entry) (n : ℕ) (e p : Entry) → slice_get es e.parent ≡ Some p → entry_index es n e ≡ n - p.first_child
 index_above es n e p above = ap (λ o. n - option_map_or (λ (q : Entry). q.first_child) o 0) above
 
 -- the same by the parent's entry
@@ -177,10 +177,10 @@ ends_within es t (suc n) e at =
     let p = above.0 in
     omega (arith, ends_below es t (suc n) e p at (omega arith) above.1 (slice_get (children_in (green_of p)) (suc n - p.first_child)) refl, ap len_of (child_above es t (suc n) e p at (omega arith) above.1))
 
-last_index-index : (es : List Entry) → IsDraft (length es) es → (n : ℕ) (e : Entry) → slice_get es n ≡ Some e → last_index (entry_path es n) ≡ index_of es n e
+last_index-index : (es : List Entry) → IsDraft (length es) es → (n : ℕ) (e : Entry) → slice_get es n ≡ Some e → last_index (entry_path es n) ≡ entry_index es n e
 last_index-index es t zero e at = omega arith
 last_index-index es t (suc n) e at =
-    ap last_index (entry_path-child es t (suc n) e at (omega arith)) ∙ last_index-child (entry_path es e.parent) (index_of es (suc n) e)
+    ap last_index (entry_path-child es t (suc n) e at (omega arith)) ∙ last_index-child (entry_path es e.parent) (entry_index es (suc n) e)
 
 -- ---- rows
 
@@ -196,7 +196,7 @@ pub record HasChild (es : List Entry) (n : ℕ) (e : Entry) (j : ℕ) : Type 0 w
   pub child : Entry
   pub at : slice_get es (e.first_child + j) ≡ Some child
   pub parent : child.parent ≡ n
-  pub index : index_of es (e.first_child + j) child ≡ j
+  pub index : entry_index es (e.first_child + j) child ≡ j
 
 same_parent : (a b : ℕ) → (a < b → ⊥) → (b < a → ⊥) → a ≡ b
 same_parent a b h k = omega arith
@@ -231,7 +231,7 @@ has_child es t n e j at h =
       child = c;
       at = found.1;
       parent = same;
-      index = same_index m p.first_child e.first_child (index_of es m c) j (index_above es m c p above.1) refl (same_first p e entry);
+      index = same_index m p.first_child e.first_child (entry_index es m c) j (index_above es m c p above.1) refl (same_first p e entry);
     }
 
 pub entry_path-row : (es : List Entry) → IsTable es → (n : ℕ) (e : Entry) (j : ℕ) → slice_get es n ≡ Some e → j < length (children_in (green_of e)) → entry_path es (e.first_child + j) ≡ entry_path es n ++ j ∷ []
@@ -239,7 +239,7 @@ entry_path-row es t n e j at h =
     let c : HasChild es n e j = has_child es t n e j at h in
     let behind : 0 < e.first_child + j = omega (arith, first_child-counts es t.draft n e at) in
     entry_path-child es t.draft (e.first_child + j) c.child c.at behind
-    ∙ ap (λ k. entry_path es k ++ index_of es (e.first_child + j) c.child ∷ []) c.parent ∙ ap (λ i. entry_path es n ++ i ∷ []) c.index
+    ∙ ap (λ k. entry_path es k ++ entry_index es (e.first_child + j) c.child ∷ []) c.parent ∙ ap (λ i. entry_path es n ++ i ∷ []) c.index
 
 -- a part of the children of an entry
 pub row_below : (es : List Entry) → IsTable es → (n : ℕ) (e : Entry) → slice_get es n ≡ Some e → (c a : ℕ) → a + c ≤ length (children_in (green_of e))
@@ -281,7 +281,7 @@ children_row es t n e at =
     }
 
 -- all that stands at a number
-pub is_entry : (es : List Entry) → IsTable es → (n : ℕ) (e : Entry) → slice_get es n ≡ Some e → IsEntry es n e
+pub is_entry : (es : List Entry) → IsTable es → (n : ℕ) (e : Entry) → slice_get es n ≡ Some e → Describes es n e
 is_entry es t n e at =
     let s : Stands es n e = stands es t.draft n e at in
     record {
@@ -433,7 +433,7 @@ node_with_child None g k i e h = absurd cc
 node_with_child (Some (Node n)) g k i e h = refl
 node_with_child (Some (Token t)) g k i e h = absurd (omega (arith, kept_within (children_in g) i k h, ap (λ l. length (children_in l)) (same_Some None g e)))
 
-pub node_above : (es : List Entry) → IsTable es → (n : ℕ) (e : Entry) → slice_get es n ≡ Some e → 0 < n → IsNodeEntry es e.parent
+pub node_above : (es : List Entry) → IsTable es → (n : ℕ) (e : Entry) → slice_get es n ≡ Some e → 0 < n → is_node_at (root_node es) (entry_path es e.parent) ≡ true
 node_above es t n e at h =
     let a = above_of es t n e at h in
     let p = a.0 in

@@ -11,7 +11,7 @@ use Rattle.rowan_cursor.specs.declared.cursor.remainder.Remainder.TheVariants.{W
 use Rattle.rowan_cursor.specs.declared.cursor.traversal.Traversal.{Traversal}
 use Rattle.rowan_cursor.specs.declared.table.Table.{Table}
 use Rattle.rowan_cursor.specs.Cursor.{Cursor}
-use Rattle.rowan_cursor.specs.Events.{NextStandsInside, event_of, events_left}
+use Rattle.rowan_cursor.specs.Events.{NextStays, event_of, events_left}
 use Rattle.rowan_cursor.specs.Moves.{Element, cursor_at, element_at, is_node_at, nodes_at, parent_path}
 use Rattle.rowan_cursor.specs.Preorder.{event_map, events_of_nodes, entered_by, path_events, descendant_paths, skip}
 use Rattle.rowan_cursor.specs.TablePass.{StandsInside}
@@ -45,7 +45,7 @@ event-first : {A : Type 0} (f : NodeTerm → Path → A) (old new : Traversal) (
 event-first f old new es fs event item tables first shown =
     ap (map (event_map (f (root_of_traversal old)))) first
     ∙ ap (λ e. e ∷ map (event_map (f (root_of_traversal old))) fs) (event_map-twice (f (root_of_traversal old)) (path_at old.table.value) event
-      ∙ ap (λ t. event_map (λ n. f (root_of t.value) (path_at t.value n)) event) (sym tables) ∙ sym shown)
+    ∙ ap (λ t. event_map (λ n. f (root_of t.value) (path_at t.value n)) event) (sym tables) ∙ sym shown)
     ∙ ap (λ t. item ∷ map (event_map (f (root_of t.value))) fs) (sym tables)
 
 pub element_event-yields : (old new : Traversal) (event : WalkEvent ℕ) (rest : Remainder Traversal) (item : WalkEvent Element)
@@ -73,19 +73,19 @@ skip-before t start number next k e same =
 
 -- before another element is entered, all up to the parent's Leave is skipped
 skip-to-parent : (t : Table) (start number parent : ℕ) (next : Option (WalkEvent ℕ)) (k : Path → Bool) → next ≡ Some (Enter number)
-    → NextStandsInside t start next → number ≢ start
+    → NextStays t start next → number ≢ start
     → Some (path_at t parent) ≡ parent_path (path_at t number) → k (path_at t parent) ≡ true
     → skip (kept k (events_left t start next)) ≡ kept k (events_left t start (Some (Leave parent)))
 skip-to-parent t start number parent next k e inside apart above own =
-    let at : StandsInside t start number = subst (λ o. NextStandsInside t start o) e inside in
+    let at : StandsInside t start number = subst (λ o. NextStays t start o) e inside in
     rw e (skip-enter (root_of t) (path_at t start) (path_at t number) (path_at t parent) k at.inside (apart_paths t.entries.items t.complete number start at.within at.top_within apart) above own)
 
 -- only the start may have no parent
 pub has_parent : (t : Table) (start number : ℕ) (next : Option (WalkEvent ℕ)) → next ≡ Some (Enter number)
-    → NextStandsInside t start next → number ≢ start
+    → NextStays t start next → number ≢ start
     → ◌≡◌ {A = Option Path} None (parent_path (path_at t number)) → ⊥
 has_parent t start number next e inside apart none =
-    let at : StandsInside t start number = subst (λ o. NextStandsInside t start o) e inside in
+    let at : StandsInside t start number = subst (λ o. NextStays t start o) e inside in
     no_parent-inside (path_at t start) (path_at t number) at.inside (apart_paths t.entries.items t.complete number start at.within at.top_within apart) none
 
 shown : {A B : Type 0} (f : A → B) (es fs : List (WalkEvent A)) → skip es ≡ fs → map (event_map f) fs ≡ skip (map (event_map f) es)
@@ -119,10 +119,10 @@ skip_to_parent-nodes w number parent e apart above own =
 
 -- the parent of what is inside, and not the start, is inside
 pub inside-above : (t : Table) (start number parent : ℕ) (next : Option (WalkEvent ℕ)) → next ≡ Some (Enter number)
-    → NextStandsInside t start next → number ≢ start → parent < number
+    → NextStays t start next → number ≢ start → parent < number
     → Some (path_at t parent) ≡ parent_path (path_at t number) → StandsInside t start parent
 inside-above t start number parent next e inside apart earlier above =
-    let at : StandsInside t start number = subst (λ o. NextStandsInside t start o) e inside in
+    let at : StandsInside t start number = subst (λ o. NextStays t start o) e inside in
     record {
       top_within = at.top_within;
       within = omega (arith, earlier, at.within);

@@ -45,17 +45,18 @@ abbrev pub events_left : Table → ℕ → Option (WalkEvent ℕ) → List (Walk
 events_left t start None = []
 events_left t start (Some e) = events_on (root_of t) (path_at t start) (event_of t e)
 
--- the element of the next event, where there is one, is the start or below it
-abbrev pub NextStandsInside : Table → ℕ → Option (WalkEvent ℕ) → Type 0
-NextStandsInside t start None = Unit {0}
-NextStandsInside t start (Some e) = StandsInside t start (event_value e)
+-- the next event, where there is one, is of the start or of what is below it
+abbrev pub NextStays : Table → ℕ → Option (WalkEvent ℕ) → Type 0
+NextStays t start None = Unit {0}
+NextStays t start (Some e) = StandsInside t start (event_value e)
 
 StandsInside-prop : (t : Table) (start n : ℕ) → IsProp (StandsInside t start n)
 StandsInside-prop t start n = hlevel props
 
-pub NextStandsInside-prop : (t : Table) (start : ℕ) (next : Option (WalkEvent ℕ)) → IsProp (NextStandsInside t start next)
-NextStandsInside-prop t start None = hlevel props
-NextStandsInside-prop t start (Some e) = StandsInside-prop t start (event_value e)
+pub NextStays-prop : (t : Table) (start : ℕ) (next : Option (WalkEvent ℕ))
+    → IsProp (NextStays t start next)
+NextStays-prop t start None = hlevel props
+NextStays-prop t start (Some e) = StandsInside-prop t start (event_value e)
 
 -- the next event is no Leave of a token
 abbrev pub LeavesNoToken : Table → Option (WalkEvent ℕ) → Type 0

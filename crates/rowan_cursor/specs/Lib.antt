@@ -1,5 +1,6 @@
 pub mod Cursor
 pub mod CursorCode
+pub mod DraftView
 pub mod Equal
 pub mod EventCode
 pub mod Events

@@ -1,8 +1,9 @@
 -- Walks: each element at or below a node is entered before all that is below it, and left after.
---     The events of a walk are the word of the subtree, read symbol by symbol, each element by its path: an opening enters a node
---     and its closing leaves it; a leaf enters a token and leaves it.
---     A skip drops of the events that are left those before the first Leave whose Enter is not among them.
---     Descendants are all elements whose paths begin with the start's path, in the order of the tree.
+--     The events of a walk are the word of the subtree, read symbol by symbol, each element by its
+--     path: an opening enters a node, its closing leaves it; a leaf enters a token and leaves it.
+--     A skip drops of the events that are left those before the first Leave whose Enter is not
+--     among them.
+--     Descendants are all elements whose paths begin with the start's path, in the tree's order.
 use Rattle.std.specs.Prelude.{ℕ, zero, suc, List, [], ◌∷◌, ◌++◌, map, filter, Option, Some, None, Ok, Err}
 use Rattle.std.specs.Option.{unwrap_or}
 use Rattle.rowan_green.specs.declared.utility_types.NodeOrToken.TheVariants.{Node, Token}
@@ -79,7 +80,8 @@ descendants c = map (cursor_at c.root) (nodes_at c.root (descendant_paths c.root
 
 -- ---- skips
 
--- the events from the first Leave on whose Enter is not among them, where so many Enters before them have no Leave yet
+-- the events from the first Leave on whose Enter is not among them, where so many Enters before
+-- them have no Leave yet
 abbrev pub from_leave : {A : Type 0} → ℕ → List (WalkEvent A) → Option (List (WalkEvent A))
 from_leave open_count [] = None
 from_leave open_count (Enter x ∷ es) = from_leave (suc open_count) es

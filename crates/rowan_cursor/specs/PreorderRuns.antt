@@ -22,8 +22,8 @@ still_to_come (Take ∷ calls) [] = still_to_come calls []
 still_to_come (Take ∷ calls) (e ∷ es) = still_to_come calls es
 still_to_come (Skip ∷ calls) es = still_to_come calls (skip es)
 
--- The events leave all that they enter, and these before: each Leave is of what was entered last of all that is not left yet, and at
--- the end nothing is left to leave.
+-- The events leave all that they enter, and these before: each Leave is of what was entered last of
+-- all that is not left yet, and at the end nothing is still to be left.
 abbrev pub LeavesAll : {A : Type 0} → List (WalkEvent A) → List A → Type 0
 LeavesAll [] [] = Unit {0}
 LeavesAll [] (x ∷ xs) = ⊥

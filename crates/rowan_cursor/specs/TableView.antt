@@ -6,8 +6,8 @@ use Rattle.rowan_green.specs.Term.{NodeTerm}
 use Rattle.rowan_cursor.specs.declared.table.Entry.{Entry}
 use Rattle.rowan_cursor.specs.declared.table.Table.{Table}
 use Rattle.rowan_cursor.specs.Cursor.{Cursor}
-use Rattle.rowan_cursor.specs.Moves.{cursor_at, is_node_at, Element, element_at, numbers}
-use Rattle.rowan_cursor.specs.Table.{root_node, entry_path, green_of, children_in, IsEntry, IsRow, IsRowBack}
+use Rattle.rowan_cursor.specs.Moves.{cursor_at, is_node_at, Element, element_at, numbers, child_paths, following, preceding}
+use Rattle.rowan_cursor.specs.Table.{root_node, entry_path, green_of, children_in, Describes, IsRow, IsRowBack}
 
 -- the root of the tree
 abbrev pub root_of : Table → NodeTerm
@@ -16,6 +16,10 @@ root_of t = root_node t.entries.items
 -- the table has an entry with this number
 abbrev pub IsWithin : Table → ℕ → Type 0
 IsWithin t n = n < length t.entries.items
+
+-- the table has entries with all numbers below this one
+abbrev pub EndsWithin : Table → ℕ → Type 0
+EndsWithin t end = end ≤ length t.entries.items
 
 -- the path of the element with this number
 abbrev pub path_at : Table → ℕ → Path
@@ -61,7 +65,7 @@ pub record LeadsToToken (t : Table) (number : Option ℕ) (place : Option Path) 
 -- the table has entries with the numbers from a start up to an end
 pub record IsStretch (t : Table) (start end : ℕ) : Type 0 where
   pub order : start ≤ end
-  pub within : end ≤ length t.entries.items
+  pub within : EndsWithin t end
 
 -- the paths of the elements with these numbers
 abbrev pub row_paths : Table → ℕ → ℕ → List Path
@@ -71,16 +75,28 @@ row_paths t start end = map (path_at t) (numbers start (end - start))
 abbrev pub StretchShows : Table → ℕ → ℕ → List Path → Type 0
 StretchShows t start end paths = IsRow t.entries.items start end paths
 
--- the elements with these numbers are those at these paths, in the other order
+-- the elements with these numbers, from the last on, are those at these paths
 abbrev pub StretchShowsBack : Table → ℕ → ℕ → List Path → Type 0
 StretchShowsBack t start end paths = IsRowBack t.entries.items start end paths
 
--- this entry has the number
+-- this entry has the number, and tells of what stands there
 abbrev pub IsEntryAt : Table → ℕ → Entry → Type 0
-IsEntryAt t n e = IsEntry t.entries.items n e
+IsEntryAt t n e = Describes t.entries.items n e
 
 -- the numbers of the children of the element with a number go up to this one
 abbrev pub IsChildrenEnd : Table → ℕ → ℕ → Type 0
 IsChildrenEnd t n end =
     (e : Entry) → slice_get t.entries.items n ≡ Some e
     → end ≡ e.first_child + length (children_in (green_of e))
+
+-- the paths of the children of the element with a number
+abbrev pub paths_below : Table → ℕ → List Path
+paths_below t n = child_paths (root_of t) (path_at t n)
+
+-- the paths of its siblings behind it
+abbrev pub paths_behind : Table → ℕ → List Path
+paths_behind t n = following (root_of t) (path_at t n)
+
+-- the paths of its siblings before it, nearest first
+abbrev pub paths_before : Table → ℕ → List Path
+paths_before t n = preceding (root_of t) (path_at t n)

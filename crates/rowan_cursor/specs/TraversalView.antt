@@ -37,7 +37,8 @@ traversal_events t = map (event_map (element_at (root_of_traversal t))) (path_ev
 
 -- the events of nodes
 abbrev pub traversal_node_events : Traversal → List (WalkEvent Cursor)
-traversal_node_events t = map (event_map (cursor_at (root_of_traversal t))) (node_path_events_left t)
+traversal_node_events t =
+    map (event_map (cursor_at (root_of_traversal t))) (node_path_events_left t)
 
 -- the elements that are still to be entered
 abbrev pub traversal_elements : Traversal → List Element

@@ -1,5 +1,5 @@
--- The walks over a table by which iterators go: a row, of entries side by side, and a climb, from a node up to the root. What they
--- still give.
+-- The walks over a table by which iterators go, and what they still give: a row is of entries side
+-- by side, and a climb leads from a node up to the root.
 use Rattle.std.specs.Prelude.{ℕ, ◌-◌, List, [], map, reverse, Ok, Err}
 use Rattle.std.specs.List.{filter}
 use Rattle.rowan_green.specs.declared.fault.Fault.TheVariants.{Memory}
@@ -22,22 +22,22 @@ rest_of items Refusal = Err Memory
 rest_of items Nothing = Ok []
 
 -- the numbers from a start up to an end, in a direction
-abbrev pub directed : ℕ → ℕ → Direction → List ℕ
-directed start end Next = numbers start (end - start)
-directed start end Prev = reverse (numbers start (end - start))
+abbrev pub numbers_between : ℕ → ℕ → Direction → List ℕ
+numbers_between start end Next = numbers start (end - start)
+numbers_between start end Prev = reverse (numbers start (end - start))
 
 -- the elements with these numbers
 abbrev pub elements_in : Table → ℕ → ℕ → Direction → List Element
-elements_in t start end direction = map (element_of t) (directed start end direction)
+elements_in t start end direction = map (element_of t) (numbers_between start end direction)
 
 -- the nodes with these numbers
 abbrev pub nodes_in : Table → ℕ → ℕ → Direction → List Cursor
 nodes_in t start end direction =
-    map (cursor_of t) (filter (stands_for_node t) (directed start end direction))
+    map (cursor_of t) (filter (stands_for_node t) (numbers_between start end direction))
 
 -- the numbers of a row, in the order in which they come
 abbrev pub row_numbers : Row → List ℕ
-row_numbers row = directed row.start row.end row.direction
+row_numbers row = numbers_between row.start row.end row.direction
 
 -- of these, those of nodes
 abbrev pub node_numbers : Row → List ℕ

@@ -1,4 +1,5 @@
--- Iterators whose items may be refused, by what is left of them: the items that are still to come, or the one refusal that is.
+-- Iterators whose items may be refused, by what is left of them: the items that are still to come,
+-- or the one refusal that is.
 use Rattle.std.specs.Prelude.{◌≡◌, ℕ, ◌<◌, List, [], ◌∷◌, length, Option, Some, None, Result, Ok, Err}
 use Rattle.rowan_green.specs.declared.fault.Fault.{Fault}
 use Rattle.rowan_green.specs.declared.fault.Fault.TheVariants.{Memory}
@@ -6,7 +7,8 @@ use Rattle.rowan_green.specs.declared.fault.Fault.TheVariants.{Memory}
 abbrev pub Rest : Type 0 → Type 0
 Rest A = Result (List A) Fault
 
--- The first of the items comes next, and then the others are left. In its place `Memory` may come, and then nothing is left.
+-- The first of the items comes next, and then the others are left. In its place `Memory` may come,
+-- and then nothing is left.
 -- Where a refusal is left, it comes next and alone. Where nothing is left, nothing comes.
 abbrev pub YieldsOrRefuses : {A : Type 0} → Rest A → Option (Result A Fault) → Rest A → Type 0
 YieldsOrRefuses (Ok xs) None after = (xs ≡ []) × (after ≡ Ok [])

@@ -13,14 +13,17 @@ use rowan_green::utility_types::NodeOrToken;
 use std::alloc::{AllocError, Global};
 use std::ops::Range;
 
-/// What stands in an entry of a node or token: where its text starts, and the node. A token is lent by its parent.
+/// What stands in an entry of a node or token.
 #[derive(Drop)]
 pub(crate) enum Content {
+    /// Where the text of the node starts, and the node.
     OfNode(TextSize, GreenNode),
+    /// Where the text of the token starts. The token is lent by its parent.
     OfToken(TextSize),
 }
 
-/// A node or token of a tree, and its place there, by the numbers of its parent and of its first child. The root is its own parent.
+/// A node or token of a tree, and its place there, by the numbers of its parent and of its first child. The root is its own
+/// parent.
 #[derive(Drop)]
 pub(crate) struct Entry {
     pub(crate) content: Content,
@@ -40,9 +43,9 @@ impl Table {
     ghost use Rattle.rowan_green.specs.Lent.{pointee};
     ghost use Rattle.rowan_cursor.specs.Cursor.{StandsAt, StandsAtToken, term_at, index, text_range};
     ghost use Rattle.rowan_cursor.specs.Equal.{start_of};
-    ghost use Rattle.rowan_cursor.specs.Moves.{parent_path, first_at, first_node_at, child_paths, following, preceding, first_leaf_path, last_leaf_path, next_leaf_path, prev_leaf_path};
+    ghost use Rattle.rowan_cursor.specs.Moves.{parent_path, first_at, first_node_at, first_leaf_path, last_leaf_path, next_leaf_path, prev_leaf_path};
     ghost use Rattle.rowan_cursor.specs.Pass.{ComesBehind, ComesNext, ComesBefore, ComesBack};
-    ghost use Rattle.rowan_cursor.specs.TableView.{root_of, path_at, cursor_of, stands_for_node, row_paths, IsWithin, IsNodeIn, IsTokenIn, IsStretch, IsEntryAt, IsChildrenEnd, StretchShows, StretchShowsBack, Leads, LeadsToNode, LeadsToToken};
+    ghost use Rattle.rowan_cursor.specs.TableView.{root_of, path_at, cursor_of, stands_for_node, row_paths, paths_below, paths_behind, paths_before, IsWithin, IsNodeIn, IsTokenIn, IsStretch, IsEntryAt, IsChildrenEnd, StretchShows, StretchShowsBack, Leads, LeadsToNode, LeadsToToken};
     ghost use Rattle.rowan_cursor.specs.TablePass.{StandsInside, first_token_from, first_token_past, first_token_behind, last_token_until, last_token_to, last_token_before};
 
     /// The table of a green tree. Refused only for want of memory, or of numbers: they have 32 bits.
@@ -89,8 +92,7 @@ impl Table {
     /// The first child, tokens too.
     pub(crate) fn first_child_or_token(&self, number: usize) -> Option<usize>
         requires { IsWithin self.now number }
-        ensures { Leads self.now result
-            (first_at (child_paths (root_of self.now) (path_at self.now number))) }
+        ensures { Leads self.now result (first_at (paths_below self.now number)) }
     {
         self.first_in(self.child_numbers(number))
     }
@@ -98,8 +100,7 @@ impl Table {
     /// The last child, tokens too.
     pub(crate) fn last_child_or_token(&self, number: usize) -> Option<usize>
         requires { IsWithin self.now number }
-        ensures { Leads self.now result
-            (first_at (reverse (child_paths (root_of self.now) (path_at self.now number)))) }
+        ensures { Leads self.now result (first_at (reverse (paths_below self.now number))) }
     {
         self.last_in(self.child_numbers(number))
     }
@@ -107,8 +108,7 @@ impl Table {
     /// The next sibling, tokens too.
     pub(crate) fn next_sibling_or_token(&self, number: usize) -> Option<usize>
         requires { IsWithin self.now number }
-        ensures { Leads self.now result
-            (first_at (following (root_of self.now) (path_at self.now number))) }
+        ensures { Leads self.now result (first_at (paths_behind self.now number)) }
     {
         if number == 0 {
             return None;
@@ -127,8 +127,7 @@ impl Table {
     /// The sibling before this one, tokens too.
     pub(crate) fn prev_sibling_or_token(&self, number: usize) -> Option<usize>
         requires { IsWithin self.now number }
-        ensures { Leads self.now result
-            (first_at (preceding (root_of self.now) (path_at self.now number))) }
+        ensures { Leads self.now result (first_at (paths_before self.now number)) }
     {
         // The root stands alone, and before its first child.
         if number <= 1 {
@@ -144,7 +143,7 @@ impl Table {
     pub(crate) fn first_child(&self, number: usize) -> Option<usize>
         requires { IsWithin self.now number }
         ensures { LeadsToNode self.now result
-            (first_node_at (root_of self.now) (child_paths (root_of self.now) (path_at self.now number))) }
+            (first_node_at (root_of self.now) (paths_below self.now number)) }
     {
         self.first_node_in(self.child_numbers(number))
     }
@@ -153,7 +152,7 @@ impl Table {
     pub(crate) fn last_child(&self, number: usize) -> Option<usize>
         requires { IsWithin self.now number }
         ensures { LeadsToNode self.now result
-            (first_node_at (root_of self.now) (reverse (child_paths (root_of self.now) (path_at self.now number)))) }
+            (first_node_at (root_of self.now) (reverse (paths_below self.now number))) }
     {
         self.last_node_in(self.child_numbers(number))
     }
@@ -162,7 +161,7 @@ impl Table {
     pub(crate) fn next_sibling(&self, number: usize) -> Option<usize>
         requires { IsWithin self.now number }
         ensures { LeadsToNode self.now result
-            (first_node_at (root_of self.now) (following (root_of self.now) (path_at self.now number))) }
+            (first_node_at (root_of self.now) (paths_behind self.now number)) }
     {
         self.first_node_in(self.following_numbers(number))
     }
@@ -171,7 +170,7 @@ impl Table {
     pub(crate) fn prev_sibling(&self, number: usize) -> Option<usize>
         requires { IsWithin self.now number }
         ensures { LeadsToNode self.now result
-            (first_node_at (root_of self.now) (preceding (root_of self.now) (path_at self.now number))) }
+            (first_node_at (root_of self.now) (paths_before self.now number)) }
     {
         self.last_node_in(self.preceding_numbers(number))
     }
@@ -225,8 +224,7 @@ impl Table {
     /// The child at an index, tokens counted.
     pub(crate) fn child_at(&self, number: usize, index: usize) -> Option<usize>
         requires { IsWithin self.now number }
-        ensures { Leads self.now result
-            (slice_get (child_paths (root_of self.now) (path_at self.now number)) index) }
+        ensures { Leads self.now result (slice_get (paths_below self.now number) index) }
     {
         let children = self.child_numbers(number);
         if index >= children.end - children.start {
@@ -291,8 +289,7 @@ impl Table {
     /// The numbers of all children.
     pub(crate) fn child_numbers(&self, number: usize) -> Range<usize>
         requires { IsWithin self.now number }
-        ensures { StretchShows self.now result.start result.end
-            (child_paths (root_of self.now) (path_at self.now number)) }
+        ensures { StretchShows self.now result.start result.end (paths_below self.now number) }
     {
         self.entry(number).first_child as usize..self.children_end(number)
     }
@@ -301,8 +298,7 @@ impl Table {
     pub(crate) fn following_numbers(&self, number: usize) -> Range<usize>
         requires { IsWithin self.now number }
         ensures start { result.start ≡ number + 1 }
-        ensures row { StretchShows self.now result.start result.end
-            (following (root_of self.now) (path_at self.now number)) }
+        ensures row { StretchShows self.now result.start result.end (paths_behind self.now number) }
     {
         if number == 0 {
             return 1..1;
@@ -315,7 +311,7 @@ impl Table {
         requires { IsWithin self.now number }
         ensures end { result.end ≡ number }
         ensures row { StretchShowsBack self.now result.start result.end
-            (preceding (root_of self.now) (path_at self.now number)) }
+            (paths_before self.now number) }
     {
         if number == 0 {
             return 0..0;
@@ -339,8 +335,7 @@ impl Table {
     /// The first of a row.
     pub(crate) fn first_in(&self, row: Range<usize>) -> Option<usize>
         requires { IsStretch self.now row.start row.end }
-        ensures { Leads self.now result
-            (first_at (row_paths self.now row.start row.end)) }
+        ensures { Leads self.now result (first_at (row_paths self.now row.start row.end)) }
     {
         if row.start == row.end {
             return None;
@@ -433,8 +428,7 @@ impl Table {
     // The first token from an element on, inside the element at `top`.
     fn token_from(&self, start: usize, top: usize) -> Option<usize>
         requires { StandsInside self.now top start }
-        ensures { LeadsToToken self.now result
-            (first_token_from self.now top start) }
+        ensures { LeadsToToken self.now result (first_token_from self.now top start) }
     {
         let mut number = start;
         while self.is_node(number) {
@@ -449,8 +443,7 @@ impl Table {
     // The last token up to an element's end, inside the element at `top`.
     fn token_back_from(&self, start: usize, top: usize) -> Option<usize>
         requires { StandsInside self.now top start }
-        ensures { LeadsToToken self.now result
-            (last_token_to self.now top start) }
+        ensures { LeadsToToken self.now result (last_token_to self.now top start) }
     {
         let mut number = start;
         while self.is_node(number) {

@@ -41,7 +41,8 @@ impl Climb {
 
     // The way up from the parent.
     fn above(self) -> Remainder<Climb>
-        ensures { rest_of climb_nodes result ≡ Ok (parent_ancestors (cursor_of self.table.value self.next)) }
+        ensures { rest_of climb_nodes result
+            ≡ Ok (parent_ancestors (cursor_of self.table.value self.next)) }
     {
         let Some(next) = self.table.parent(self.next) else {
             return Remainder::Nothing;
@@ -58,7 +59,8 @@ impl Remainder<Climb> {
 
     // The next node.
     pub(super) fn next_ancestor(&mut self) -> Option<Result<SyntaxNode, Fault>>
-        ensures { YieldsOrRefuses (rest_of climb_nodes self.old) result (rest_of climb_nodes self.new) }
+        ensures { YieldsOrRefuses (rest_of climb_nodes self.old) result
+            (rest_of climb_nodes self.new) }
     {
         let climb = match mem::replace(self, Remainder::Nothing) {
             Remainder::Walk(climb) => climb,

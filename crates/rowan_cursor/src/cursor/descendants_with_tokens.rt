@@ -7,8 +7,8 @@ use std::alloc::AllocError;
 use std::fmt;
 use std::marker::Model;
 
-/// A node and all that is below it, in the order of the tree: each element before what is below it. Each item shares the tree once
-/// more. Where that is refused for want of memory, the item is `Err(Fault::Memory)`, and then the iterator ends.
+/// A node and all that is below it, in the order of the tree: each element before what is below it. Each item shares the tree
+/// once more. Where that is refused for want of memory, the item is `Err(Fault::Memory)`, and then the iterator ends.
 #[derive(Drop)]
 pub struct DescendantsWithTokens {
     traversal: Remainder<Traversal>,

@@ -13,7 +13,7 @@ use rowan_green::utility_types::NodeOrToken;
 use std::alloc::AllocError;
 use std::rc::Rc;
 
-/// A node or a token in a tree.
+/// A node or a token in a tree. Its calls are those of [`ElementCalls`].
 pub type SyntaxElement = NodeOrToken<SyntaxNode, SyntaxToken>;
 
 // The element with a number.
@@ -42,7 +42,8 @@ pub(super) fn found(
     }
 }
 
-/// The calls of a [`SyntaxElement`]. It is a trait since the type of elements is that of another crate.
+/// The calls of a [`SyntaxElement`]. It is a trait since the type of elements is that of another crate. A move is refused only
+/// where the tree cannot be shared once more, since its reference count is full; then the answer is `Err(Fault::Memory)`.
 pub trait ElementCalls {
     ghost element: { Self → Element };
 
@@ -59,36 +60,45 @@ pub trait ElementCalls {
         ensures { kind (place_of (element self.now)) ≡ Some result.0 };
 
     /// The parent, or `None` of a root.
+    /// `Err(Fault::Memory)` where the tree cannot be shared once more.
     fn parent(&self) -> Result<Option<SyntaxNode>, Fault>
         ensures ok { IfOk result (λ found. found ≡ parent (place_of (element self.now))) }
         ensures err { IfErr result (λ e. e ≡ Fault.Memory) };
 
     /// The root of the tree.
+    /// `Err(Fault::Memory)` where the tree cannot be shared once more.
     fn tree_top(&self) -> Result<SyntaxNode, Fault>
         ensures ok { IfOk result (λ n. n ≡ tree_top (place_of (element self.now))) }
         ensures err { IfErr result (λ e. e ≡ Fault.Memory) };
 
     /// The first token of all that are in a node, also an empty one; a token itself.
+    /// `Err(Fault::Memory)` where the tree cannot be shared once more.
     fn first_token(&self) -> Result<Option<SyntaxToken>, Fault>
         ensures ok { IfOk result (λ found. found ≡ first_token (place_of (element self.now))) }
         ensures err { IfErr result (λ e. e ≡ Fault.Memory) };
 
     /// The last token of all that are in a node, also an empty one; a token itself.
+    /// `Err(Fault::Memory)` where the tree cannot be shared once more.
     fn last_token(&self) -> Result<Option<SyntaxToken>, Fault>
         ensures ok { IfOk result (λ found. found ≡ last_token (place_of (element self.now))) }
         ensures err { IfErr result (λ e. e ≡ Fault.Memory) };
 
     /// The next sibling.
+    /// `Err(Fault::Memory)` where the tree cannot be shared once more.
     fn next_sibling_or_token(&self) -> Result<Option<SyntaxElement>, Fault>
-        ensures ok { IfOk result (λ found. found ≡ next_sibling_or_token (place_of (element self.now))) }
+        ensures ok { IfOk result (λ found.
+            found ≡ next_sibling_or_token (place_of (element self.now))) }
         ensures err { IfErr result (λ e. e ≡ Fault.Memory) };
 
     /// The sibling before this one.
+    /// `Err(Fault::Memory)` where the tree cannot be shared once more.
     fn prev_sibling_or_token(&self) -> Result<Option<SyntaxElement>, Fault>
-        ensures ok { IfOk result (λ found. found ≡ prev_sibling_or_token (place_of (element self.now))) }
+        ensures ok { IfOk result (λ found.
+            found ≡ prev_sibling_or_token (place_of (element self.now))) }
         ensures err { IfErr result (λ e. e ≡ Fault.Memory) };
 
     /// A node and the nodes above it, up to the root; of a token the nodes above it.
+    /// An item is `Err(Fault::Memory)` where the tree cannot be shared once more; then the iterator ends.
     fn ancestors(&self) -> Ancestors
         ensures ok { IfOk result (λ list. list ≡ element_ancestors (element self.now)) }
         ensures err { IfErr result (λ e. e ≡ Fault.Memory) };

@@ -1,5 +1,5 @@
 //! Elements that stand side by side: the children of a node, or siblings.
-ghost use Rattle.std.specs.Prelude.{◌≤◌, length};
+ghost use Rattle.rowan_cursor.specs.TableView.{EndsWithin};
 
 use crate::cursor::remainder::Remainder;
 use crate::cursor::{SyntaxElement, SyntaxNode, element};
@@ -18,18 +18,18 @@ pub(super) struct Row {
     start: usize,
     end: usize,
     direction: Direction,
-    ghost within: { end ≤ length table.value.entries.items },
+    ghost within: { EndsWithin table.value end },
 }
 
 impl Row {
-    ghost use Rattle.std.specs.Prelude.{◌≡◌, ◌≤◌, [], ◌∷◌, length, IfOk, IfNone, IfSome};
+    ghost use Rattle.std.specs.Prelude.{◌≡◌, [], ◌∷◌, IfOk, IfNone, IfSome};
     ghost use Rattle.rowan_cursor.specs.Moves.{children, children_with_tokens, siblings, siblings_with_tokens};
-    ghost use Rattle.rowan_cursor.specs.TableView.{cursor_of, IsWithin, IsNodeIn};
+    ghost use Rattle.rowan_cursor.specs.TableView.{cursor_of, EndsWithin, IsWithin, IsNodeIn};
     ghost use Rattle.rowan_cursor.specs.Walks.{rest_of, row_elements, row_nodes, row_numbers, node_numbers, elements_in, nodes_in};
 
     // The entries that stand in a range, in a direction. Refused where the table cannot be shared once more.
     fn new(table: &Rc<Table>, range: Range<usize>, direction: Direction) -> Remainder<Row>
-        requires { range.end ≤ length table.now.value.entries.items }
+        requires { EndsWithin table.now.value range.end }
         ensures elements { IfOk (rest_of row_elements result) (λ list.
             list ≡ elements_in table.now.value range.start range.end direction) }
         ensures nodes { IfOk (rest_of row_nodes result) (λ list.
@@ -126,7 +126,8 @@ impl Remainder<Row> {
 
     // The next element.
     pub(super) fn next_element(&mut self) -> Option<Result<SyntaxElement, Fault>>
-        ensures { YieldsOrRefuses (rest_of row_elements self.old) result (rest_of row_elements self.new) }
+        ensures { YieldsOrRefuses (rest_of row_elements self.old) result
+            (rest_of row_elements self.new) }
     {
         let mut row = match mem::replace(self, Remainder::Nothing) {
             Remainder::Walk(row) => row,
@@ -164,7 +165,8 @@ impl Remainder<Row> {
 
     // An equal one, which goes on by itself.
     pub(super) fn copy(&self) -> Result<Remainder<Row>, AllocError>
-        ensures elements { IfOk result (λ copy. rest_of row_elements copy ≡ rest_of row_elements self.now) }
+        ensures elements { IfOk result (λ copy.
+            rest_of row_elements copy ≡ rest_of row_elements self.now) }
         ensures nodes { IfOk result (λ copy. rest_of row_nodes copy ≡ rest_of row_nodes self.now) }
     {
         match self {

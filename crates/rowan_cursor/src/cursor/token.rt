@@ -18,7 +18,11 @@ use std::hash::{Hash, Hasher};
 use std::marker::Model;
 use std::rc::Rc;
 
-/// A token in a tree: a root, and the way from it to the token. A clone shares the tree.
+/// A token in a tree: a root, and the way from it to the token.
+///
+/// All cursors of one tree share it, and it lives as long as one of them. A move is refused only where the tree cannot be
+/// shared once more, since its reference count is full; then the answer is `Err(Fault::Memory)`. Two tokens are equal if they
+/// have equal green tokens and their texts start at the same offset.
 #[derive(Drop)]
 pub struct SyntaxToken {
     table: Rc<Table>,
@@ -100,6 +104,7 @@ impl SyntaxToken {
     }
 
     /// The root of the tree.
+    /// `Err(Fault::Memory)` where the tree cannot be shared once more.
     pub fn tree_top(&self) -> Result<SyntaxNode, Fault>
         ensures ok { IfOk result (λ n. n ≡ tree_top self.now) }
         ensures err { IfErr result (λ e. e ≡ Fault.Memory) }
@@ -108,6 +113,7 @@ impl SyntaxToken {
     }
 
     /// The parent.
+    /// `Err(Fault::Memory)` where the tree cannot be shared once more.
     pub fn parent(&self) -> Result<Option<SyntaxNode>, Fault>
         ensures ok { IfOk result (λ found. found ≡ parent self.now) }
         ensures err { IfErr result (λ e. e ≡ Fault.Memory) }
@@ -116,6 +122,7 @@ impl SyntaxToken {
     }
 
     /// The next sibling.
+    /// `Err(Fault::Memory)` where the tree cannot be shared once more.
     pub fn next_sibling_or_token(&self) -> Result<Option<SyntaxElement>, Fault>
         ensures ok { IfOk result (λ found. found ≡ next_sibling_or_token self.now) }
         ensures err { IfErr result (λ e. e ≡ Fault.Memory) }
@@ -124,6 +131,7 @@ impl SyntaxToken {
     }
 
     /// The sibling before this one.
+    /// `Err(Fault::Memory)` where the tree cannot be shared once more.
     pub fn prev_sibling_or_token(&self) -> Result<Option<SyntaxElement>, Fault>
         ensures ok { IfOk result (λ found. found ≡ prev_sibling_or_token self.now) }
         ensures err { IfErr result (λ e. e ≡ Fault.Memory) }
@@ -132,6 +140,7 @@ impl SyntaxToken {
     }
 
     /// The next token of the tree, also an empty one, whatever node it is in.
+    /// `Err(Fault::Memory)` where the tree cannot be shared once more.
     pub fn next_token(&self) -> Result<Option<SyntaxToken>, Fault>
         ensures ok { IfOk result (λ found. found ≡ next_token self.now) }
         ensures err { IfErr result (λ e. e ≡ Fault.Memory) }
@@ -140,6 +149,7 @@ impl SyntaxToken {
     }
 
     /// The token of the tree before this one, also an empty one, whatever node it is in.
+    /// `Err(Fault::Memory)` where the tree cannot be shared once more.
     pub fn prev_token(&self) -> Result<Option<SyntaxToken>, Fault>
         ensures ok { IfOk result (λ found. found ≡ prev_token self.now) }
         ensures err { IfErr result (λ e. e ≡ Fault.Memory) }
@@ -163,6 +173,7 @@ impl SyntaxToken {
     }
 
     /// The nodes above the token: its parent, and so on up to the root.
+    /// An item is `Err(Fault::Memory)` where the tree cannot be shared once more; then the iterator ends.
     pub fn ancestors(&self) -> Ancestors
         ensures ok { IfOk result (λ list. list ≡ parent_ancestors self.now) }
         ensures err { IfErr result (λ e. e ≡ Fault.Memory) }
@@ -171,6 +182,7 @@ impl SyntaxToken {
     }
 
     /// The token, and then its siblings in a direction, nearest first.
+    /// An item is `Err(Fault::Memory)` where the tree cannot be shared once more; then the iterator ends.
     pub fn siblings_with_tokens(&self, direction: Direction) -> SiblingsWithTokens
         ensures ok { IfOk result (λ list. list ≡ siblings_with_tokens direction self.now) }
         ensures err { IfErr result (λ e. e ≡ Fault.Memory) }

@@ -1,5 +1,5 @@
 //! A walk through what is at and below a node, event by event.
-ghost use Rattle.rowan_cursor.specs.Events.{NextStandsInside, NextStandsInside-prop};
+ghost use Rattle.rowan_cursor.specs.Events.{NextStays, NextStays-prop};
 ghost use Rattle.rowan_cursor.specs.TableView.{IsNodeIn};
 
 use crate::cursor::remainder::Remainder;
@@ -11,15 +11,15 @@ use std::alloc::AllocError;
 use std::mem;
 use std::rc::Rc;
 
-// The node from which the walk started, and the event that comes next, each by the number of its entry. `None` is behind the last
-// event.
+// The node from which the walk started, and the event that comes next, each by the number of its
+// entry. `None` is behind the last event.
 #[derive(Drop)]
 pub(super) struct Traversal {
     table: Rc<Table>,
     start: usize,
     next: Option<WalkEvent<usize>>,
     ghost node: { IsNodeIn table.value start },
-    ghost inside: { NextStandsInside table.value start next } by { NextStandsInside-prop table.value start next },
+    ghost inside: { NextStays table.value start next } by { NextStays-prop table.value start next },
 }
 
 impl Traversal {
@@ -66,7 +66,8 @@ impl Traversal {
         ensures within { IfSome result (λ e. IsWithin self.old.table.value (event_value e)) }
 
         // after the event of a node no token is still to be left
-        ensures node { IfSome result (λ e. stands_for_node self.old.table.value (event_value e) ≡ true
+        ensures node { IfSome result (λ e.
+            stands_for_node self.old.table.value (event_value e) ≡ true
             → LeavesNoToken self.new.table.value self.new.next) }
         ensures table { self.new.table ≡ self.old.table }
     {
@@ -185,7 +186,8 @@ impl Remainder<Traversal> {
 
     // The next event.
     pub(super) fn next_event(&mut self) -> Option<Result<WalkEvent<SyntaxElement>, Fault>>
-        ensures { YieldsOrRefuses (rest_of traversal_events self.old) result (rest_of traversal_events self.new) }
+        ensures { YieldsOrRefuses (rest_of traversal_events self.old) result
+            (rest_of traversal_events self.new) }
     {
         let mut walk = match mem::replace(self, Remainder::Nothing) {
             Remainder::Walk(walk) => walk,
@@ -225,7 +227,8 @@ impl Remainder<Traversal> {
 
     // The next element that is entered.
     pub(super) fn next_element(&mut self) -> Option<Result<SyntaxElement, Fault>>
-        ensures { YieldsOrRefuses (rest_of traversal_elements self.old) result (rest_of traversal_elements self.new) }
+        ensures { YieldsOrRefuses (rest_of traversal_elements self.old) result
+            (rest_of traversal_elements self.new) }
     {
         let mut walk = match mem::replace(self, Remainder::Nothing) {
             Remainder::Walk(walk) => walk,
@@ -244,7 +247,8 @@ impl Remainder<Traversal> {
 
     // The next node that is entered.
     pub(super) fn next_node(&mut self) -> Option<Result<SyntaxNode, Fault>>
-        ensures { YieldsOrRefuses (rest_of traversal_nodes self.old) result (rest_of traversal_nodes self.new) }
+        ensures { YieldsOrRefuses (rest_of traversal_nodes self.old) result
+            (rest_of traversal_nodes self.new) }
     {
         let mut walk = match mem::replace(self, Remainder::Nothing) {
             Remainder::Walk(walk) => walk,
@@ -263,9 +267,11 @@ impl Remainder<Traversal> {
 
     // Drops what is left before the next Leave of an element that was entered.
     pub(super) fn skip_subtree(&mut self)
-        ensures events { rest_of traversal_events self.new ≡ skip_rest (rest_of traversal_events self.old) }
+        ensures events { rest_of traversal_events self.new
+            ≡ skip_rest (rest_of traversal_events self.old) }
         ensures node_events { HasLeftTokens self.old
-            → rest_of traversal_node_events self.new ≡ skip_rest (rest_of traversal_node_events self.old) }
+            → rest_of traversal_node_events self.new
+            ≡ skip_rest (rest_of traversal_node_events self.old) }
         ensures tokens { HasLeftTokens self.old → HasLeftTokens self.new }
     {
         if let Remainder::Walk(walk) = self {
@@ -275,11 +281,14 @@ impl Remainder<Traversal> {
 
     // An equal one, which goes on by itself.
     pub(super) fn copy(&self) -> Result<Remainder<Traversal>, AllocError>
-        ensures events { IfOk result (λ copy. rest_of traversal_events copy ≡ rest_of traversal_events self.now) }
+        ensures events { IfOk result (λ copy.
+            rest_of traversal_events copy ≡ rest_of traversal_events self.now) }
         ensures node_events { IfOk result (λ copy.
             rest_of traversal_node_events copy ≡ rest_of traversal_node_events self.now) }
-        ensures elements { IfOk result (λ copy. rest_of traversal_elements copy ≡ rest_of traversal_elements self.now) }
-        ensures nodes { IfOk result (λ copy. rest_of traversal_nodes copy ≡ rest_of traversal_nodes self.now) }
+        ensures elements { IfOk result (λ copy.
+            rest_of traversal_elements copy ≡ rest_of traversal_elements self.now) }
+        ensures nodes { IfOk result (λ copy.
+            rest_of traversal_nodes copy ≡ rest_of traversal_nodes self.now) }
 
         // a copy has left as much
         ensures tokens { HasLeftTokens self.now → IfOk result HasLeftTokens }

@@ -1,9 +1,7 @@
 //! Filling a table: level by level, in one pass.
-ghost use Rattle.std.specs.Prelude.{◌≡◌, ◌+◌, ◌<◌, ◌++◌, [], ◌∷◌, IfOk, OnOk, Some, length, map, take, slice_get};
+ghost use Rattle.std.specs.Prelude.{◌≡◌, IfOk, length};
 ghost use Rattle.rowan_green.specs.Lent.{into_node, pointee};
-ghost use Rattle.rowan_green.specs.Term.{Term};
-ghost use Rattle.rowan_cursor.specs.Table.{IsDraft, GrowsBy, children_in, counts, green_in, green_of, offset_in, root_node};
-ghost use Rattle.rowan_cursor.specs.declared.table.Entry.{Entry};
+ghost use Rattle.rowan_cursor.specs.Table.{children_in, green_in, offset_in};
 
 use super::{Content, Entry, Table};
 use rowan_green::green::{GreenElementRef, GreenNode};
@@ -11,7 +9,7 @@ use rowan_green::text::TextSize;
 use rowan_green::utility_types::NodeOrToken;
 use std::alloc::{AllocError, Global};
 
-/// A table in the making. The entries get their children in order: those of one stand behind those of all before it.
+/// A table that is still to be filled. The entries get their children in order: those of one stand behind those of all before it.
 /// Until it gets them, an entry has 0 as its first child.
 #[derive(Drop)]
 pub(super) struct Draft {
@@ -19,11 +17,16 @@ pub(super) struct Draft {
 }
 
 impl Draft {
+    ghost use Rattle.std.specs.Prelude.{◌≡◌, ◌+◌, ◌<◌, IfOk, OnOk, length, take};
+    ghost use Rattle.rowan_cursor.specs.DraftView.{entries_of};
+    ghost use Rattle.rowan_cursor.specs.Table.{IsDraft, IsNextIndex, GainsChild, GainsChildren, counts, root_node};
+    ghost use Rattle.rowan_cursor.specs.TableView.{root_of};
+
     /// The entry of the root alone.
     pub(super) fn new(alloc: Global, green: GreenNode) -> Result<Draft, AllocError>
-        ensures draft { IfOk result (λ draft. IsDraft 0 draft.entries.items) }
-        ensures root { IfOk result (λ draft. root_node draft.entries.items ≡ green) }
-        ensures one { IfOk result (λ draft. length draft.entries.items ≡ 1) }
+        ensures draft { IfOk result (λ draft. IsDraft 0 (entries_of draft)) }
+        ensures root { IfOk result (λ draft. root_node (entries_of draft) ≡ green) }
+        ensures one { IfOk result (λ draft. length (entries_of draft) ≡ 1) }
     {
         // What has a length is within the limits.
         let _len = green.text_len();
@@ -38,20 +41,24 @@ impl Draft {
 
     /// How many entries there are.
     pub(super) fn len(&self) -> usize
-        ensures { result ≡ length self.now.entries.items }
+        ensures { result ≡ length (entries_of self.now) }
     {
         self.entries.len()
     }
 
     /// Adds the children of the next entry, and notes there where they start.
     pub(super) fn push_children(&mut self, parent: u32) -> Result<(), AllocError>
-        requires within { parent < length self.old.entries.items }
-        requires draft { IsDraft parent self.old.entries.items }
-        requires place { length self.old.entries.items ≡ counts (take parent self.old.entries.items) + 1 }
-        ensures fits { OnOk result (length self.old.entries.items < 4294967296) }
-        ensures draft { OnOk result (IsDraft (parent + 1) self.new.entries.items) }
-        ensures grown { OnOk result ((e : Entry) → slice_get self.old.entries.items parent ≡ Some e
-            → map green_of self.new.entries.items ≡ map green_of self.old.entries.items ++ map into_node (children_in (green_of e))) }
+        // the children of the entries before this one are there, and no others
+        requires within { parent < length (entries_of self.old) }
+        requires draft { IsDraft parent (entries_of self.old) }
+        requires place { length (entries_of self.old)
+            ≡ counts (take parent (entries_of self.old)) + 1 }
+
+        // this one's children are added
+        ensures fits { OnOk result (length (entries_of self.old) < 4294967296) }
+        ensures draft { OnOk result (IsDraft (parent + 1) (entries_of self.new)) }
+        ensures grown { OnOk result
+            (GainsChildren (entries_of self.old) (entries_of self.new) parent) }
     {
         let Ok(first_child) = u32::try_from(self.entries.len()) else {
             return Err(AllocError);
@@ -67,13 +74,15 @@ impl Draft {
 
     // Adds the child at an index, whose number is the next.
     fn push_child(&mut self, parent: u32, index: u32) -> Result<(), AllocError>
-        requires within { parent < length self.old.entries.items }
-        requires draft { IsDraft (parent + 1) self.old.entries.items }
-        requires place { (e : Entry) → slice_get self.old.entries.items parent ≡ Some e
-            → (index < length (children_in (green_of e))) × (length self.old.entries.items ≡ e.first_child + index) }
-        ensures draft { OnOk result (IsDraft (parent + 1) self.new.entries.items) }
-        ensures grown { OnOk result ((e : Entry) (t : Term) → slice_get self.old.entries.items parent ≡ Some e
-            → slice_get (children_in (green_of e)) index ≡ Some t → GrowsBy self.old.entries.items self.new.entries.items (t ∷ [])) }
+        // the children before this one are there
+        requires within { parent < length (entries_of self.old) }
+        requires draft { IsDraft (parent + 1) (entries_of self.old) }
+        requires place { IsNextIndex (entries_of self.old) parent index }
+
+        // this one is added
+        ensures draft { OnOk result (IsDraft (parent + 1) (entries_of self.new)) }
+        ensures grown { OnOk result
+            (GainsChild (entries_of self.old) (entries_of self.new) parent index) }
     {
         let above = &self.entries[parent as usize];
         let Content::OfNode(offset, node) = &above.content else {
@@ -83,7 +92,7 @@ impl Draft {
             unreachable!();
         };
         let (start, child) = found;
-        let content = content(TextSize::from(u32::from(*offset) + u32::from(start)), child)?;
+        let content = content_of(TextSize::from(u32::from(*offset) + u32::from(start)), child)?;
         self.entries.push(Entry {
             content,
             parent,
@@ -94,9 +103,9 @@ impl Draft {
 
     /// The table, where all children of each entry are there.
     pub(super) fn finish(self) -> Table
-        requires draft { IsDraft (length self.entries.items) self.entries.items }
-        requires whole { length self.entries.items ≡ counts self.entries.items + 1 }
-        ensures { result.entries.items ≡ self.entries.items }
+        requires draft { IsDraft (length (entries_of self)) (entries_of self) }
+        requires whole { length (entries_of self) ≡ counts (entries_of self) + 1 }
+        ensures { root_of result ≡ root_node (entries_of self) }
     {
         let Draft { entries } = self;
         Table { entries }
@@ -117,8 +126,8 @@ fn child_count(content: &Content) -> u32
     }
 }
 
-// What an entry keeps of an element whose text starts there: a node is shared.
-fn content(offset: TextSize, child: GreenElementRef<'_>) -> Result<Content, AllocError>
+// What stands in the entry of an element whose text starts there: a node is shared.
+fn content_of(offset: TextSize, child: GreenElementRef<'_>) -> Result<Content, AllocError>
     ensures start { IfOk result (λ content. offset_in content ≡ offset) }
     ensures green { IfOk result (λ content. green_in content ≡ into_node (pointee child.entry)) }
 {

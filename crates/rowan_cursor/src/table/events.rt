@@ -1,7 +1,7 @@
 //! From event to event of a walk: an element is entered before what is below it, and left after.
 ghost use Rattle.std.specs.Prelude.{◌≡◌, ◌∷◌, true, Some};
 ghost use Rattle.rowan_green.specs.WalkEvent.{event_value};
-ghost use Rattle.rowan_cursor.specs.Events.{NextStandsInside, LeavesNoToken, behind_path, event_of, events_left};
+ghost use Rattle.rowan_cursor.specs.Events.{NextStays, LeavesNoToken, behind_path, event_of, events_left};
 ghost use Rattle.rowan_cursor.specs.TablePass.{StandsInside};
 ghost use Rattle.rowan_cursor.specs.TableView.{root_of, path_at, stands_for_node};
 
@@ -10,12 +10,17 @@ use rowan_green::utility_types::WalkEvent;
 
 impl Table {
     /// The event that comes after another one, in a walk from a start.
-    pub(crate) fn event_after(&self, event: WalkEvent<usize>, start: usize) -> Option<WalkEvent<usize>>
+    pub(crate) fn event_after(
+        &self,
+        event: WalkEvent<usize>,
+        start: usize,
+    ) -> Option<WalkEvent<usize>>
         requires { StandsInside self.now start (event_value event) }
         ensures next { events_left self.now start (Some event)
             ≡ event_of self.now event ∷ events_left self.now start result }
-        ensures inside { NextStandsInside self.now start result }
-        ensures node { stands_for_node self.now (event_value event) ≡ true → LeavesNoToken self.now result }
+        ensures inside { NextStays self.now start result }
+        ensures node { stands_for_node self.now (event_value event) ≡ true
+            → LeavesNoToken self.now result }
     {
         match event {
             WalkEvent::Enter(number) => match self.first_child_or_token(number) {
@@ -31,7 +36,7 @@ impl Table {
         requires { StandsInside self.now start number }
         ensures next { events_left self.now start result
             ≡ behind_path (root_of self.now) (path_at self.now start) (path_at self.now number) }
-        ensures inside { NextStandsInside self.now start result }
+        ensures inside { NextStays self.now start result }
         ensures node { LeavesNoToken self.now result }
     {
         if number == start {

@@ -1,6 +1,6 @@
 use Rattle.std.proofs.Common.{sym, ◌∙◌, ap, arith}
 use Rattle.rowan_cursor.specs.Moves.{parent_path}
-use Rattle.rowan_cursor.specs.Table.{index_of, entry_path}
+use Rattle.rowan_cursor.specs.Table.{entry_index, entry_path}
 use Rattle.rowan_cursor.proofs.PathLemmas.{parent_path-child}
 use Rattle.rowan_cursor.proofs.TableLemmas.{node_above}
 use Rattle.rowan_cursor.proofs.table.Table.parent.Goals as goal
@@ -12,7 +12,7 @@ returns-clause-found c =
     let e = c.entry.result.now in
     let below = c.entry.ensures.below (omega arith) in
     record {
-      path = sym (ap parent_path below.path ∙ parent_path-child (entry_path es e.parent) (index_of es c.args.number e));
+      path = sym (ap parent_path below.path ∙ parent_path-child (entry_path es e.parent) (entry_index es c.args.number e));
       node = record {
         within = omega (arith, below.earlier, c.requires);
         is = node_above es s.complete c.args.number e c.entry.ensures.at (omega arith);

@@ -3,9 +3,9 @@ use Rattle.rowan_green.specs.Path.{Path}
 use Rattle.rowan_green.specs.Term.{NodeTerm}
 use Rattle.rowan_green.specs.declared.utility_types.NodeOrToken.TheVariants.{Node}
 use Rattle.rowan_cursor.specs.Moves.{child_count, child_paths, first_at}
-use Rattle.rowan_cursor.specs.Pass.{leaf_list, before, upto, ComesBefore, ComesBack, last_inside}
+use Rattle.rowan_cursor.specs.Pass.{leaf_list, before, until_child, ComesBefore, ComesBack, last_inside}
 use Rattle.rowan_cursor.specs.Table.{root_node, entry_path}
-use Rattle.rowan_cursor.proofs.TokenLemmas.{last_child-inside, back_child, no_child-upto, back_no_child}
+use Rattle.rowan_cursor.proofs.TokenLemmas.{last_child-inside, back_child, no_child-until_child, back_no_child}
 use Rattle.rowan_cursor.proofs.table.Table.step_back.Goals as goal
 
 pub returns-in-Some-clause-found : goal.returns-in-Some-clause-found
@@ -26,8 +26,8 @@ back_any : (root : NodeTerm) (p : Path) (path : ℕ → Path) (r : Option ℕ) �
 back_any root p path None h x = x
 back_any root p path (Some n) h x = back_no_child root p (path n) h x
 
-end_any : (top p : Path) (root : NodeTerm) (r : Option ℕ) → ◌≡◌ {A = Option Path} None (first_at (reverse (child_paths root p))) → IfNone r (last_inside top (before leaf_list (Some (Node root)) p) ≡ None) → IfNone r (last_inside top (upto leaf_list (Some (Node root)) p (child_count root p)) ≡ None)
-end_any top p root None h x = ap (last_inside top) (no_child-upto root p h leaf_list) ∙ x
+end_any : (top p : Path) (root : NodeTerm) (r : Option ℕ) → ◌≡◌ {A = Option Path} None (first_at (reverse (child_paths root p))) → IfNone r (last_inside top (before leaf_list (Some (Node root)) p) ≡ None) → IfNone r (last_inside top (until_child leaf_list (Some (Node root)) p (child_count root p)) ≡ None)
+end_any top p root None h x = ap (last_inside top) (no_child-until_child root p h leaf_list) ∙ x
 end_any top p root (Some n) h x = x
 
 pub returns-in-None-clause-back : goal.returns-in-None-clause-back

@@ -3,9 +3,9 @@ use Rattle.rowan_green.specs.Path.{Path}
 use Rattle.rowan_green.specs.Term.{NodeTerm}
 use Rattle.rowan_green.specs.declared.utility_types.NodeOrToken.TheVariants.{Node}
 use Rattle.rowan_cursor.specs.Moves.{child_paths, first_at}
-use Rattle.rowan_cursor.specs.Pass.{leaf_list, after, rest, ComesBehind, ComesNext, first_inside}
+use Rattle.rowan_cursor.specs.Pass.{leaf_list, after, since_child, ComesBehind, ComesNext, first_inside}
 use Rattle.rowan_cursor.specs.Table.{root_node, entry_path}
-use Rattle.rowan_cursor.proofs.TokenLemmas.{first_child-inside, next_child, no_child-rest, next_no_child}
+use Rattle.rowan_cursor.proofs.TokenLemmas.{first_child-inside, next_child, no_child-since_child, next_no_child}
 use Rattle.rowan_cursor.proofs.table.Table.step_on.Goals as goal
 
 pub returns-in-Some-clause-found : goal.returns-in-Some-clause-found
@@ -26,8 +26,8 @@ next_any : (root : NodeTerm) (p : Path) (path : ℕ → Path) (r : Option ℕ) �
 next_any root p path None h x = x
 next_any root p path (Some n) h x = next_no_child root p (path n) h x
 
-end_any : (top p : Path) (root : NodeTerm) (r : Option ℕ) → ◌≡◌ {A = Option Path} None (first_at (child_paths root p)) → IfNone r (first_inside top (after leaf_list (Some (Node root)) p) ≡ None) → IfNone r (first_inside top (rest leaf_list (Some (Node root)) p 0) ≡ None)
-end_any top p root None h x = ap (first_inside top) (no_child-rest root p h leaf_list) ∙ x
+end_any : (top p : Path) (root : NodeTerm) (r : Option ℕ) → ◌≡◌ {A = Option Path} None (first_at (child_paths root p)) → IfNone r (first_inside top (after leaf_list (Some (Node root)) p) ≡ None) → IfNone r (first_inside top (since_child leaf_list (Some (Node root)) p 0) ≡ None)
+end_any top p root None h x = ap (first_inside top) (no_child-since_child root p h leaf_list) ∙ x
 end_any top p root (Some n) h x = x
 
 pub returns-in-None-clause-next : goal.returns-in-None-clause-next

@@ -2,7 +2,7 @@ use Rattle.std.proofs.Common.{◌≡◌, true, false, length, sym, ◌∙◌, ap
 use Rattle.rowan_cursor.specs.Moves.{is_node_at}
 use Rattle.rowan_cursor.specs.Pass.{leaf_list, element_list, first_inside}
 use Rattle.rowan_cursor.specs.Table.{root_node, entry_path}
-use Rattle.rowan_cursor.proofs.TokenLemmas.{entered-node, entered-fewer, token-first, stands_at}
+use Rattle.rowan_cursor.proofs.TokenLemmas.{since-node, since-fewer, token-first, stands_at}
 use Rattle.rowan_cursor.proofs.table.Table.token_from.Goals as goal
 
 pub loop-number-smaller : goal.loop-number-smaller
@@ -10,7 +10,7 @@ loop-number-smaller c =
     let es = c.args.self.now.entries.items in
     let here = entry_path es c.loop-number.number in
     let node : is_node_at (root_node es) here ≡ true = sym c.is_node.ensures ∙ c.loop-number-test.true in
-    omega (arith, entered-fewer (root_node es) here node, ap length (c.in-Some.ensures.next.same element_list))
+    omega (arith, since-fewer (root_node es) here node, ap length (c.in-Some.ensures.next.same element_list))
 
 pub loop-number-preserved : goal.loop-number-preserved
 loop-number-preserved c =
@@ -19,7 +19,7 @@ loop-number-preserved c =
     let node : is_node_at (root_node es) here ≡ true = sym c.is_node.ensures ∙ c.loop-number-test.true in (
       c.in-Some.ensures.found.within,
       c.in-Some.ensures.found.inside,
-      ap (first_inside (entry_path es c.args.top)) (c.in-Some.ensures.next.same leaf_list ∙ sym (entered-node (root_node es) here node)) ∙ c.loop-number.invariant.2,
+      ap (first_inside (entry_path es c.args.top)) (c.in-Some.ensures.next.same leaf_list ∙ sym (since-node (root_node es) here node)) ∙ c.loop-number.invariant.2,
     )
 
 pub returns-in-None : goal.returns-in-None
@@ -28,7 +28,7 @@ returns-in-None c =
     let here = entry_path es c.loop-number.number in
     let node : is_node_at (root_node es) here ≡ true = sym c.is_node.ensures ∙ c.loop-number-test.true in
     record {
-      path = sym c.in-None.ensures.end ∙ ap (first_inside (entry_path es c.args.top)) (sym (entered-node (root_node es) here node)) ∙ c.loop-number.invariant.2;
+      path = sym c.in-None.ensures.end ∙ ap (first_inside (entry_path es c.args.top)) (sym (since-node (root_node es) here node)) ∙ c.loop-number.invariant.2;
       token = tt;
     }
 

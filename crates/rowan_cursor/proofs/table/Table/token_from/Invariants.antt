@@ -1,7 +1,7 @@
 use Rattle.std.proofs.Common.{◌≡◌, ◌<◌, true, Some, length}
 use Rattle.rowan_green.specs.declared.utility_types.NodeOrToken.TheVariants.{Node}
 use Rattle.rowan_green.specs.Path.{begins}
-use Rattle.rowan_cursor.specs.Pass.{leaf_list, element_list, entered, first_inside}
+use Rattle.rowan_cursor.specs.Pass.{leaf_list, element_list, since, first_inside}
 use Rattle.rowan_cursor.specs.Table.{root_node, entry_path}
 use Rattle.rowan_cursor.proofs.table.Table.token_from.Given as goal
 
@@ -11,11 +11,11 @@ invariant-loop-number l =
     let es = l.self.entries.items in
     (l.number < length es)
     × (begins (entry_path es l.top) (entry_path es l.number) ≡ true)
-    × (first_inside (entry_path es l.top) (entered leaf_list (Some (Node (root_node es))) (entry_path es l.number))
-    ≡ first_inside (entry_path es l.top) (entered leaf_list (Some (Node (root_node es))) (entry_path es l.start)))
+    × (first_inside (entry_path es l.top) (since leaf_list (Some (Node (root_node es))) (entry_path es l.number))
+    ≡ first_inside (entry_path es l.top) (since leaf_list (Some (Node (root_node es))) (entry_path es l.start)))
 
 -- the elements that are left
 abbrev pub decreases-loop-number : goal.decreases-loop-number
 decreases-loop-number l =
     let es = l.self.entries.items in
-    length (entered element_list (Some (Node (root_node es))) (entry_path es l.number))
+    length (since element_list (Some (Node (root_node es))) (entry_path es l.number))
