@@ -15,7 +15,7 @@ use Rattle.rowan_cursor.specs.Pass.{Lists, below_children, of_some, after, befor
 use Rattle.rowan_cursor.proofs.PathLemmas.{before_at_less, before_at_same, before_at_greater, begins-same, not-begins, subterm-child}
 
 -- Steps.
-map_below : (p : Path) (i : ℕ) (qs : List Path) → map (λ q. p ++ q) (map (λ q. i ∷ q) qs) ≡ map (λ q. (p ++ i ∷ []) ++ q) qs
+pub map_below : (p : Path) (i : ℕ) (qs : List Path) → map (λ q. p ++ q) (map (λ q. i ∷ q) qs) ≡ map (λ q. (p ++ i ∷ []) ++ q) qs
 map_below p i [] = refl
 map_below p i (q ∷ qs) = ap (λ u. u ∷ map (λ q. p ++ q) (map (λ q. i ∷ q) qs)) (sym (append_assoc p (i ∷ []) q)) ∙ ap (λ us. ((p ++ i ∷ []) ++ q) ∷ us) (map_below p i qs)
 

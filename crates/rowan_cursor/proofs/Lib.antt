@@ -1,10 +1,13 @@
 pub mod ClimbLemmas
 pub mod EndLemmas
+pub mod EventLemmas
 pub mod FillLemmas
 pub mod LeafLemmas
 pub mod PathLemmas
+pub mod PreorderLaws
 pub mod RowLemmas
 pub mod RowViews
 pub mod SizeLemmas
 pub mod TableLemmas
 pub mod TokenLemmas
+pub mod TraversalLemmas

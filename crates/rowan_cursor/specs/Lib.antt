@@ -2,12 +2,17 @@ pub mod Cursor
 pub mod CursorCode
 pub mod DraftView
 pub mod Equal
+pub mod EventCode
+pub mod Events
 pub mod Moves
 pub mod Pass
+pub mod Preorder
+pub mod PreorderRuns
 pub mod Table
 pub mod TablePass
 pub mod TableProp
 pub mod TableView
+pub mod TraversalView
 pub mod Walks
 pub mod Yields
 pub mod YieldsCode

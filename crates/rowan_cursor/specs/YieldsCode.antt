@@ -34,7 +34,7 @@ fault_at-number Memory = refl
 fault_at-number UnknownMark = refl
 fault_at-number NotOneList = refl
 
-abbrev coded_fault : Coded Fault
+abbrev pub coded_fault : Coded Fault
 coded_fault = code_by ℕ coded_ℕ fault_number fault_at fault_at-number
 
 abbrev cursor_cases : Element → Cursor ⊎ Cursor
@@ -49,7 +49,7 @@ pub element_from-cases : (e : Element) → element_from (cursor_cases e) ≡ e
 element_from-cases (Node c) = refl
 element_from-cases (Token c) = refl
 
-abbrev coded_element : Coded Element
+abbrev pub coded_element : Coded Element
 coded_element =
     code_by (Cursor ⊎ Cursor) (coded⊎ coded_cursor coded_cursor) cursor_cases element_from
     element_from-cases

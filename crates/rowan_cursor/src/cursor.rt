@@ -2,17 +2,26 @@
 
 mod ancestors;
 mod climb;
+mod descendants;
+mod descendants_with_tokens;
 mod element;
 mod element_children;
 mod node;
 mod node_children;
+mod preorder;
+mod preorder_with_tokens;
 mod remainder;
 mod row;
 mod token;
+mod traversal;
 
 pub use ancestors::Ancestors;
+pub use descendants::Descendants;
+pub use descendants_with_tokens::DescendantsWithTokens;
 pub use element::{ElementCalls, SyntaxElement};
 pub use element_children::{SiblingsWithTokens, SyntaxElementChildren};
 pub use node::SyntaxNode;
 pub use node_children::{Siblings, SyntaxNodeChildren};
+pub use preorder::Preorder;
+pub use preorder_with_tokens::PreorderWithTokens;
 pub use token::SyntaxToken;

@@ -1,6 +1,7 @@
 //! The table that all cursors of one tree share: an entry for each node and token.
 
 mod draft;
+mod events;
 
 ghost use Rattle.rowan_cursor.specs.Table.{IsTable};
 ghost use Rattle.rowan_cursor.specs.TableProp.{IsTable-prop};

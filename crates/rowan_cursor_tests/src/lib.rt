@@ -15,3 +15,5 @@ mod fixture;
 mod table;
 #[cfg(test)]
 mod twins;
+#[cfg(test)]
+mod walks;

@@ -4,6 +4,8 @@ ghost use Rattle.rowan_cursor.specs.Cursor.{StandsAt, index, kind, text_range};
 ghost use Rattle.rowan_cursor.specs.TableView.{cursor_of, IsNodeIn};
 ghost use Rattle.rowan_cursor.specs.Moves.{tree_top, parent, first_child, last_child, first_child_or_token, last_child_or_token, child_or_token_at_index, next_sibling, prev_sibling, next_sibling_or_token, prev_sibling_or_token, first_token, last_token, children, children_with_tokens, siblings, siblings_with_tokens, ancestors};
 
+mod walks;
+
 use crate::cursor::climb::Climb;
 use crate::cursor::row::Row;
 use crate::cursor::{
