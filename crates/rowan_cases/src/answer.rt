@@ -57,38 +57,15 @@ impl<'a> Answer<'a> {
     pub fn text(&self, alloc: Global) -> Result<String, AllocError> {
         match self {
             Answer::Case(name) => format!(in alloc; "case {name}"),
-            Answer::Accepted => String::from_str(alloc, "Accepted"),
             Answer::Refused(fault) => format!(in alloc; "Refused {fault:?}"),
             Answer::Marked(number) => format!(in alloc; "Marked {number}"),
-            Answer::Finished(root) => {
-                let mut text = String::from_str(alloc, "Finished ")?;
-                tree::push_node(alloc, &mut text, root)?;
-                Ok(text)
-            }
             Answer::Counts(tokens, nodes) => format!(in alloc; "Counts {tokens} {nodes}"),
-            Answer::Child(index, offset, child) => {
-                let mut text = format!(in alloc; "Child {index} {offset:?} ")?;
-                tree::push_element(alloc, &mut text, child)?;
-                Ok(text)
-            }
-            Answer::Green(node) => {
-                let mut text = String::from_str(alloc, "Green ")?;
-                tree::push_node(alloc, &mut text, node)?;
-                Ok(text)
-            }
-            Answer::Moved(element) => {
-                let mut text = String::from_str(alloc, "Moved ")?;
-                cursor::push_element(alloc, &mut text, element)?;
-                Ok(text)
-            }
-            Answer::Elements(elements) => {
-                let mut text = String::from_str(alloc, "List")?;
-                for element in elements {
-                    text.push_str("; ")?;
-                    cursor::push_element(alloc, &mut text, element)?;
-                }
-                Ok(text)
-            }
+            Answer::Finished(root) => with_node(alloc, "Finished ", root),
+            Answer::Green(node) => with_node(alloc, "Green ", node),
+            Answer::Child(index, offset, child) => child_text(alloc, *index, *offset, child),
+            Answer::Moved(element) => moved_text(alloc, element),
+            Answer::Elements(elements) => list_text(alloc, elements.as_slice()),
+            Answer::Accepted => String::from_str(alloc, "Accepted"),
             Answer::Saved => String::from_str(alloc, "Saved"),
             Answer::Equal => String::from_str(alloc, "Equal"),
             Answer::Different => String::from_str(alloc, "Different"),
@@ -98,4 +75,36 @@ impl<'a> Answer<'a> {
             Answer::Unsupported => String::from_str(alloc, "Unsupported"),
         }
     }
+}
+
+fn with_node(alloc: Global, word: &str, node: &GreenNode) -> Result<String, AllocError> {
+    let mut text = String::from_str(alloc, word)?;
+    tree::push_node(alloc, &mut text, node)?;
+    Ok(text)
+}
+
+fn child_text(
+    alloc: Global,
+    index: usize,
+    offset: TextSize,
+    child: &GreenElement,
+) -> Result<String, AllocError> {
+    let mut text = format!(in alloc; "Child {index} {offset:?} ")?;
+    tree::push_element(alloc, &mut text, child)?;
+    Ok(text)
+}
+
+fn moved_text(alloc: Global, element: &SyntaxElement) -> Result<String, AllocError> {
+    let mut text = String::from_str(alloc, "Moved ")?;
+    cursor::push_element(alloc, &mut text, element)?;
+    Ok(text)
+}
+
+fn list_text(alloc: Global, elements: &[SyntaxElement]) -> Result<String, AllocError> {
+    let mut text = String::from_str(alloc, "List")?;
+    for element in elements {
+        text.push_str("; ")?;
+        cursor::push_element(alloc, &mut text, element)?;
+    }
+    Ok(text)
 }

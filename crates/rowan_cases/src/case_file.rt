@@ -84,6 +84,14 @@ impl<'a> CaseFile<'a> {
 }
 
 impl<'a> Case<'a> {
+    /// The answer to its first line.
+    pub fn begun(&self) -> Answered<'a> {
+        Answered {
+            line: self.number,
+            answer: Answer::Case(self.name),
+        }
+    }
+
     fn push_line(&mut self, alloc: Global, number: usize, line: &str) -> Result<()> {
         if let Some(operands) = line.strip_prefix("Cache ") {
             ensure!(

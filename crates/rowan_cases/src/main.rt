@@ -23,6 +23,7 @@ mod tree;
 
 use anyhow::{Context, Result};
 use case_file::CaseFile;
+use runner::Caches;
 use std::process::ExitCode;
 use std::{env, io};
 
@@ -31,7 +32,8 @@ fn answer_input(rt: &(impl Input + Print + AllocGlobal)) -> Result<()> {
     let alloc = rt.alloc();
     let text = io::read_to_string(alloc, rt.reader()).context("reading the case file")?;
     let file = CaseFile::parse(alloc, text.as_str())?;
-    for answered in runner::answers_of(alloc, &file)?.as_slice() {
+    let (answers, _) = runner::answers_of(alloc, &file, Caches::OfCases)?;
+    for answered in answers.as_slice() {
         println!(rt; "{}", answered.answer.text(alloc)?)?;
     }
     Ok(())

@@ -46,24 +46,13 @@ impl fmt::Display for Part {
 impl StoredRun {
     /// Reads a run with any arguments, of which each part of the outcome is stored.
     pub fn read(rt: &(impl Files + AllocGlobal), name: &str) -> Result<StoredRun> {
-        let alloc = rt.alloc();
-        let mut args = Vec::new(alloc);
-        for word in read_text(rt, name, "args")?.as_str().lines() {
-            args.push(String::from_str(alloc, word)?)?;
-        }
-        let line = read_text(rt, name, "err")?;
-        let status = read_text(rt, name, "status")?;
         Ok(StoredRun {
-            args,
+            args: read_args(rt, name)?,
             input: read_bytes(rt, name, "in")?,
             outcome: Outcome {
                 output: read_bytes(rt, name, "out")?,
-                line: String::from_str(alloc, line.as_str().trim_end())?,
-                status: status
-                    .as_str()
-                    .trim_end()
-                    .parse::<u8>()
-                    .context(format_args!("reading {name}.status"))?,
+                line: read_line(rt, name, "err")?,
+                status: read_status(rt, name)?,
             },
         })
     }
@@ -100,6 +89,30 @@ impl StoredRun {
         }
         Ok(None)
     }
+}
+
+/// The words of the file `NAME.args`, one a line.
+fn read_args(rt: &(impl Files + AllocGlobal), name: &str) -> Result<Vec<String>> {
+    let mut args = Vec::new(rt.alloc());
+    for word in read_text(rt, name, "args")?.as_str().lines() {
+        args.push(String::from_str(rt.alloc(), word)?)?;
+    }
+    Ok(args)
+}
+
+/// The line of a file without what ends it.
+fn read_line(rt: &(impl Files + AllocGlobal), name: &str, ending: &str) -> Result<String> {
+    let line = read_text(rt, name, ending)?;
+    Ok(String::from_str(rt.alloc(), line.as_str().trim_end())?)
+}
+
+/// The number in the file `NAME.status`.
+fn read_status(rt: &(impl Files + AllocGlobal), name: &str) -> Result<u8> {
+    let status = read_line(rt, name, "status")?;
+    status
+        .as_str()
+        .parse::<u8>()
+        .context(format_args!("reading {name}.status"))
 }
 
 impl Outcome {

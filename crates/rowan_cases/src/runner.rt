@@ -8,6 +8,7 @@ use crate::standing::Standing;
 use rowan::{Fault, GreenNode, GreenNodeBuilder, NodeCache};
 use rowan_tool::sexp;
 use std::alloc::Global;
+use std::fmt;
 
 /// A cache that the cases of a case file share.
 #[derive(Drop)]
@@ -16,20 +17,68 @@ struct SharedCache {
     cache: NodeCache,
 }
 
+/// Over which caches the trees of a case file are built.
+#[derive(Clone, Copy)]
+pub enum Caches {
+    /// The caches that the lines `Cache` name; a case without such a line has one of its own.
+    OfCases,
+    /// One of this limit, which all cases share. The file has no line `Cache`.
+    Shared(usize),
+}
+
+/// What a cache that all cases share keeps in the end.
+#[derive(Clone, Copy)]
+pub enum Kept {
+    /// The cases share none.
+    Nothing,
+    /// So many tokens and nodes.
+    Counts(usize, usize),
+}
+
+impl fmt::Display for Kept {
+    fn fmt<W: fmt::Write>(&self, f: &mut fmt::Formatter<W>) -> fmt::Result {
+        match self {
+            Kept::Nothing => Ok(()),
+            Kept::Counts(tokens, nodes) => {
+                write!(f, "; the cache keeps {tokens} tokens, {nodes} nodes")
+            }
+        }
+    }
+}
+
 /// The answers to all lines of a case file, in order.
-pub fn answers_of<'s>(alloc: Global, file: &'s CaseFile<'_>) -> Result<Vec<Answered<'s>>, Fault> {
+pub fn answers_of<'s>(
+    alloc: Global,
+    file: &'s CaseFile<'_>,
+    caches: Caches,
+) -> Result<(Vec<Answered<'s>>, Kept), Fault> {
     let mut answers = Vec::new(alloc);
+    let kept = match caches {
+        Caches::OfCases => {
+            answer_cases(alloc, file, &mut answers)?;
+            Kept::Nothing
+        }
+        Caches::Shared(limit) => {
+            let mut cache = NodeCache::with_limit(alloc, limit);
+            answer_cases_over(alloc, file, &mut cache, &mut answers)?;
+            Kept::Counts(cache.token_count(), cache.node_count())
+        }
+    };
+    Ok((answers, kept))
+}
+
+fn answer_cases<'s>(
+    alloc: Global,
+    file: &'s CaseFile<'_>,
+    answers: &mut Vec<Answered<'s>>,
+) -> Result<(), Fault> {
     let mut caches = Vec::new(alloc);
     for case in file.cases.as_slice() {
-        answers.push(Answered {
-            line: case.number,
-            answer: Answer::Case(case.name),
-        })?;
-        let lines = case.lines.as_slice();
+        answers.push(case.begun())?;
         match &case.cache {
             None => {
                 let mut own = NodeCache::new(alloc);
-                answer_lines(alloc, &mut own, lines, &mut answers)?;
+                answer_lines(alloc, &mut own, case.lines.as_slice(), answers)?;
             }
             Some(line) => {
                 let cache = shared_cache(alloc, &mut caches, *line)?;
@@ -37,28 +86,24 @@ pub fn answers_of<'s>(alloc: Global, file: &'s CaseFile<'_>) -> Result<Vec<Answe
                     line: line.line,
                     answer: Answer::counts(cache),
                 })?;
-                answer_lines(alloc, cache, lines, &mut answers)?;
+                answer_lines(alloc, cache, case.lines.as_slice(), answers)?;
             }
         }
     }
-    Ok(answers)
+    Ok(())
 }
 
-/// The answers to all lines of a case file without `Cache` lines, where all its cases share one cache.
-pub fn answers_over<'s>(
+fn answer_cases_over<'s>(
     alloc: Global,
     file: &'s CaseFile<'_>,
     cache: &mut NodeCache,
-) -> Result<Vec<Answered<'s>>, Fault> {
-    let mut answers = Vec::new(alloc);
+    answers: &mut Vec<Answered<'s>>,
+) -> Result<(), Fault> {
     for case in file.cases.as_slice() {
-        answers.push(Answered {
-            line: case.number,
-            answer: Answer::Case(case.name),
-        })?;
-        answer_lines(alloc, cache, case.lines.as_slice(), &mut answers)?;
+        answers.push(case.begun())?;
+        answer_lines(alloc, cache, case.lines.as_slice(), answers)?;
     }
-    Ok(answers)
+    Ok(())
 }
 
 /// The cache of that number, which is made where the file first names it.
@@ -90,17 +135,44 @@ fn answer_lines<'s>(
     lines: &'s [Line],
     answers: &mut Vec<Answered<'s>>,
 ) -> Result<(), Fault> {
-    let builder = GreenNodeBuilder::with_cache(alloc, cache);
-    let (tree, rest) = match build(alloc, builder, lines, answers)? {
-        Built::Finished(tree, rest) => (Some(tree), rest),
-        Built::Parse(line, text, rest) => (parse(alloc, cache, line, text, answers)?, rest),
-        Built::Open => return Ok(()),
-    };
+    match built(alloc, cache, lines, answers)? {
+        Built::Finished(tree, rest) => answer_steps(alloc, cache, Some(tree), rest, answers),
+        Built::Parse(line, text, rest) => {
+            let tree = parse(alloc, cache, line, text, answers)?;
+            answer_steps(alloc, cache, tree, rest, answers)
+        }
+        Built::Open => Ok(()),
+    }
+}
+
+/// Answers the building part of a case.
+fn built<'s>(
+    alloc: Global,
+    cache: &mut NodeCache,
+    lines: &'s [Line],
+    answers: &mut Vec<Answered<'s>>,
+) -> Result<Built<'s>, Fault> {
+    build(
+        alloc,
+        GreenNodeBuilder::with_cache(alloc, cache),
+        lines,
+        answers,
+    )
+}
+
+/// Answers the lines behind the building part.
+fn answer_steps<'s>(
+    alloc: Global,
+    cache: &NodeCache,
+    tree: Option<GreenNode>,
+    lines: &'s [Line],
+    answers: &mut Vec<Answered<'s>>,
+) -> Result<(), Fault> {
     let mut standing = match tree {
         Some(tree) => Some(Standing::new(alloc, tree)?),
         None => None,
     };
-    for line in rest {
+    for line in lines {
         let answer = step(alloc, &mut standing, cache, &line.instruction)?;
         answers.push(line.answered(answer))?;
     }

@@ -2,10 +2,11 @@
 
 use crate::case_file::CaseFile;
 use crate::compare::{Comparison, compare};
+use crate::operand;
 use crate::program_run::StoredRun;
-use crate::{operand, runner};
+use crate::runner::{self, Caches, Kept};
 use anyhow::{Context, Result};
-use rowan::NodeCache;
+use std::alloc::Global;
 use std::fs;
 use std::rt::Files;
 
@@ -19,71 +20,82 @@ pub fn is_as_wanted(rt: &(impl Files + Print + AllocGlobal), argument: &str) -> 
 
 /// Compares what a name stands for, and prints what was found: `NAME` is a case file, `shared:LIMIT:NAME` one whose cases share a
 /// cache, `FOLDER.run` whole runs of the program, and `FOLDER.COMMAND` texts with what the program prints of them.
-fn is_equal(rt: &(impl Files + Print + AllocGlobal), name: &str) -> Result<bool> {
-    if let Some(shared) = name.strip_prefix("shared:") {
+fn is_equal(rt: &(impl Files + Print + AllocGlobal), argument: &str) -> Result<bool> {
+    if let Some(shared) = argument.strip_prefix("shared:") {
         let (limit, name) = shared.split_once(':').context("a limit is missing")?;
-        return is_equal_over_one_cache(rt, limit, name);
+        let caches = Caches::Shared(operand::number(limit)? as usize);
+        return is_case_file_equal(rt, argument, name, caches);
     }
-    match name.split_once('.') {
+    match argument.split_once('.') {
         Some((folder, ending)) => are_runs_equal(rt, folder, ending),
-        None => is_case_file_equal(rt, name),
+        None => is_case_file_equal(rt, argument, argument, Caches::OfCases),
     }
 }
 
-fn is_case_file_equal(rt: &(impl Files + Print + AllocGlobal), name: &str) -> Result<bool> {
-    let alloc = rt.alloc();
-    let text = read_text(rt, name, "case")?;
-    let wanted = read_text(rt, name, "out")?;
-    let file = CaseFile::parse(alloc, text.as_str()).context(format_args!("reading {name}.case"))?;
-    let answers = runner::answers_of(alloc, &file)?;
-    let comparison = compare(alloc, answers.as_slice(), wanted.as_str())?;
-    println!(rt; "{name}: {comparison}")?;
-    Ok(matches!(comparison, Comparison::Equal { .. }))
-}
-
-/// Compares the answers to a case file whose cases all share one cache.
-fn is_equal_over_one_cache(
+/// Compares the answers to a case file.
+fn is_case_file_equal(
     rt: &(impl Files + Print + AllocGlobal),
-    limit: &str,
+    argument: &str,
     name: &str,
+    caches: Caches,
 ) -> Result<bool> {
-    let alloc = rt.alloc();
     let text = read_text(rt, name, "case")?;
     let wanted = read_text(rt, name, "out")?;
-    let file = CaseFile::parse(alloc, text.as_str()).context(format_args!("reading {name}.case"))?;
-    let mut cache = NodeCache::with_limit(alloc, operand::number(limit)? as usize);
-    let answers = runner::answers_over(alloc, &file, &mut cache)?;
-    let comparison = compare(alloc, answers.as_slice(), wanted.as_str())?;
-    let (tokens, nodes) = (cache.token_count(), cache.node_count());
-    println!(rt;
-        "shared:{limit}:{name}: {comparison}; the cache keeps {tokens} tokens, {nodes} nodes"
+    let (comparison, kept) = compared(rt.alloc(), text.as_str(), wanted.as_str(), caches).context(
+        format_args!("answering {name}.case"),
     )?;
+    println!(rt; "{argument}: {comparison}{kept}")?;
     Ok(matches!(comparison, Comparison::Equal { .. }))
 }
 
+fn compared<'a>(
+    alloc: Global,
+    text: &str,
+    wanted: &'a str,
+    caches: Caches,
+) -> Result<(Comparison<'a>, Kept)> {
+    let file = CaseFile::parse(alloc, text)?;
+    let (answers, kept) = runner::answers_of(alloc, &file, caches)?;
+    Ok((compare(alloc, answers.as_slice(), wanted)?, kept))
+}
+
+/// Compares runs of the program, one for each name that the folder's index lists.
 fn are_runs_equal(
     rt: &(impl Files + Print + AllocGlobal),
     folder: &str,
     ending: &str,
 ) -> Result<bool> {
-    let alloc = rt.alloc();
-    let index = format!(in alloc; "{folder}/index")?;
+    let index = format!(in rt.alloc(); "{folder}/index")?;
     let names = read_text(rt, index.as_str(), "txt")?;
     let mut equal = 0usize;
     for name in names.as_str().lines() {
-        let path = format!(in alloc; "{folder}/{name}")?;
-        let stored = match ending {
-            "run" => StoredRun::read(rt, path.as_str())?,
-            command => StoredRun::read_command(rt, path.as_str(), command)?,
-        };
-        if let Some(part) = stored.first_difference(alloc)? {
-            println!(rt; "{folder}.{ending}: {name} has another {part}")?;
+        if !is_run_equal(rt, folder, ending, name)? {
             return Ok(false);
         }
         equal = equal.saturating_add(1);
     }
     println!(rt; "{folder}.{ending}: {equal} answers equal")?;
     Ok(true)
+}
+
+fn is_run_equal(
+    rt: &(impl Files + Print + AllocGlobal),
+    folder: &str,
+    ending: &str,
+    name: &str,
+) -> Result<bool> {
+    let path = format!(in rt.alloc(); "{folder}/{name}")?;
+    let stored = match ending {
+        "run" => StoredRun::read(rt, path.as_str())?,
+        command => StoredRun::read_command(rt, path.as_str(), command)?,
+    };
+    match stored.first_difference(rt.alloc())? {
+        Some(part) => {
+            println!(rt; "{folder}.{ending}: {name} has another {part}")?;
+            Ok(false)
+        }
+        None => Ok(true),
+    }
 }
 
 /// The file `NAME.ENDING`.

@@ -47,6 +47,18 @@ pub fn list(alloc: Global, text: &str) -> Result<Vec<GreenElement>> {
     Ok(elements)
 }
 
+/// A piece of a text of trees.
+#[derive(Clone, Copy)]
+enum Piece<'a> {
+    Blank,
+    /// A node of this kind begins.
+    Open(SyntaxKind),
+    /// A node ends.
+    Close,
+    /// A token of this kind, and its text in quotes.
+    Token(SyntaxKind, &'a str),
+}
+
 /// A node that holds all trees of a text, which stand with a space between.
 fn holder_of(alloc: Global, text: &str) -> Result<GreenNode> {
     let mut builder = GreenNodeBuilder::new(alloc);
@@ -54,26 +66,23 @@ fn holder_of(alloc: Global, text: &str) -> Result<GreenNode> {
     let mut open_nodes = 0usize;
     let mut rest = text;
     while !rest.is_empty() {
-        if let Some(behind) = behind(rest, b' ') {
-            rest = behind;
-        } else if let Some(behind) = behind(rest, b']') {
-            open_nodes = open_nodes
-                .checked_sub(1)
-                .context("a bracket that closes no node")?;
-            builder.finish_node()?;
-            rest = behind;
-        } else {
-            let (kind, body) = split_kind(rest)?;
-            if let Some(behind) = behind(body, b'[') {
+        let (piece, behind) = split_piece(rest)?;
+        match piece {
+            Piece::Blank => (),
+            Piece::Open(kind) => {
                 open_nodes = open_nodes.saturating_add(1);
                 builder.start_node(kind)?;
-                rest = behind;
-            } else {
-                let (quoted, behind) = split_quoted(body)?;
+            }
+            Piece::Close => {
+                ensure!(open_nodes > 0, "a bracket that closes no node");
+                open_nodes -= 1;
+                builder.finish_node()?;
+            }
+            Piece::Token(kind, quoted) => {
                 builder.token(kind, operand::text(alloc, quoted)?.as_str())?;
-                rest = behind;
             }
         }
+        rest = behind;
     }
     ensure!(open_nodes == 0, "a bracket is not closed");
     builder.finish_node()?;
@@ -81,6 +90,24 @@ fn holder_of(alloc: Global, text: &str) -> Result<GreenNode> {
         Ok(holder) => Ok(holder),
         Err(unfinished) => Err(unfinished.fault().into()),
     }
+}
+
+/// The piece that a text begins with, and what stands behind it.
+fn split_piece(text: &str) -> Result<(Piece<'_>, &str)>
+    ensures { IfOk result (λ r. length r.1.now < length text.now) }
+{
+    if let Some(behind) = behind(text, b' ') {
+        return Ok((Piece::Blank, behind));
+    }
+    if let Some(behind) = behind(text, b']') {
+        return Ok((Piece::Close, behind));
+    }
+    let (kind, body) = split_kind(text)?;
+    if let Some(behind) = behind(body, b'[') {
+        return Ok((Piece::Open(kind), behind));
+    }
+    let (quoted, behind) = split_quoted(body)?;
+    Ok((Piece::Token(kind, quoted), behind))
 }
 
 /// What stands behind the first character, where that is this one.

@@ -20,19 +20,15 @@ impl Edit {
     pub fn parse(alloc: Global, name: &str, operands: &str) -> Result<Option<Edit>> {
         Ok(Some(match name {
             "GreenReplaceChild" => {
-                let (place, child) = operand::pair(operands)?;
-                Edit::Replace(operand::number(place)?, tree::element(alloc, child)?)
+                let (place, child) = place_and_child(alloc, operands)?;
+                Edit::Replace(place, child)
             }
             "GreenInsertChild" => {
-                let (place, child) = operand::pair(operands)?;
-                Edit::Insert(operand::number(place)?, tree::element(alloc, child)?)
+                let (place, child) = place_and_child(alloc, operands)?;
+                Edit::Insert(place, child)
             }
             "GreenRemoveChild" => Edit::Remove(operand::number(operands)?),
-            "GreenSplice" => {
-                let (places, children) = operand::pair(operands)?;
-                let (start, end) = operand::bounds(places)?;
-                Edit::Splice(start, end, tree::list(alloc, children)?)
-            }
+            "GreenSplice" => splice(alloc, operands)?,
             _ => return Ok(None),
         }))
     }
@@ -66,4 +62,15 @@ impl Edit {
         };
         Ok(Some(edited))
     }
+}
+
+fn place_and_child(alloc: Global, operands: &str) -> Result<(u32, GreenElement)> {
+    let (place, child) = operand::pair(operands)?;
+    Ok((operand::number(place)?, tree::element(alloc, child)?))
+}
+
+fn splice(alloc: Global, operands: &str) -> Result<Edit> {
+    let (places, children) = operand::pair(operands)?;
+    let (start, end) = operand::bounds(places)?;
+    Ok(Edit::Splice(start, end, tree::list(alloc, children)?))
 }
