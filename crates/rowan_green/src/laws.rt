@@ -81,7 +81,8 @@ pub fn word_keeps_tokens()
         → word_tokens w ≡ flat_map tokens ts }
     ensures tree { (w : List Symbol) (n : NodeTerm) → IsFinished w n
         → word_tokens w ≡ tokens (Node n) }
-    ensures text { (w : List Symbol) → word_text w ≡ flat_map (λ token. token.text) (word_tokens w) }
+    ensures text { (w : List Symbol)
+        → word_text w ≡ flat_map (λ token. token.text) (word_tokens w) }
 {}
 
 /// The text of a term is the texts of its tokens, in order. What stands at a path has the bytes of the whole text in the range of
