@@ -1,9 +1,8 @@
 //! Trees as text, a line for each node and token.
-ghost use Rattle.std.specs.Prelude.{◌≡◌, ◌+◌, ◌≤◌, length, IfSome};
+ghost use Rattle.std.specs.Prelude.{◌≡◌, ◌+◌, IfSome};
 ghost use Rattle.rowan_green.specs.Lent.{pointee};
 ghost use Rattle.rowan_green.specs.Sizes.{term_size};
-ghost use Rattle.rowan_green.specs.Term.{node_size, node_children};
-ghost use Rattle.rowan_green.specs.Fits.{child_limit};
+ghost use Rattle.rowan_green.specs.Term.{node_size};
 ghost use Rattle.rowan_api.specs.Printed.{size_from};
 
 use crate::api::language::Language;
@@ -29,16 +28,12 @@ struct OpenNode<'a> {
     node: &'a GreenNode,
     start: u32,
     next: usize,
-    ghost few: { length (node_children node.now) ≤ child_limit },
 }
 
 impl<'a> OpenNode<'a> {
     fn new(node: &'a GreenNode, start: u32) -> OpenNode<'a>
         ensures { size_from result.node.now result.next + 1 ≡ node_size node.now }
     {
-        // Says that the number of children is within its limit, so that their places can be
-        // counted.
-        let _ = node.text_len();
         OpenNode {
             node,
             start,
