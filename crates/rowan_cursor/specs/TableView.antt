@@ -7,7 +7,7 @@ use Rattle.rowan_cursor.specs.declared.table.Entry.{Entry}
 use Rattle.rowan_cursor.specs.declared.table.Table.{Table}
 use Rattle.rowan_cursor.specs.Cursor.{Cursor}
 use Rattle.rowan_cursor.specs.Moves.{cursor_at, is_node_at, Element, element_at, numbers, child_paths, following, preceding}
-use Rattle.rowan_cursor.specs.Table.{root_node, entry_path, green_of, children_in, Describes, IsRow, IsRowBack}
+use Rattle.rowan_cursor.specs.Table.{root_node, entry_path, entry_children, Describes, IsRow, IsRowBack}
 
 -- the root of the tree
 abbrev pub root_of : Table → NodeTerm
@@ -87,7 +87,7 @@ IsEntryAt t n e = Describes t.entries.items n e
 abbrev pub IsChildrenEnd : Table → ℕ → ℕ → Type 0
 IsChildrenEnd t n end =
     (e : Entry) → slice_get t.entries.items n ≡ Some e
-    → end ≡ e.first_child + length (children_in (green_of e))
+    → end ≡ e.first_child + length (entry_children e)
 
 -- the paths of the children of the element with a number
 abbrev pub paths_below : Table → ℕ → List Path
