@@ -17,7 +17,7 @@ use Rattle.rowan_cursor.specs.Moves.{cursor_at, element_at, is_node_at, nodes_at
 use Rattle.rowan_cursor.specs.Pass.{of_some, element_list, node_elements, elements_from}
 use Rattle.rowan_cursor.specs.Preorder.{event_map, node_events, forest_events, term_events, path_events, events_of_nodes, entered_by, descendant_paths, preorder_with_tokens, preorder, descendants, descendants_with_tokens, from_leave, skip}
 use Rattle.rowan_cursor.specs.PreorderRuns.{WalkCall, Take, Skip, given, still_to_come, LeavesAll}
-use Rattle.rowan_cursor.proofs.LeafLemmas.{element_list-term, filter-row, filter_all, map_below}
+use Rattle.rowan_cursor.proofs.LeafLemmas.{element_list-term, filter-below_children, filter_all, map_below}
 use Rattle.rowan_cursor.proofs.PathLemmas.{begins-same, not-begins}
 
 -- ---- what is entered is left
@@ -162,7 +162,7 @@ elements-below (Some t) [] = filter_all (begins []) (element_list t) (λ q. refl
 elements-below (Some t) (i ∷ p) =
     let u = slice_get (term_children t) i in
     ap (filter (begins (i ∷ p))) (element_list-term t)
-    ∙ filter-row element_list (begins (i ∷ p)) (begins p) false false 0 i i (term_children t) (omega arith) (λ j q l. not-begins i j p q (inr l)) (λ q. begins-same i p q) (λ j q l. not-begins i j p q (inl l))
+    ∙ filter-below_children element_list (begins (i ∷ p)) (begins p) false false 0 i i (term_children t) (omega arith) (λ j q l. not-begins i j p q (inr l)) (λ q. begins-same i p q) (λ j q l. not-begins i j p q (inl l))
     ∙ append-nil (map (λ q. i ∷ q) (filter (begins p) (of_some element_list u)))
     ∙ ap (map (λ q. i ∷ q)) (elements-below u p) ∙ map-map (λ q. i ∷ q) (λ q. p ++ q) (of_some element_list (subterm_of u p))
 

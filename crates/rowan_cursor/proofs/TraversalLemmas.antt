@@ -1,9 +1,7 @@
 -- What the iterators show of a traversal, one step at a time.
-use Rattle.std.proofs.Common.{◌≡◌, ◌≢◌, ℕ, ◌<◌, Bool, true, List, [], ◌∷◌, map, filter, Option, Some, None, Ok, refl, sym, ◌∙◌, ap, subst, arith}
-use Rattle.std.specs.Option.{option_map}
+use Rattle.std.proofs.Common.{◌≡◌, ◌≢◌, ℕ, ◌<◌, Bool, true, List, ◌∷◌, map, Option, Some, None, Ok, refl, sym, ◌∙◌, ap, subst, arith}
 use Rattle.rowan_green.specs.declared.utility_types.WalkEvent.{WalkEvent}
 use Rattle.rowan_green.specs.declared.utility_types.WalkEvent.TheVariants.{Enter, Leave}
-use Rattle.rowan_green.specs.WalkEvent.{event_value}
 use Rattle.rowan_green.specs.Path.{Path}
 use Rattle.rowan_green.specs.Term.{NodeTerm}
 use Rattle.rowan_cursor.specs.declared.cursor.remainder.Remainder.{Remainder}
@@ -12,10 +10,10 @@ use Rattle.rowan_cursor.specs.declared.cursor.traversal.Traversal.{Traversal}
 use Rattle.rowan_cursor.specs.declared.table.Table.{Table}
 use Rattle.rowan_cursor.specs.Cursor.{Cursor}
 use Rattle.rowan_cursor.specs.Events.{NextStays, event_of, events_left}
-use Rattle.rowan_cursor.specs.Moves.{Element, cursor_at, element_at, is_node_at, nodes_at, parent_path}
-use Rattle.rowan_cursor.specs.Preorder.{event_map, events_of_nodes, entered_by, path_events, descendant_paths, skip}
+use Rattle.rowan_cursor.specs.Moves.{Element, cursor_at, element_at, is_node_at, parent_path}
+use Rattle.rowan_cursor.specs.Preorder.{event_map, events_of_nodes, entered_by, descendant_paths, skip}
 use Rattle.rowan_cursor.specs.TablePass.{StandsInside}
-use Rattle.rowan_cursor.specs.TableView.{root_of, path_at, cursor_of, element_of, stands_for_node, IsWithin}
+use Rattle.rowan_cursor.specs.TableView.{root_of, path_at, cursor_of, element_of, stands_for_node}
 use Rattle.rowan_cursor.specs.TraversalView.{root_of_traversal, path_events_left, node_path_events_left, traversal_events, traversal_node_events}
 use Rattle.rowan_cursor.specs.Walks.{rest_of}
 use Rattle.rowan_cursor.specs.Yields.{YieldsOrRefuses}

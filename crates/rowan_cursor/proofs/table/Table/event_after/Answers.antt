@@ -1,4 +1,3 @@
-use Rattle.std.proofs.Common.{Some}
 use Rattle.rowan_cursor.specs.Table.{root_node, entry_path}
 use Rattle.rowan_cursor.specs.TablePass.{StandsInside}
 use Rattle.rowan_cursor.proofs.TokenLemmas.{first_child-inside, stands_at}

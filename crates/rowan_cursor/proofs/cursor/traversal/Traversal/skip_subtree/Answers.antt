@@ -1,4 +1,4 @@
-use Rattle.std.proofs.Common.{◌∙◌, ap, arith, Some}
+use Rattle.std.proofs.Common.{◌∙◌, ap, Some}
 use Rattle.rowan_cursor.proofs.TraversalLemmas.{skip_before-elements, skip_before-nodes, skip_to_parent-elements, skip_to_parent-nodes, has_parent, inside-above}
 use Rattle.rowan_cursor.proofs.cursor.traversal.Traversal.skip_subtree.Goals as goal
 
