@@ -5,6 +5,7 @@ pub mod LeafLemmas
 pub mod PathLemmas
 pub mod RowLemmas
 pub mod RowViews
+pub mod SearchLemmas
 pub mod SizeLemmas
 pub mod TableLemmas
 pub mod TokenLemmas

@@ -6,6 +6,7 @@ pub mod Equal
 pub mod Moves
 pub mod Pass
 pub mod Rows
+pub mod Search
 pub mod Table
 pub mod TableProp
 pub mod Yields

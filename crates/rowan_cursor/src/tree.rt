@@ -3,6 +3,7 @@
 mod elements;
 mod fill;
 mod rows;
+mod search;
 #[cfg(test)]
 mod tests;
 mod tokens;
