@@ -28,9 +28,9 @@ ancestors-first (i ∷ j ∷ p) =
     ap (λ ps. map (λ q. i ∷ q) ps ++ [] ∷ []) e
     ∙ sym (ap (λ o. (i ∷ j ∷ p) ∷ option_map_or ancestor_paths (option_map (λ q. i ∷ q) o) []) h.1)
 
-pub climb-yields : (climb : Climb) (left : Option (Result Climb AllocError)) (node : Cursor) (after : Rest Cursor) → left ≡ Some (Ok climb) → node ≡ cursor_of climb.tree.value.entries.items climb.next → after ≡ Ok (map (cursor_at (root_of climb.tree.value.entries.items)) (option_map_or ancestor_paths (parent_path (path_at climb.tree.value.entries.items climb.next)) [])) → YieldsOrRefuses (rest_of climbed left) (Some (Ok node)) after
+pub climb-yields : (climb : Climb) (left : Option (Result Climb AllocError)) (node : Cursor) (after : Rest Cursor) → left ≡ Some (Ok climb) → node ≡ cursor_of climb.table.value.entries.items climb.next → after ≡ Ok (map (cursor_at (root_of climb.table.value.entries.items)) (option_map_or ancestor_paths (parent_path (path_at climb.table.value.entries.items climb.next)) [])) → YieldsOrRefuses (rest_of climbed left) (Some (Ok node)) after
 climb-yields climb left node after e f g =
-    let es = climb.tree.value.entries.items in
+    let es = climb.table.value.entries.items in
     let p = path_at es climb.next in
     let ys = map (cursor_at (root_of es)) (option_map_or ancestor_paths (parent_path p) []) in
     rw (e, f) (ys, ap (λ ps. map (cursor_at (root_of es)) ps) (ancestors-first p), g)

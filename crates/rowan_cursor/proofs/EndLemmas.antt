@@ -8,7 +8,7 @@ use Rattle.rowan_green.specs.Path.{Path, subterm, offset, len_of}
 use Rattle.rowan_green.proofs.SearchLemmas.{child_end-last}
 use Rattle.rowan_cursor.specs.CursorView.{HasToken}
 use Rattle.rowan_cursor.specs.Moves.{child_count, children_of, first_at, following}
-use Rattle.rowan_cursor.specs.declared.tree.Entry.{Entry}
+use Rattle.rowan_cursor.specs.declared.table.Entry.{Entry}
 use Rattle.rowan_cursor.proofs.PathLemmas.{subterm-child, offset-child, following-child, child_start-next, node_len-children, below-first, below-none}
 
 -- a node is as long as its children together

@@ -16,7 +16,7 @@ use Rattle.rowan_green.proofs.CacheLemmas.{slice_get-grown, slice_get-cases}
 use Rattle.rowan_green.proofs.Drops.{terms_size-node_children}
 use Rattle.rowan_green.proofs.SearchLemmas.{child_start-le_all}
 use Rattle.rowan_cursor.specs.Table.{IsDraft, GrowsBy, node_in, root_of, green_of, offset_of, green_in, offset_in, children_in, len_in, counts, IsTop, IsChildOf}
-use Rattle.rowan_cursor.specs.declared.tree.Entry.{Entry}
+use Rattle.rowan_cursor.specs.declared.table.Entry.{Entry}
 use Rattle.rowan_cursor.proofs.PathLemmas.{node_len-children}
 use Rattle.rowan_cursor.proofs.TableLemmas.{counts-more, child_end, sum_of_lens-children}
 

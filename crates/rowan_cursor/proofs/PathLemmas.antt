@@ -10,7 +10,7 @@ use Rattle.rowan_green.specs.Path.{Path, term_children, subterm_of, subterm, Lea
 use Rattle.rowan_green.specs.Search.{child_start}
 use Rattle.rowan_green.proofs.Paths.{offset-empty}
 use Rattle.rowan_green.proofs.Terms.{forest-terms, node_len-node_of}
-use Rattle.rowan_cursor.specs.Cursor.{last_place}
+use Rattle.rowan_cursor.specs.Cursor.{last_index}
 use Rattle.rowan_cursor.specs.Moves.{parent_path, children_of, numbers, below, child_count, first_at, following, preceding}
 
 -- Tests of the first place.
@@ -179,18 +179,18 @@ parent_path-child [] i = refl
 parent_path-child (j ∷ []) i = refl
 parent_path-child (j ∷ k ∷ p) i = ap (option_map (λ q. j ∷ q)) (parent_path-child (k ∷ p) i)
 
-pub last_place-child : (p : Path) (i : ℕ) → last_place (p ++ i ∷ []) ≡ i
-last_place-child [] i = refl
-last_place-child (j ∷ []) i = refl
-last_place-child (j ∷ k ∷ p) i = last_place-child (k ∷ p) i
+pub last_index-child : (p : Path) (i : ℕ) → last_index (p ++ i ∷ []) ≡ i
+last_index-child [] i = refl
+last_index-child (j ∷ []) i = refl
+last_index-child (j ∷ k ∷ p) i = last_index-child (k ∷ p) i
 
 pub following-child : (root : NodeTerm) (p : Path) (i : ℕ) → following root (p ++ i ∷ []) ≡ below p (numbers (i + 1) (child_count root p - (i + 1)))
 following-child root p i =
-    ap (λ k. option_map_or (λ q. below q (numbers (k + 1) (child_count root q - (k + 1)))) (parent_path (p ++ i ∷ [])) []) (last_place-child p i) ∙ ap (λ o. option_map_or (λ q. below q (numbers (i + 1) (child_count root q - (i + 1)))) o []) (parent_path-child p i)
+    ap (λ k. option_map_or (λ q. below q (numbers (k + 1) (child_count root q - (k + 1)))) (parent_path (p ++ i ∷ [])) []) (last_index-child p i) ∙ ap (λ o. option_map_or (λ q. below q (numbers (i + 1) (child_count root q - (i + 1)))) o []) (parent_path-child p i)
 
 pub preceding-child : (root : NodeTerm) (p : Path) (i : ℕ) → preceding root (p ++ i ∷ []) ≡ below p (reverse (numbers 0 i))
 preceding-child root p i =
-    ap (λ k. option_map_or (λ q. below q (reverse (numbers 0 k))) (parent_path (p ++ i ∷ [])) []) (last_place-child p i) ∙ ap (λ o. option_map_or (λ q. below q (reverse (numbers 0 i))) o []) (parent_path-child p i)
+    ap (λ k. option_map_or (λ q. below q (reverse (numbers 0 k))) (parent_path (p ++ i ∷ [])) []) (last_index-child p i) ∙ ap (λ o. option_map_or (λ q. below q (reverse (numbers 0 i))) o []) (parent_path-child p i)
 
 -- the first of children side by side
 pub below-first : (p : Path) (a n : ℕ) (s : Path) → Some s ≡ first_at (below p (numbers a n)) → (s ≡ p ++ a ∷ []) × (0 < n)

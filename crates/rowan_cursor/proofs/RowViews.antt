@@ -6,7 +6,7 @@ use Rattle.std.proofs.lemmas.List.{reverse-append}
 use Rattle.rowan_green.specs.Path.{Path}
 use Rattle.rowan_green.specs.declared.utility_types.Direction.{Direction}
 use Rattle.rowan_green.specs.declared.utility_types.Direction.TheVariants.{Next, Prev}
-use Rattle.rowan_cursor.specs.declared.tree.Entry.{Entry}
+use Rattle.rowan_cursor.specs.declared.table.Entry.{Entry}
 use Rattle.rowan_cursor.specs.Cursor.{Cursor}
 use Rattle.rowan_cursor.specs.CursorView.{cursor_of, element_of}
 use Rattle.rowan_cursor.specs.Moves.{numbers, cursor_at, element_at, Element, nodes_at, following, preceding, sibling_paths}

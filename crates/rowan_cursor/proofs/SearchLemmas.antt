@@ -15,8 +15,8 @@ use Rattle.rowan_cursor.specs.CursorView.{element_of}
 use Rattle.rowan_cursor.specs.Moves.{Element, children_of}
 use Rattle.rowan_cursor.specs.Search.{IsRangeChild, Covers, Finds}
 use Rattle.rowan_cursor.specs.Table.{IsTable, root_of, path_at, green_of, green_in, offset_in, children_in}
-use Rattle.rowan_cursor.specs.declared.tree.Entry.{Entry}
-use Rattle.rowan_cursor.specs.declared.tree.Kept.TheVariants.{OfNode}
+use Rattle.rowan_cursor.specs.declared.table.Entry.{Entry}
+use Rattle.rowan_cursor.specs.declared.table.Kept.TheVariants.{OfNode}
 use Rattle.rowan_cursor.proofs.TableLemmas.{Stands, stands, HasChild, has_child, path_at-row}
 
 -- ---- in the table

@@ -13,12 +13,12 @@ use Rattle.rowan_green.specs.Term.{NodeTerm, Term, term_len, sum_of_lens}
 use Rattle.rowan_green.specs.Path.{Path, subterm, offset, len_of, term_children}
 use Rattle.rowan_green.proofs.Paths.{offset-empty}
 use Rattle.rowan_green.proofs.SearchLemmas.{child_start-le_all}
-use Rattle.rowan_cursor.specs.Cursor.{last_place}
+use Rattle.rowan_cursor.specs.Cursor.{last_index}
 use Rattle.rowan_cursor.specs.Moves.{numbers, below, child_count, children_of, is_node, child_paths, first_at, following, preceding}
 use Rattle.rowan_cursor.specs.Table.{root_of, green_of, offset_of, index_of, children_in, len_in, counts, path_within, path_at, IsTop, IsChildOf, IsDraft, IsTable, IsRow, IsRowBack, IsEntry, IsNodeEntry}
-use Rattle.rowan_cursor.specs.declared.tree.Entry.{Entry}
+use Rattle.rowan_cursor.specs.declared.table.Entry.{Entry}
 use Rattle.rowan_cursor.proofs.RowLemmas.{map-reverse, first_split, last_split, empty_row}
-use Rattle.rowan_cursor.proofs.PathLemmas.{subterm-child, offset-child, last_place-child, following-child, preceding-child, child_start-next, node_len-children}
+use Rattle.rowan_cursor.proofs.PathLemmas.{subterm-child, offset-child, last_index-child, following-child, preceding-child, child_start-next, node_len-children}
 
 -- ---- lists
 
@@ -177,10 +177,10 @@ ends_within es t (suc n) e at =
     let p = above.0 in
     omega (arith, ends_below es t (suc n) e p at (omega arith) above.1 (slice_get (children_in (green_of p)) (suc n - p.first_child)) refl, ap len_of (child_above es t (suc n) e p at (omega arith) above.1))
 
-last_place-index : (es : List Entry) → IsDraft (length es) es → (n : ℕ) (e : Entry) → slice_get es n ≡ Some e → last_place (path_at es n) ≡ index_of es n e
-last_place-index es t zero e at = omega arith
-last_place-index es t (suc n) e at =
-    ap last_place (path_at-child es t (suc n) e at (omega arith)) ∙ last_place-child (path_at es e.parent) (index_of es (suc n) e)
+last_index-index : (es : List Entry) → IsDraft (length es) es → (n : ℕ) (e : Entry) → slice_get es n ≡ Some e → last_index (path_at es n) ≡ index_of es n e
+last_index-index es t zero e at = omega arith
+last_index-index es t (suc n) e at =
+    ap last_index (path_at-child es t (suc n) e at (omega arith)) ∙ last_index-child (path_at es e.parent) (index_of es (suc n) e)
 
 -- ---- rows
 
@@ -289,7 +289,7 @@ is_entry es t n e at =
       green = s.green;
       start = s.start;
       end = ends_within es t.draft n e at;
-      index = last_place-index es t.draft n e at;
+      index = last_index-index es t.draft n e at;
       below = λ h. record {
         earlier = (t.draft.earlier n e at h).0;
         path = path_at-child es t.draft n e at h;

@@ -11,7 +11,7 @@ use Rattle.rowan_green.specs.Path.{Path, term_children, subterm, begins}
 use Rattle.rowan_cursor.specs.Moves.{parent_path, children_of, numbers, below, child_count, child_paths, following, preceding, is_node, is_node_at, first_at, first_leaf_path, last_leaf_path, next_leaf_path, prev_leaf_path}
 use Rattle.rowan_cursor.specs.Pass.{Lists, row, of_some, after, before, entered, rest, reached, upto, leaf_list, element_list, ComesBehind, ComesNext, ComesBefore, ComesBack, first_inside, last_inside}
 use Rattle.rowan_cursor.specs.Table.{IsDraft, IsTable, green_of, index_of, root_of, path_at}
-use Rattle.rowan_cursor.specs.declared.tree.Entry.{Entry}
+use Rattle.rowan_cursor.specs.declared.table.Entry.{Entry}
 use Rattle.rowan_cursor.proofs.PathLemmas.{last-split, parent_path-child, following-child, preceding-child, begins-rest, begins-own, begins-same, not-begins, subterm-child, below-first, below-none}
 use Rattle.rowan_cursor.proofs.LeafLemmas.{after-child, rest-child, rest-none, before-child, upto-child, upto-none, upto-all, leaf_list-node, element_list-term, filter_same, filter_row-const, filter-row, find-first, find-last, last_at, first_leaf-below, last_leaf-below, next_leaf-rest, prev_leaf-before}
 use Rattle.rowan_cursor.proofs.RowLemmas.{map-reverse, row-last}

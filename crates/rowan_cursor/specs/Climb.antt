@@ -7,4 +7,4 @@ use Rattle.rowan_cursor.specs.Table.{root_of, path_at}
 
 abbrev pub climbed : Climb → List Cursor
 climbed c =
-    map (cursor_at (root_of c.tree.value.entries.items)) (ancestor_paths (path_at c.tree.value.entries.items c.next))
+    map (cursor_at (root_of c.table.value.entries.items)) (ancestor_paths (path_at c.table.value.entries.items c.next))

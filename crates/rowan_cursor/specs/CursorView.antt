@@ -1,6 +1,6 @@
 -- What a number stands for in a table: a cursor, at a node or at a token.
 use Rattle.std.specs.Prelude.{◌≡◌, ℕ, ◌<◌, false, List, length}
-use Rattle.rowan_cursor.specs.declared.tree.Entry.{Entry}
+use Rattle.rowan_cursor.specs.declared.table.Entry.{Entry}
 use Rattle.rowan_cursor.specs.Cursor.{Cursor}
 use Rattle.rowan_cursor.specs.Moves.{cursor_at, is_node_at, Element, element_at}
 use Rattle.rowan_cursor.specs.Table.{root_of, path_at, IsNodeEntry}

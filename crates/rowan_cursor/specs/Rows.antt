@@ -6,7 +6,7 @@ use Rattle.rowan_green.specs.declared.utility_types.Direction.{Direction}
 use Rattle.rowan_green.specs.declared.utility_types.Direction.TheVariants.{Next, Prev}
 use Rattle.rowan_green.specs.declared.fault.Fault.TheVariants.{Memory}
 use Rattle.rowan_cursor.specs.declared.cursor.rows.Row.{Row}
-use Rattle.rowan_cursor.specs.declared.tree.Entry.{Entry}
+use Rattle.rowan_cursor.specs.declared.table.Entry.{Entry}
 use Rattle.rowan_cursor.specs.Cursor.{Cursor}
 use Rattle.rowan_cursor.specs.CursorView.{cursor_of, element_of}
 use Rattle.rowan_cursor.specs.Moves.{Element, is_node_at, numbers}
@@ -19,7 +19,7 @@ in_order Next xs = xs
 in_order Prev xs = reverse xs
 
 abbrev pub entries_of : Row → List Entry
-entries_of row = row.tree.value.entries.items
+entries_of row = row.table.value.entries.items
 
 -- the numbers of the entries that are left, in the order in which they come
 abbrev pub row_numbers : Row → List ℕ

@@ -13,11 +13,11 @@ use Rattle.rowan_green.specs.Lent.{into_node}
 use Rattle.rowan_green.specs.Search.{child_start}
 use Rattle.rowan_green.specs.Term.{NodeTerm, node, empty, Term, node_children, node_len}
 use Rattle.rowan_green.specs.Path.{Path, subterm, offset, len_of}
-use Rattle.rowan_cursor.specs.Cursor.{last_place}
+use Rattle.rowan_cursor.specs.Cursor.{last_index}
 use Rattle.rowan_cursor.specs.Moves.{child_paths, is_node_at, numbers}
-use Rattle.rowan_cursor.specs.declared.tree.Entry.{Entry}
-use Rattle.rowan_cursor.specs.declared.tree.Kept.{Kept}
-use Rattle.rowan_cursor.specs.declared.tree.Kept.TheVariants.{OfNode, OfToken}
+use Rattle.rowan_cursor.specs.declared.table.Entry.{Entry}
+use Rattle.rowan_cursor.specs.declared.table.Kept.{Kept}
+use Rattle.rowan_cursor.specs.declared.table.Kept.TheVariants.{OfNode, OfToken}
 
 -- what an entry keeps: its node, if it is one, and where its text starts
 abbrev pub green_in : Kept → Option NodeTerm
@@ -119,7 +119,7 @@ pub record IsEntry (es : List Entry) (n : ℕ) (e : Entry) : Type 0 where
   pub green : option_map into_node (subterm (Node (root_of es)) (path_at es n)) ≡ Some (green_of e)
   pub start : offset (Node (root_of es)) (path_at es n) ≡ offset_of e
   pub end : offset_of e + len_of (subterm (Node (root_of es)) (path_at es n)) ≤ byte_limit
-  pub index : last_place (path_at es n) ≡ index_of es n e
+  pub index : last_index (path_at es n) ≡ index_of es n e
   pub below : 0 < n → IsBelow es n e
   pub children : IsRow es e.first_child (e.first_child + length (children_in (green_of e))) (child_paths (root_of es) (path_at es n))
 

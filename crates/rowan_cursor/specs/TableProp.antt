@@ -3,7 +3,7 @@ use Rattle.std.specs.Prelude.{ℕ, List}
 use Rattle.std.specs.Coded.{coded_option}
 use Rattle.std.proofs.Props.{props}
 use Rattle.rowan_green.specs.Coding.{coded_node}
-use Rattle.rowan_cursor.specs.declared.tree.Entry.{Entry}
+use Rattle.rowan_cursor.specs.declared.table.Entry.{Entry}
 use Rattle.rowan_cursor.specs.Table.{IsDraft, IsTable}
 
 IsDraft-prop : (done : ℕ) (es : List Entry) → IsProp (IsDraft done es)

@@ -3,4 +3,4 @@
 
 pub mod cursor;
 pub mod laws;
-mod tree;
+mod table;

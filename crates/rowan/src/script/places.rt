@@ -1,6 +1,6 @@
 //! Elements by their places.
-ghost use Rattle.std.specs.Prelude.{◌≡◌, ◌++◌, IfOk, IfErr};
-ghost use Rattle.rowan_cursor.specs.Moves.{element_if_there};
+ghost use Rattle.std.specs.Prelude.{◌≡◌, IfOk, IfErr};
+ghost use Rattle.rowan_cursor.specs.Moves.{element_below};
 
 use crate::fault::Fault;
 use rowan_cursor::cursor::{SyntaxElement, SyntaxNode};
@@ -9,7 +9,7 @@ use rowan_green::utility_types::NodeOrToken;
 /// The element that is reached from a node by these places, each among all children of the element before; the node itself
 /// where there are none. `None` where a place is not there. Refused only for want of memory.
 pub fn element_at(node: &SyntaxNode, path: &[usize]) -> Result<Option<SyntaxElement>, Fault>
-    ensures ok { IfOk result (λ found. found ≡ element_if_there node.now.root (node.now.path ++ path.now)) }
+    ensures ok { IfOk result (λ found. found ≡ element_below node.now path.now) }
     ensures err { IfErr result (λ e. e ≡ Fault.Memory) }
 {
     // Says that a node stands there.

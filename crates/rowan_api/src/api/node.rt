@@ -1,9 +1,6 @@
 ghost use Rattle.std.specs.Prelude.{◌≡◌, [], IfOk, IfErr, Some};
 ghost use Rattle.std.specs.Option.{option_map};
-ghost use Rattle.rowan_green.specs.declared.utility_types.NodeOrToken.TheVariants.{Node};
-ghost use Rattle.rowan_green.specs.Term.{term_kind};
-ghost use Rattle.rowan_green.specs.Path.{range};
-ghost use Rattle.rowan_cursor.specs.Cursor.{term_at};
+ghost use Rattle.rowan_cursor.specs.Cursor.{kind, text_range};
 
 use crate::api::language::Language;
 use crate::api::printed;
@@ -49,14 +46,14 @@ impl<L: Language> SyntaxNode<L> {
 
     /// The kind of the node.
     pub fn kind(&self) -> L::Kind
-        ensures { option_map (λ t. L.meaning (term_kind t)) (term_at self.now) ≡ Some result }
+        ensures { option_map L.meaning (kind self.now) ≡ Some result }
     {
         L::kind_from_raw(self.raw.kind())
     }
 
     /// Where the node's text lies in the text of the root, in bytes.
     pub fn text_range(&self) -> TextRange
-        ensures { result ≡ range (Node self.now.root) self.now.path }
+        ensures { result ≡ text_range self.now }
     {
         self.raw.text_range()
     }

@@ -3,7 +3,7 @@ mod next;
 
 ghost use Rattle.rowan_cursor.specs.CursorView.{HasNode};
 
-use crate::tree::Tree;
+use crate::table::Table;
 pub(super) use next::next_ancestor;
 use std::alloc::AllocError;
 use std::rc::Rc;
@@ -11,9 +11,9 @@ use std::rc::Rc;
 // The entry of a node, from which the parents are still to come.
 #[derive(Drop)]
 pub(super) struct Climb {
-    tree: Rc<Tree>,
+    table: Rc<Table>,
     next: usize,
-    ghost node: { HasNode tree.value.entries.items next },
+    ghost node: { HasNode table.value.entries.items next },
 }
 
 // What is left of the way, or the refusal to share its tree. `None` is behind the root.

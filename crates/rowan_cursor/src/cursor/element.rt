@@ -1,14 +1,11 @@
-ghost use Rattle.std.specs.Prelude.{◌≡◌, ◌<◌, [], IfOk, IfErr, IfSome, Some, length, map};
+ghost use Rattle.std.specs.Prelude.{◌≡◌, ◌<◌, IfOk, IfErr, IfSome, Some, length};
 ghost use Rattle.std.specs.Option.{option_map};
-ghost use Rattle.rowan_green.specs.declared.utility_types.NodeOrToken.TheVariants.{Node};
-ghost use Rattle.rowan_green.specs.Path.{range};
-ghost use Rattle.rowan_green.specs.Term.{term_kind};
-ghost use Rattle.rowan_cursor.specs.Cursor.{term_at, last_place};
+ghost use Rattle.rowan_cursor.specs.Cursor.{index, kind, text_range};
 ghost use Rattle.rowan_cursor.specs.CursorView.{element_of};
-ghost use Rattle.rowan_cursor.specs.Moves.{Element, place_of, cursor_at, element_at, parent_path, first_at, following, preceding, first_leaf_path, last_leaf_path, element_ancestors};
+ghost use Rattle.rowan_cursor.specs.Moves.{Element, place_of, tree_top, parent, next_sibling_or_token, prev_sibling_or_token, first_token, last_token, element_ancestors};
 
 use crate::cursor::{Ancestors, SyntaxNode, SyntaxToken};
-use crate::tree::Tree;
+use crate::table::Table;
 use rowan_green::fault::Fault;
 use rowan_green::green::SyntaxKind;
 use rowan_green::text::TextRange;
@@ -19,26 +16,26 @@ use std::rc::Rc;
 pub type SyntaxElement = NodeOrToken<SyntaxNode, SyntaxToken>;
 
 // The element of a number.
-pub(super) fn at(tree: &Rc<Tree>, entry: usize) -> Result<SyntaxElement, Fault>
-    requires { entry < length tree.now.value.entries.items }
-    ensures ok { IfOk result (λ e. e ≡ element_of tree.now.value.entries.items entry) }
+pub(super) fn at(table: &Rc<Table>, number: usize) -> Result<SyntaxElement, Fault>
+    requires { number < length table.now.value.entries.items }
+    ensures ok { IfOk result (λ e. e ≡ element_of table.now.value.entries.items number) }
     ensures err { IfErr result (λ e. e ≡ Fault.Memory) }
 {
-    if tree.is_node(entry) {
-        Ok(NodeOrToken::Node(SyntaxNode::at(tree, entry)?))
+    if table.is_node(number) {
+        Ok(NodeOrToken::Node(SyntaxNode::at(table, number)?))
     } else {
-        Ok(NodeOrToken::Token(SyntaxToken::at(tree, entry)?))
+        Ok(NodeOrToken::Token(SyntaxToken::at(table, number)?))
     }
 }
 
 // The same, where there is a number.
-pub(super) fn found(tree: &Rc<Tree>, entry: Option<usize>) -> Result<Option<SyntaxElement>, Fault>
-    requires { IfSome entry (λ n. n < length tree.now.value.entries.items) }
-    ensures ok { IfOk result (λ found. found ≡ option_map (element_of tree.now.value.entries.items) entry) }
+pub(super) fn found(table: &Rc<Table>, number: Option<usize>) -> Result<Option<SyntaxElement>, Fault>
+    requires { IfSome number (λ n. n < length table.now.value.entries.items) }
+    ensures ok { IfOk result (λ found. found ≡ option_map (element_of table.now.value.entries.items) number) }
     ensures err { IfErr result (λ e. e ≡ Fault.Memory) }
 {
-    match entry {
-        Some(entry) => Ok(Some(at(tree, entry)?)),
+    match number {
+        Some(number) => Ok(Some(at(table, number)?)),
         None => Ok(None),
     }
 }
@@ -49,54 +46,49 @@ pub trait ElementCalls {
 
     /// Where the element's text lies in the text of the root, in bytes.
     fn text_range(&self) -> TextRange
-        ensures { let place = place_of (element self.now) in result ≡ range (Node place.root) place.path };
+        ensures { result ≡ text_range (place_of (element self.now)) };
 
     /// The place of the element among all children of its parent; 0 for a root.
     fn index(&self) -> usize
-        ensures { result ≡ last_place (place_of (element self.now)).path };
+        ensures { result ≡ index (place_of (element self.now)) };
 
     /// The kind of the element.
     fn kind(&self) -> SyntaxKind
-        ensures { option_map term_kind (term_at (place_of (element self.now))) ≡ Some result.0 };
+        ensures { kind (place_of (element self.now)) ≡ Some result.0 };
 
     /// The parent, or `None` of a root.
     fn parent(&self) -> Result<Option<SyntaxNode>, Fault>
-        ensures ok { let place = place_of (element self.now) in
-            IfOk result (λ found. found ≡ option_map (cursor_at place.root) (parent_path place.path)) }
+        ensures ok { IfOk result (λ found. found ≡ parent (place_of (element self.now))) }
         ensures err { IfErr result (λ e. e ≡ Fault.Memory) };
 
     /// The root of the tree.
     fn tree_top(&self) -> Result<SyntaxNode, Fault>
-        ensures ok { IfOk result (λ n. n ≡ cursor_at (place_of (element self.now)).root []) }
+        ensures ok { IfOk result (λ n. n ≡ tree_top (place_of (element self.now))) }
         ensures err { IfErr result (λ e. e ≡ Fault.Memory) };
 
     /// The first token of all that are in a node, also an empty one; a token itself.
     fn first_token(&self) -> Result<Option<SyntaxToken>, Fault>
-        ensures ok { let place = place_of (element self.now) in
-            IfOk result (λ found. found ≡ option_map (cursor_at place.root) (first_leaf_path place.root place.path)) }
+        ensures ok { IfOk result (λ found. found ≡ first_token (place_of (element self.now))) }
         ensures err { IfErr result (λ e. e ≡ Fault.Memory) };
 
     /// The last token of all that are in a node, also an empty one; a token itself.
     fn last_token(&self) -> Result<Option<SyntaxToken>, Fault>
-        ensures ok { let place = place_of (element self.now) in
-            IfOk result (λ found. found ≡ option_map (cursor_at place.root) (last_leaf_path place.root place.path)) }
+        ensures ok { IfOk result (λ found. found ≡ last_token (place_of (element self.now))) }
         ensures err { IfErr result (λ e. e ≡ Fault.Memory) };
 
     /// The next sibling.
     fn next_sibling_or_token(&self) -> Result<Option<SyntaxElement>, Fault>
-        ensures ok { let place = place_of (element self.now) in
-            IfOk result (λ found. found ≡ option_map (element_at place.root) (first_at (following place.root place.path))) }
+        ensures ok { IfOk result (λ found. found ≡ next_sibling_or_token (place_of (element self.now))) }
         ensures err { IfErr result (λ e. e ≡ Fault.Memory) };
 
     /// The sibling before this one.
     fn prev_sibling_or_token(&self) -> Result<Option<SyntaxElement>, Fault>
-        ensures ok { let place = place_of (element self.now) in
-            IfOk result (λ found. found ≡ option_map (element_at place.root) (first_at (preceding place.root place.path))) }
+        ensures ok { IfOk result (λ found. found ≡ prev_sibling_or_token (place_of (element self.now))) }
         ensures err { IfErr result (λ e. e ≡ Fault.Memory) };
 
     /// A node and the nodes above it, up to the root; of a token the nodes above it.
     fn ancestors(&self) -> Ancestors
-        ensures ok { IfOk result (λ left. left ≡ map (cursor_at (place_of (element self.now)).root) (element_ancestors (element self.now))) }
+        ensures ok { IfOk result (λ list. list ≡ element_ancestors (element self.now)) }
         ensures err { IfErr result (λ e. e ≡ Fault.Memory) };
 }
 

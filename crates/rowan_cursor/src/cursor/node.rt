@@ -1,13 +1,10 @@
 mod search;
 
-ghost use Rattle.std.specs.Prelude.{◌≡◌, [], IfOk, IfErr, IfSome, Some, map, reverse, slice_get};
+ghost use Rattle.std.specs.Prelude.{◌≡◌, [], IfOk, IfErr, IfSome, Some};
 ghost use Rattle.std.specs.Option.{option_map};
-ghost use Rattle.rowan_green.specs.declared.utility_types.NodeOrToken.TheVariants.{Node};
-ghost use Rattle.rowan_green.specs.Term.{term_kind};
-ghost use Rattle.rowan_green.specs.Path.{range};
-ghost use Rattle.rowan_cursor.specs.Cursor.{StandsAt, term_at, last_place};
+ghost use Rattle.rowan_cursor.specs.Cursor.{StandsAt, index, kind, text_range};
 ghost use Rattle.rowan_cursor.specs.CursorView.{cursor_of, HasNode};
-ghost use Rattle.rowan_cursor.specs.Moves.{cursor_at, element_at, parent_path, first_at, child_paths, following, preceding, first_node_at, first_leaf_path, last_leaf_path, ancestor_paths, sibling_paths, nodes_at};
+ghost use Rattle.rowan_cursor.specs.Moves.{tree_top, parent, first_child, last_child, first_child_or_token, last_child_or_token, child_or_token_at_index, next_sibling, prev_sibling, next_sibling_or_token, prev_sibling_or_token, first_token, last_token, children, children_with_tokens, siblings, siblings_with_tokens, ancestors};
 
 use crate::cursor::ancestors::Climb;
 use crate::cursor::rows::Row;
@@ -15,7 +12,7 @@ use crate::cursor::{
     Ancestors, Siblings, SiblingsWithTokens, SyntaxElement, SyntaxElementChildren,
     SyntaxNodeChildren, SyntaxToken, element,
 };
-use crate::tree::Tree;
+use crate::table::Table;
 use rowan_green::fault::Fault;
 use rowan_green::green::{GreenNode, SyntaxKind};
 use rowan_green::text::TextRange;
@@ -29,8 +26,8 @@ use std::rc::Rc;
 /// A node in a tree: a root, and the way from it to the node. A clone shares the tree.
 #[derive(Drop)]
 pub struct SyntaxNode {
-    tree: Rc<Tree>,
-    entry: usize,
+    table: Rc<Table>,
+    number: usize,
 }
 
 impl Model for SyntaxNode {
@@ -43,30 +40,30 @@ impl Model for SyntaxNode {
 
     ghost use Rattle.rowan_cursor.specs.CursorView.{cursor_of, HasNode};
 
-    ghost view = { λ n. cursor_of n.tree.value.entries.items n.entry };
+    ghost view = { λ n. cursor_of n.table.value.entries.items n.number };
 
-    ghost invariant = { λ n. HasNode n.tree.value.entries.items n.entry };
+    ghost invariant = { λ n. HasNode n.table.value.entries.items n.number };
 }
 
 impl SyntaxNode {
     // The cursor at the node of a number.
-    pub(super) fn at(tree: &Rc<Tree>, entry: usize) -> Result<SyntaxNode, Fault>
-        requires { HasNode tree.now.value.entries.items entry }
-        ensures ok { IfOk result (λ n. n ≡ cursor_of tree.now.value.entries.items entry) }
+    pub(super) fn at(table: &Rc<Table>, number: usize) -> Result<SyntaxNode, Fault>
+        requires { HasNode table.now.value.entries.items number }
+        ensures ok { IfOk result (λ n. n ≡ cursor_of table.now.value.entries.items number) }
         ensures err { IfErr result (λ e. e ≡ Fault.Memory) }
     {
-        let tree = tree.clone()?;
-        Ok(SyntaxNode { tree, entry })
+        let table = table.clone()?;
+        Ok(SyntaxNode { table, number })
     }
 
     // The same, where there is a number.
-    pub(super) fn found(tree: &Rc<Tree>, entry: Option<usize>) -> Result<Option<SyntaxNode>, Fault>
-        requires { IfSome entry (HasNode tree.now.value.entries.items) }
-        ensures ok { IfOk result (λ found. found ≡ option_map (cursor_of tree.now.value.entries.items) entry) }
+    pub(super) fn found(table: &Rc<Table>, number: Option<usize>) -> Result<Option<SyntaxNode>, Fault>
+        requires { IfSome number (HasNode table.now.value.entries.items) }
+        ensures ok { IfOk result (λ found. found ≡ option_map (cursor_of table.now.value.entries.items) number) }
         ensures err { IfErr result (λ e. e ≡ Fault.Memory) }
     {
-        match entry {
-            Some(entry) => Ok(Some(SyntaxNode::at(tree, entry)?)),
+        match number {
+            Some(number) => Ok(Some(SyntaxNode::at(table, number)?)),
             None => Ok(None),
         }
     }
@@ -77,8 +74,8 @@ impl SyntaxNode {
         ensures ok { IfOk result (λ n. n ≡ record { root = green; path = [] }) }
         ensures err { IfErr result (λ e. e ≡ Fault.Memory) }
     {
-        let tree = Rc::new(alloc, Tree::new(alloc, green)?)?;
-        Ok(SyntaxNode { tree, entry: 0 })
+        let table = Rc::new(alloc, Table::new(alloc, green)?)?;
+        Ok(SyntaxNode { table, number: 0 })
     }
 
     /// The root of a new tree, which has the green node of this one. Refused as `new_root` is.
@@ -87,179 +84,179 @@ impl SyntaxNode {
         ensures top { IfOk result (λ n. n.path ≡ []) }
         ensures err { IfErr result (λ e. e ≡ Fault.Memory) }
     {
-        SyntaxNode::new_root(self.tree.allocator(), self.green().clone()?)
+        SyntaxNode::new_root(self.table.allocator(), self.green().clone()?)
     }
 
     /// The kind of the node.
     pub fn kind(&self) -> SyntaxKind
-        ensures { option_map term_kind (term_at self.now) ≡ Some result.0 }
+        ensures { kind self.now ≡ Some result.0 }
     {
         self.green().kind()
     }
 
     /// Where the node's text lies in the text of the root, in bytes.
     pub fn text_range(&self) -> TextRange
-        ensures { result ≡ range (Node self.now.root) self.now.path }
+        ensures { result ≡ text_range self.now }
     {
-        self.tree.text_range(self.entry)
+        self.table.text_range(self.number)
     }
 
     /// The place of the node among all children of its parent, tokens counted; 0 for a root.
     pub fn index(&self) -> usize
-        ensures { result ≡ last_place self.now.path }
+        ensures { result ≡ index self.now }
     {
-        self.tree.index(self.entry)
+        self.table.index(self.number)
     }
 
     /// The green node at this place.
     pub fn green(&self) -> &GreenNode
         ensures { StandsAt self.now result.now }
     {
-        self.tree.node(self.entry)
+        self.table.node(self.number)
     }
 
     /// The root of the tree.
     pub fn tree_top(&self) -> Result<SyntaxNode, Fault>
-        ensures ok { IfOk result (λ n. n ≡ cursor_at self.now.root []) }
+        ensures ok { IfOk result (λ n. n ≡ tree_top self.now) }
         ensures err { IfErr result (λ e. e ≡ Fault.Memory) }
     {
-        SyntaxNode::at(&self.tree, 0)
+        SyntaxNode::at(&self.table, 0)
     }
 
     /// The parent, or `None` of a root.
     pub fn parent(&self) -> Result<Option<SyntaxNode>, Fault>
-        ensures ok { IfOk result (λ found. found ≡ option_map (cursor_at self.now.root) (parent_path self.now.path)) }
+        ensures ok { IfOk result (λ found. found ≡ parent self.now) }
         ensures err { IfErr result (λ e. e ≡ Fault.Memory) }
     {
-        SyntaxNode::found(&self.tree, self.tree.parent(self.entry))
+        SyntaxNode::found(&self.table, self.table.parent(self.number))
     }
 
     /// The first child that is a node.
     pub fn first_child(&self) -> Result<Option<SyntaxNode>, Fault>
-        ensures ok { IfOk result (λ found. found ≡ option_map (cursor_at self.now.root) (first_node_at self.now.root (child_paths self.now.root self.now.path))) }
+        ensures ok { IfOk result (λ found. found ≡ first_child self.now) }
         ensures err { IfErr result (λ e. e ≡ Fault.Memory) }
     {
-        SyntaxNode::found(&self.tree, self.tree.first_child(self.entry))
+        SyntaxNode::found(&self.table, self.table.first_child(self.number))
     }
 
     /// The last child that is a node.
     pub fn last_child(&self) -> Result<Option<SyntaxNode>, Fault>
-        ensures ok { IfOk result (λ found. found ≡ option_map (cursor_at self.now.root) (first_node_at self.now.root (reverse (child_paths self.now.root self.now.path)))) }
+        ensures ok { IfOk result (λ found. found ≡ last_child self.now) }
         ensures err { IfErr result (λ e. e ≡ Fault.Memory) }
     {
-        SyntaxNode::found(&self.tree, self.tree.last_child(self.entry))
+        SyntaxNode::found(&self.table, self.table.last_child(self.number))
     }
 
     /// The first child.
     pub fn first_child_or_token(&self) -> Result<Option<SyntaxElement>, Fault>
-        ensures ok { IfOk result (λ found. found ≡ option_map (element_at self.now.root) (first_at (child_paths self.now.root self.now.path))) }
+        ensures ok { IfOk result (λ found. found ≡ first_child_or_token self.now) }
         ensures err { IfErr result (λ e. e ≡ Fault.Memory) }
     {
-        element::found(&self.tree, self.tree.first_child_or_token(self.entry))
+        element::found(&self.table, self.table.first_child_or_token(self.number))
     }
 
     /// The last child.
     pub fn last_child_or_token(&self) -> Result<Option<SyntaxElement>, Fault>
-        ensures ok { IfOk result (λ found. found ≡ option_map (element_at self.now.root) (first_at (reverse (child_paths self.now.root self.now.path)))) }
+        ensures ok { IfOk result (λ found. found ≡ last_child_or_token self.now) }
         ensures err { IfErr result (λ e. e ≡ Fault.Memory) }
     {
-        element::found(&self.tree, self.tree.last_child_or_token(self.entry))
+        element::found(&self.table, self.table.last_child_or_token(self.number))
     }
 
     /// The child at an index among all children, or `None` past the last one.
     pub fn child_or_token_at_index(&self, index: usize) -> Result<Option<SyntaxElement>, Fault>
-        ensures ok { IfOk result (λ found. found ≡ option_map (element_at self.now.root) (slice_get (child_paths self.now.root self.now.path) index)) }
+        ensures ok { IfOk result (λ found. found ≡ child_or_token_at_index self.now index) }
         ensures err { IfErr result (λ e. e ≡ Fault.Memory) }
     {
-        element::found(&self.tree, self.tree.child_at(self.entry, index))
+        element::found(&self.table, self.table.child_at(self.number, index))
     }
 
     /// The next sibling that is a node.
     pub fn next_sibling(&self) -> Result<Option<SyntaxNode>, Fault>
-        ensures ok { IfOk result (λ found. found ≡ option_map (cursor_at self.now.root) (first_node_at self.now.root (following self.now.root self.now.path))) }
+        ensures ok { IfOk result (λ found. found ≡ next_sibling self.now) }
         ensures err { IfErr result (λ e. e ≡ Fault.Memory) }
     {
-        SyntaxNode::found(&self.tree, self.tree.next_sibling(self.entry))
+        SyntaxNode::found(&self.table, self.table.next_sibling(self.number))
     }
 
     /// The nearest sibling before this one that is a node.
     pub fn prev_sibling(&self) -> Result<Option<SyntaxNode>, Fault>
-        ensures ok { IfOk result (λ found. found ≡ option_map (cursor_at self.now.root) (first_node_at self.now.root (preceding self.now.root self.now.path))) }
+        ensures ok { IfOk result (λ found. found ≡ prev_sibling self.now) }
         ensures err { IfErr result (λ e. e ≡ Fault.Memory) }
     {
-        SyntaxNode::found(&self.tree, self.tree.prev_sibling(self.entry))
+        SyntaxNode::found(&self.table, self.table.prev_sibling(self.number))
     }
 
     /// The next sibling.
     pub fn next_sibling_or_token(&self) -> Result<Option<SyntaxElement>, Fault>
-        ensures ok { IfOk result (λ found. found ≡ option_map (element_at self.now.root) (first_at (following self.now.root self.now.path))) }
+        ensures ok { IfOk result (λ found. found ≡ next_sibling_or_token self.now) }
         ensures err { IfErr result (λ e. e ≡ Fault.Memory) }
     {
-        element::found(&self.tree, self.tree.next_sibling_or_token(self.entry))
+        element::found(&self.table, self.table.next_sibling_or_token(self.number))
     }
 
     /// The sibling before this one.
     pub fn prev_sibling_or_token(&self) -> Result<Option<SyntaxElement>, Fault>
-        ensures ok { IfOk result (λ found. found ≡ option_map (element_at self.now.root) (first_at (preceding self.now.root self.now.path))) }
+        ensures ok { IfOk result (λ found. found ≡ prev_sibling_or_token self.now) }
         ensures err { IfErr result (λ e. e ≡ Fault.Memory) }
     {
-        element::found(&self.tree, self.tree.prev_sibling_or_token(self.entry))
+        element::found(&self.table, self.table.prev_sibling_or_token(self.number))
     }
 
     /// The first token of all that are in this node, also an empty one.
     pub fn first_token(&self) -> Result<Option<SyntaxToken>, Fault>
-        ensures ok { IfOk result (λ found. found ≡ option_map (cursor_at self.now.root) (first_leaf_path self.now.root self.now.path)) }
+        ensures ok { IfOk result (λ found. found ≡ first_token self.now) }
         ensures err { IfErr result (λ e. e ≡ Fault.Memory) }
     {
-        SyntaxToken::found(&self.tree, self.tree.first_token(self.entry))
+        SyntaxToken::found(&self.table, self.table.first_token(self.number))
     }
 
     /// The last token of all that are in this node, also an empty one.
     pub fn last_token(&self) -> Result<Option<SyntaxToken>, Fault>
-        ensures ok { IfOk result (λ found. found ≡ option_map (cursor_at self.now.root) (last_leaf_path self.now.root self.now.path)) }
+        ensures ok { IfOk result (λ found. found ≡ last_token self.now) }
         ensures err { IfErr result (λ e. e ≡ Fault.Memory) }
     {
-        SyntaxToken::found(&self.tree, self.tree.last_token(self.entry))
+        SyntaxToken::found(&self.table, self.table.last_token(self.number))
     }
 
     /// The node and the nodes above it, up to the root.
     pub fn ancestors(&self) -> Ancestors
-        ensures ok { IfOk result (λ left. left ≡ map (cursor_at self.now.root) (ancestor_paths self.now.path)) }
+        ensures ok { IfOk result (λ list. list ≡ ancestors self.now) }
         ensures err { IfErr result (λ e. e ≡ Fault.Memory) }
     {
-        Ancestors::new(Climb::new(&self.tree, Some(self.entry)))
+        Ancestors::new(Climb::new(&self.table, Some(self.number)))
     }
 
     /// The children that are nodes.
     pub fn children(&self) -> SyntaxNodeChildren
-        ensures ok { IfOk result (λ left. left ≡ map (cursor_at self.now.root) (nodes_at self.now.root (child_paths self.now.root self.now.path))) }
+        ensures ok { IfOk result (λ list. list ≡ children self.now) }
         ensures err { IfErr result (λ e. e ≡ Fault.Memory) }
     {
-        SyntaxNodeChildren::new(Row::children(&self.tree, self.entry))
+        SyntaxNodeChildren::new(Row::children(&self.table, self.number))
     }
 
     /// The children.
     pub fn children_with_tokens(&self) -> SyntaxElementChildren
-        ensures ok { IfOk result (λ left. left ≡ map (element_at self.now.root) (child_paths self.now.root self.now.path)) }
+        ensures ok { IfOk result (λ list. list ≡ children_with_tokens self.now) }
         ensures err { IfErr result (λ e. e ≡ Fault.Memory) }
     {
-        SyntaxElementChildren::new(Row::children(&self.tree, self.entry))
+        SyntaxElementChildren::new(Row::children(&self.table, self.number))
     }
 
     /// The node, and then its siblings in a direction that are nodes, nearest first. A root has none.
     pub fn siblings(&self, direction: Direction) -> Siblings
-        ensures ok { IfOk result (λ left. left ≡ map (cursor_at self.now.root) (nodes_at self.now.root (sibling_paths direction self.now.root self.now.path))) }
+        ensures ok { IfOk result (λ list. list ≡ siblings direction self.now) }
         ensures err { IfErr result (λ e. e ≡ Fault.Memory) }
     {
-        Siblings::new(Row::siblings(&self.tree, self.entry, direction))
+        Siblings::new(Row::siblings(&self.table, self.number, direction))
     }
 
     /// The node, and then its siblings in a direction, nearest first. A root has none.
     pub fn siblings_with_tokens(&self, direction: Direction) -> SiblingsWithTokens
-        ensures ok { IfOk result (λ left. left ≡ map (element_at self.now.root) (sibling_paths direction self.now.root self.now.path)) }
+        ensures ok { IfOk result (λ list. list ≡ siblings_with_tokens direction self.now) }
         ensures err { IfErr result (λ e. e ≡ Fault.Memory) }
     {
-        SiblingsWithTokens::new(Row::siblings(&self.tree, self.entry, direction))
+        SiblingsWithTokens::new(Row::siblings(&self.table, self.number, direction))
     }
 }
 
@@ -267,10 +264,10 @@ impl Clone for SyntaxNode {
     ghost is_clone = { λ node copy. copy ≡ node };
 
     fn clone(&self) -> Result<SyntaxNode, AllocError> {
-        let tree = self.tree.clone()?;
+        let table = self.table.clone()?;
         Ok(SyntaxNode {
-            tree,
-            entry: self.entry,
+            table,
+            number: self.number,
         })
     }
 }

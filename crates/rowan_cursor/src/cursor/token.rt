@@ -1,16 +1,13 @@
-ghost use Rattle.std.specs.Prelude.{◌≡◌, [], IfOk, IfErr, IfSome, Some, map};
-ghost use Rattle.std.specs.Option.{option_map, option_map_or};
-ghost use Rattle.rowan_green.specs.declared.utility_types.NodeOrToken.TheVariants.{Node};
-ghost use Rattle.rowan_green.specs.Term.{term_kind};
-ghost use Rattle.rowan_green.specs.Path.{range};
-ghost use Rattle.rowan_cursor.specs.Cursor.{StandsAtToken, term_at, text_at, last_place};
+ghost use Rattle.std.specs.Prelude.{◌≡◌, IfOk, IfErr, IfSome, Some};
+ghost use Rattle.std.specs.Option.{option_map};
+ghost use Rattle.rowan_cursor.specs.Cursor.{StandsAtToken, index, kind, text_range, text_at};
 ghost use Rattle.rowan_cursor.specs.CursorView.{cursor_of, HasToken};
-ghost use Rattle.rowan_cursor.specs.Moves.{cursor_at, element_at, parent_path, first_at, following, preceding, first_leaf_path, last_leaf_path, next_leaf_path, prev_leaf_path, ancestor_paths, sibling_paths};
+ghost use Rattle.rowan_cursor.specs.Moves.{tree_top, parent, next_sibling_or_token, prev_sibling_or_token, first_token, last_token, next_token, prev_token, siblings_with_tokens, parent_ancestors};
 
 use crate::cursor::ancestors::Climb;
 use crate::cursor::rows::Row;
 use crate::cursor::{Ancestors, SiblingsWithTokens, SyntaxElement, SyntaxNode, element};
-use crate::tree::Tree;
+use crate::table::Table;
 use rowan_green::fault::Fault;
 use rowan_green::green::{GreenToken, SyntaxKind};
 use rowan_green::text::TextRange;
@@ -24,8 +21,8 @@ use std::rc::Rc;
 /// A token in a tree: a root, and the way from it to the token. A clone shares the tree.
 #[derive(Drop)]
 pub struct SyntaxToken {
-    tree: Rc<Tree>,
-    entry: usize,
+    table: Rc<Table>,
+    number: usize,
 }
 
 impl Model for SyntaxToken {
@@ -38,53 +35,53 @@ impl Model for SyntaxToken {
 
     ghost use Rattle.rowan_cursor.specs.CursorView.{cursor_of, HasToken};
 
-    ghost view = { λ t. cursor_of t.tree.value.entries.items t.entry };
+    ghost view = { λ t. cursor_of t.table.value.entries.items t.number };
 
-    ghost invariant = { λ t. HasToken t.tree.value.entries.items t.entry };
+    ghost invariant = { λ t. HasToken t.table.value.entries.items t.number };
 }
 
 impl SyntaxToken {
     // The cursor at the token of a number.
-    pub(super) fn at(tree: &Rc<Tree>, entry: usize) -> Result<SyntaxToken, Fault>
-        requires { HasToken tree.now.value.entries.items entry }
-        ensures ok { IfOk result (λ t. t ≡ cursor_of tree.now.value.entries.items entry) }
+    pub(super) fn at(table: &Rc<Table>, number: usize) -> Result<SyntaxToken, Fault>
+        requires { HasToken table.now.value.entries.items number }
+        ensures ok { IfOk result (λ t. t ≡ cursor_of table.now.value.entries.items number) }
         ensures err { IfErr result (λ e. e ≡ Fault.Memory) }
     {
-        let tree = tree.clone()?;
-        Ok(SyntaxToken { tree, entry })
+        let table = table.clone()?;
+        Ok(SyntaxToken { table, number })
     }
 
     // The same, where there is a number.
-    pub(super) fn found(tree: &Rc<Tree>, entry: Option<usize>) -> Result<Option<SyntaxToken>, Fault>
-        requires { IfSome entry (HasToken tree.now.value.entries.items) }
-        ensures ok { IfOk result (λ found. found ≡ option_map (cursor_of tree.now.value.entries.items) entry) }
+    pub(super) fn found(table: &Rc<Table>, number: Option<usize>) -> Result<Option<SyntaxToken>, Fault>
+        requires { IfSome number (HasToken table.now.value.entries.items) }
+        ensures ok { IfOk result (λ found. found ≡ option_map (cursor_of table.now.value.entries.items) number) }
         ensures err { IfErr result (λ e. e ≡ Fault.Memory) }
     {
-        match entry {
-            Some(entry) => Ok(Some(SyntaxToken::at(tree, entry)?)),
+        match number {
+            Some(number) => Ok(Some(SyntaxToken::at(table, number)?)),
             None => Ok(None),
         }
     }
 
     /// The kind of the token.
     pub fn kind(&self) -> SyntaxKind
-        ensures { option_map term_kind (term_at self.now) ≡ Some result.0 }
+        ensures { kind self.now ≡ Some result.0 }
     {
         self.green().kind()
     }
 
     /// Where the token's text lies in the text of the root, in bytes.
     pub fn text_range(&self) -> TextRange
-        ensures { result ≡ range (Node self.now.root) self.now.path }
+        ensures { result ≡ text_range self.now }
     {
-        self.tree.text_range(self.entry)
+        self.table.text_range(self.number)
     }
 
     /// The place of the token among all children of its parent.
     pub fn index(&self) -> usize
-        ensures { result ≡ last_place self.now.path }
+        ensures { result ≡ index self.now }
     {
-        self.tree.index(self.entry)
+        self.table.index(self.number)
     }
 
     /// The text of the token.
@@ -98,86 +95,86 @@ impl SyntaxToken {
     pub fn green(&self) -> &GreenToken
         ensures { StandsAtToken self.now result.now }
     {
-        self.tree.token(self.entry)
+        self.table.token(self.number)
     }
 
     /// The root of the tree.
     pub fn tree_top(&self) -> Result<SyntaxNode, Fault>
-        ensures ok { IfOk result (λ n. n ≡ cursor_at self.now.root []) }
+        ensures ok { IfOk result (λ n. n ≡ tree_top self.now) }
         ensures err { IfErr result (λ e. e ≡ Fault.Memory) }
     {
-        SyntaxNode::at(&self.tree, 0)
+        SyntaxNode::at(&self.table, 0)
     }
 
     /// The parent.
     pub fn parent(&self) -> Result<Option<SyntaxNode>, Fault>
-        ensures ok { IfOk result (λ found. found ≡ option_map (cursor_at self.now.root) (parent_path self.now.path)) }
+        ensures ok { IfOk result (λ found. found ≡ parent self.now) }
         ensures err { IfErr result (λ e. e ≡ Fault.Memory) }
     {
-        SyntaxNode::found(&self.tree, self.tree.parent(self.entry))
+        SyntaxNode::found(&self.table, self.table.parent(self.number))
     }
 
     /// The next sibling.
     pub fn next_sibling_or_token(&self) -> Result<Option<SyntaxElement>, Fault>
-        ensures ok { IfOk result (λ found. found ≡ option_map (element_at self.now.root) (first_at (following self.now.root self.now.path))) }
+        ensures ok { IfOk result (λ found. found ≡ next_sibling_or_token self.now) }
         ensures err { IfErr result (λ e. e ≡ Fault.Memory) }
     {
-        element::found(&self.tree, self.tree.next_sibling_or_token(self.entry))
+        element::found(&self.table, self.table.next_sibling_or_token(self.number))
     }
 
     /// The sibling before this one.
     pub fn prev_sibling_or_token(&self) -> Result<Option<SyntaxElement>, Fault>
-        ensures ok { IfOk result (λ found. found ≡ option_map (element_at self.now.root) (first_at (preceding self.now.root self.now.path))) }
+        ensures ok { IfOk result (λ found. found ≡ prev_sibling_or_token self.now) }
         ensures err { IfErr result (λ e. e ≡ Fault.Memory) }
     {
-        element::found(&self.tree, self.tree.prev_sibling_or_token(self.entry))
+        element::found(&self.table, self.table.prev_sibling_or_token(self.number))
     }
 
     /// The next token of the tree, also an empty one, whatever node it is in.
     pub fn next_token(&self) -> Result<Option<SyntaxToken>, Fault>
-        ensures ok { IfOk result (λ found. found ≡ option_map (cursor_at self.now.root) (next_leaf_path self.now.root self.now.path)) }
+        ensures ok { IfOk result (λ found. found ≡ next_token self.now) }
         ensures err { IfErr result (λ e. e ≡ Fault.Memory) }
     {
-        SyntaxToken::found(&self.tree, self.tree.next_token(self.entry))
+        SyntaxToken::found(&self.table, self.table.next_token(self.number))
     }
 
     /// The token of the tree before this one, also an empty one, whatever node it is in.
     pub fn prev_token(&self) -> Result<Option<SyntaxToken>, Fault>
-        ensures ok { IfOk result (λ found. found ≡ option_map (cursor_at self.now.root) (prev_leaf_path self.now.root self.now.path)) }
+        ensures ok { IfOk result (λ found. found ≡ prev_token self.now) }
         ensures err { IfErr result (λ e. e ≡ Fault.Memory) }
     {
-        SyntaxToken::found(&self.tree, self.tree.prev_token(self.entry))
+        SyntaxToken::found(&self.table, self.table.prev_token(self.number))
     }
 
     // The token itself, by the way that a node takes to its first or last token.
     pub(super) fn first_token(&self) -> Result<Option<SyntaxToken>, Fault>
-        ensures ok { IfOk result (λ found. found ≡ option_map (cursor_at self.now.root) (first_leaf_path self.now.root self.now.path)) }
+        ensures ok { IfOk result (λ found. found ≡ first_token self.now) }
         ensures err { IfErr result (λ e. e ≡ Fault.Memory) }
     {
-        SyntaxToken::found(&self.tree, self.tree.first_token(self.entry))
+        SyntaxToken::found(&self.table, self.table.first_token(self.number))
     }
 
     pub(super) fn last_token(&self) -> Result<Option<SyntaxToken>, Fault>
-        ensures ok { IfOk result (λ found. found ≡ option_map (cursor_at self.now.root) (last_leaf_path self.now.root self.now.path)) }
+        ensures ok { IfOk result (λ found. found ≡ last_token self.now) }
         ensures err { IfErr result (λ e. e ≡ Fault.Memory) }
     {
-        SyntaxToken::found(&self.tree, self.tree.last_token(self.entry))
+        SyntaxToken::found(&self.table, self.table.last_token(self.number))
     }
 
     /// The nodes above the token: its parent, and so on up to the root.
     pub fn ancestors(&self) -> Ancestors
-        ensures ok { IfOk result (λ left. left ≡ map (cursor_at self.now.root) (option_map_or ancestor_paths (parent_path self.now.path) [])) }
+        ensures ok { IfOk result (λ list. list ≡ parent_ancestors self.now) }
         ensures err { IfErr result (λ e. e ≡ Fault.Memory) }
     {
-        Ancestors::new(Climb::new(&self.tree, self.tree.parent(self.entry)))
+        Ancestors::new(Climb::new(&self.table, self.table.parent(self.number)))
     }
 
     /// The token, and then its siblings in a direction, nearest first.
     pub fn siblings_with_tokens(&self, direction: Direction) -> SiblingsWithTokens
-        ensures ok { IfOk result (λ left. left ≡ map (element_at self.now.root) (sibling_paths direction self.now.root self.now.path)) }
+        ensures ok { IfOk result (λ list. list ≡ siblings_with_tokens direction self.now) }
         ensures err { IfErr result (λ e. e ≡ Fault.Memory) }
     {
-        SiblingsWithTokens::new(Row::siblings(&self.tree, self.entry, direction))
+        SiblingsWithTokens::new(Row::siblings(&self.table, self.number, direction))
     }
 }
 
@@ -185,10 +182,10 @@ impl Clone for SyntaxToken {
     ghost is_clone = { λ token copy. copy ≡ token };
 
     fn clone(&self) -> Result<SyntaxToken, AllocError> {
-        let tree = self.tree.clone()?;
+        let table = self.table.clone()?;
         Ok(SyntaxToken {
-            tree,
-            entry: self.entry,
+            table,
+            number: self.number,
         })
     }
 }

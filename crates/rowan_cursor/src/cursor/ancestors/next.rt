@@ -10,35 +10,35 @@ ghost use Rattle.rowan_cursor.specs.Yields.{YieldsOrRefuses};
 
 use super::{Climb, ClimbLeft};
 use crate::cursor::SyntaxNode;
-use crate::tree::Tree;
+use crate::table::Table;
 use rowan_green::fault::Fault;
 use std::alloc::AllocError;
 use std::rc::Rc;
 
 impl Climb {
     // The way up from a node, where there is one.
-    pub(in crate::cursor) fn new(tree: &Rc<Tree>, start: Option<usize>) -> ClimbLeft
-        requires { IfSome start (HasNode tree.now.value.entries.items) }
-        ensures { let es = tree.now.value.entries.items in IfOk (rest_of climbed result) (λ left.
+    pub(in crate::cursor) fn new(table: &Rc<Table>, start: Option<usize>) -> ClimbLeft
+        requires { IfSome start (HasNode table.now.value.entries.items) }
+        ensures { let es = table.now.value.entries.items in IfOk (rest_of climbed result) (λ left.
             left ≡ map (cursor_at (root_of es)) (option_map_or ancestor_paths (option_map (path_at es) start) [])) }
     {
         let Some(next) = start else {
             return None;
         };
-        match tree.clone() {
-            Ok(tree) => Some(Ok(Climb { tree, next })),
+        match table.clone() {
+            Ok(table) => Some(Ok(Climb { table, next })),
             Err(refused) => Some(Err(refused)),
         }
     }
 
     // The way from the parent on.
     fn above(self) -> ClimbLeft
-        ensures { rest_of climbed result ≡ Ok (map (cursor_at (root_of self.tree.value.entries.items))
-            (option_map_or ancestor_paths (parent_path (path_at self.tree.value.entries.items self.next)) [])) }
+        ensures { rest_of climbed result ≡ Ok (map (cursor_at (root_of self.table.value.entries.items))
+            (option_map_or ancestor_paths (parent_path (path_at self.table.value.entries.items self.next)) [])) }
     {
-        let next = self.tree.parent(self.next)?;
-        let Climb { tree, next: _ } = self;
-        Some(Ok(Climb { tree, next }))
+        let next = self.table.parent(self.next)?;
+        let Climb { table, next: _ } = self;
+        Some(Ok(Climb { table, next }))
     }
 
     // An equal one, which goes on by itself.
@@ -49,9 +49,9 @@ impl Climb {
             None => Ok(None),
             Some(Err(_)) => Ok(Some(Err(AllocError))),
             Some(Ok(climb)) => {
-                let tree = climb.tree.clone()?;
+                let table = climb.table.clone()?;
                 Ok(Some(Ok(Climb {
-                    tree,
+                    table,
                     next: climb.next,
                 })))
             }
@@ -67,7 +67,7 @@ pub(in crate::cursor) fn next_ancestor(left: &mut ClimbLeft) -> Option<Result<Sy
         Ok(climb) => climb,
         Err(refused) => return Some(Err(Fault::from(refused))),
     };
-    match SyntaxNode::at(&climb.tree, climb.next) {
+    match SyntaxNode::at(&climb.table, climb.next) {
         Ok(node) => {
             *left = climb.above();
             Some(Ok(node))

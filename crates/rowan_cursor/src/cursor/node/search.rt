@@ -2,8 +2,9 @@
 ghost use Rattle.std.specs.Prelude.{◌≡◌, ◌+◌, ◌<◌, ◌≤◌, IfOk, IfErr, IsSome};
 ghost use Rattle.rowan_green.specs.Search.{digits};
 ghost use Rattle.rowan_green.specs.Steps.{count_limit};
+ghost use Rattle.rowan_cursor.specs.Cursor.{text_range};
 ghost use Rattle.rowan_cursor.specs.Moves.{child_count};
-ghost use Rattle.rowan_cursor.specs.Search.{range_at, LiesIn, IsRangeChild, Covers, StandsWhere, Finds};
+ghost use Rattle.rowan_cursor.specs.Search.{LiesIn, FindsChild, IsCovering};
 
 use crate::cursor::{SyntaxElement, SyntaxNode, element};
 use rowan_green::fault::Fault;
@@ -16,8 +17,7 @@ impl SyntaxNode {
     /// first one, if it begins there. `None` where the range does not lie in one child. Refused only for want of memory, where the
     /// tree cannot be shared once more.
     pub fn child_or_token_at_range(&self, range: TextRange) -> Result<Option<SyntaxElement>, Fault>
-        ensures ok { let root = self.now.root in
-            IfOk result (Finds root (IsRangeChild root range self.now.path)) }
+        ensures ok { IfOk result (FindsChild range self.now) }
         ensures err { IfErr result (λ e. e ≡ Fault.Memory) }
     {
         let mut steps = Steps::new();
@@ -32,8 +32,7 @@ impl SyntaxNode {
         steps: &mut Steps,
     ) -> Result<Option<SyntaxElement>, Fault>
         // the answer
-        ensures ok { let root = self.now.root in
-            IfOk result (Finds root (IsRangeChild root range self.now.path)) }
+        ensures ok { IfOk result (FindsChild range self.now) }
         ensures err { IfErr result (λ e. e ≡ Fault.Memory) }
 
         // the counters
@@ -45,8 +44,8 @@ impl SyntaxNode {
         ensures visits { steps.new.visits ≡ steps.old.visits }
     {
         element::found(
-            &self.tree,
-            self.tree.child_at_range(self.entry, range, steps),
+            &self.table,
+            self.table.child_at_range(self.number, range, steps),
         )
     }
 
@@ -54,11 +53,10 @@ impl SyntaxNode {
     /// to child at the range, as `child_or_token_at_range` finds it. The range lies in the node's, as `contains_range` tests.
     /// Refused only for want of memory, where the tree cannot be shared once more.
     pub fn covering_element(&self, range: TextRange) -> Result<SyntaxElement, Fault>
-        requires { LiesIn range (range_at self.now) }
-        ensures ok { let root = self.now.root in
-            IfOk result (StandsWhere root (Covers root range self.now.path)) }
+        requires { LiesIn range (text_range self.now) }
+        ensures ok { IfOk result (IsCovering range self.now) }
         ensures err { IfErr result (λ e. e ≡ Fault.Memory) }
     {
-        element::at(&self.tree, self.tree.covering_element(self.entry, range))
+        element::at(&self.table, self.table.covering_element(self.number, range))
     }
 }

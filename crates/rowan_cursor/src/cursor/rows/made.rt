@@ -7,7 +7,7 @@ ghost use Rattle.rowan_cursor.specs.Rows.{row_elements, row_nodes, rest_of, has_
 ghost use Rattle.rowan_cursor.specs.Table.{root_of, path_at};
 
 use super::{Row, RowLeft};
-use crate::tree::Tree;
+use crate::table::Table;
 use rowan_green::utility_types::Direction;
 use std::alloc::AllocError;
 use std::ops::Range;
@@ -15,19 +15,19 @@ use std::rc::Rc;
 
 impl Row {
     // A row that shares the tree once more, or the refusal to.
-    fn shared(tree: &Rc<Tree>, row: Range<usize>, direction: Direction) -> RowLeft
-        requires { row.end ≤ length tree.now.value.entries.items }
-        ensures elements { let es = tree.now.value.entries.items in IfOk (rest_of row_elements result) (λ left.
+    fn shared(table: &Rc<Table>, row: Range<usize>, direction: Direction) -> RowLeft
+        requires { row.end ≤ length table.now.value.entries.items }
+        ensures elements { let es = table.now.value.entries.items in IfOk (rest_of row_elements result) (λ left.
             left ≡ map (element_of es) (in_order direction (numbers row.start (row.end - row.start)))) }
-        ensures nodes { let es = tree.now.value.entries.items in IfOk (rest_of row_nodes result) (λ left.
+        ensures nodes { let es = table.now.value.entries.items in IfOk (rest_of row_nodes result) (λ left.
             left ≡ map (cursor_of es) (filter (has_node es) (in_order direction (numbers row.start (row.end - row.start))))) }
     {
-        let tree = match tree.clone() {
-            Ok(tree) => tree,
+        let table = match table.clone() {
+            Ok(table) => table,
             Err(refused) => return Some(Err(refused)),
         };
         Some(Ok(Row {
-            tree,
+            table,
             start: row.start,
             end: row.end,
             direction,
@@ -35,36 +35,36 @@ impl Row {
     }
 
     // All children of an entry.
-    pub(in crate::cursor) fn children(tree: &Rc<Tree>, number: usize) -> RowLeft
-        requires { number < length tree.now.value.entries.items }
-        ensures elements { let es = tree.now.value.entries.items in IfOk (rest_of row_elements result) (λ left.
+    pub(in crate::cursor) fn children(table: &Rc<Table>, number: usize) -> RowLeft
+        requires { number < length table.now.value.entries.items }
+        ensures elements { let es = table.now.value.entries.items in IfOk (rest_of row_elements result) (λ left.
             left ≡ map (element_at (root_of es)) (child_paths (root_of es) (path_at es number))) }
-        ensures nodes { let es = tree.now.value.entries.items in IfOk (rest_of row_nodes result) (λ left.
+        ensures nodes { let es = table.now.value.entries.items in IfOk (rest_of row_nodes result) (λ left.
             left ≡ map (cursor_at (root_of es)) (nodes_at (root_of es) (child_paths (root_of es) (path_at es number)))) }
     {
-        Row::shared(tree, tree.child_numbers(number), Direction::Next)
+        Row::shared(table, table.child_numbers(number), Direction::Next)
     }
 
     // An entry and its siblings in one direction.
     pub(in crate::cursor) fn siblings(
-        tree: &Rc<Tree>,
+        table: &Rc<Table>,
         number: usize,
         direction: Direction,
     ) -> RowLeft
-        requires { number < length tree.now.value.entries.items }
-        ensures elements { let es = tree.now.value.entries.items in IfOk (rest_of row_elements result) (λ left.
+        requires { number < length table.now.value.entries.items }
+        ensures elements { let es = table.now.value.entries.items in IfOk (rest_of row_elements result) (λ left.
             left ≡ map (element_at (root_of es)) (sibling_paths direction (root_of es) (path_at es number))) }
-        ensures nodes { let es = tree.now.value.entries.items in IfOk (rest_of row_nodes result) (λ left.
+        ensures nodes { let es = table.now.value.entries.items in IfOk (rest_of row_nodes result) (λ left.
             left ≡ map (cursor_at (root_of es)) (nodes_at (root_of es) (sibling_paths direction (root_of es) (path_at es number)))) }
     {
         match direction {
             Direction::Next => {
-                Row::shared(tree, number..tree.following_numbers(number).end, direction)
+                Row::shared(table, number..table.following_numbers(number).end, direction)
             }
             Direction::Prev => {
                 Row::shared(
-                    tree,
-                    tree.preceding_numbers(number).start..number + 1,
+                    table,
+                    table.preceding_numbers(number).start..number + 1,
                     direction,
                 )
             }
@@ -80,9 +80,9 @@ impl Row {
             None => Ok(None),
             Some(Err(_)) => Ok(Some(Err(AllocError))),
             Some(Ok(row)) => {
-                let tree = row.tree.clone()?;
+                let table = row.table.clone()?;
                 Ok(Some(Ok(Row {
-                    tree,
+                    table,
                     start: row.start,
                     end: row.end,
                     direction: row.direction,

@@ -16,7 +16,7 @@ impl Row {
         ensures none { IfNone result (row_numbers self.old ≡ []) }
         ensures some { IfSome result (λ n. row_numbers self.old ≡ n ∷ row_numbers self.new) }
         ensures within { IfSome result (λ n. n < length (entries_of self.old)) }
-        ensures tree { self.new.tree ≡ self.old.tree }
+        ensures table { self.new.table ≡ self.old.table }
     {
         if self.start >= self.end {
             return None;
@@ -40,10 +40,10 @@ impl Row {
         ensures some { IfSome result (λ n. filter (has_node (entries_of self.old)) (row_numbers self.old)
             ≡ n ∷ filter (has_node (entries_of self.old)) (row_numbers self.new)) }
         ensures node { IfSome result (HasNode (entries_of self.old)) }
-        ensures tree { self.new.tree ≡ self.old.tree }
+        ensures table { self.new.table ≡ self.old.table }
     {
         while let Some(number) = self.next() {
-            if self.tree.is_node(number) {
+            if self.table.is_node(number) {
                 return Some(number);
             }
         }
@@ -60,7 +60,7 @@ pub(in crate::cursor) fn next_element(left: &mut RowLeft) -> Option<Result<Synta
         Err(refused) => return Some(Err(Fault::from(refused))),
     };
     let number = row.next()?;
-    match element::at(&row.tree, number) {
+    match element::at(&row.table, number) {
         Ok(element) => {
             *left = Some(Ok(row));
             Some(Ok(element))
@@ -78,7 +78,7 @@ pub(in crate::cursor) fn next_node(left: &mut RowLeft) -> Option<Result<SyntaxNo
         Err(refused) => return Some(Err(Fault::from(refused))),
     };
     let number = row.next_node()?;
-    match SyntaxNode::at(&row.tree, number) {
+    match SyntaxNode::at(&row.table, number) {
         Ok(node) => {
             *left = Some(Ok(row));
             Some(Ok(node))

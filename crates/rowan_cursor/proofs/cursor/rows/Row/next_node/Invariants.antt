@@ -5,7 +5,7 @@ use Rattle.rowan_cursor.proofs.cursor.rows.Row.next_node.Given as goal
 
 abbrev pub invariant-loop-number : goal.invariant-loop-number
 invariant-loop-number l =
-    (l.self.tree ≡ l.initial.self.tree)
+    (l.self.table ≡ l.initial.self.table)
     × (filter (has_node (entries_of l.initial.self)) (row_numbers l.self)
     ≡ filter (has_node (entries_of l.initial.self)) (row_numbers l.initial.self))
 

@@ -7,7 +7,7 @@ use Rattle.rowan_cursor.proofs.cursor.rows.Row.siblings.Goals as goal
 
 pub returns-in-Next-clause-elements : goal.returns-in-Next-clause-elements
 returns-in-Next-clause-elements c =
-    let es = c.args.tree.now.value.entries.items in
+    let es = c.args.table.now.value.entries.items in
     let n = c.args.number in let d = c.args.direction in
     let row = c.following_numbers.result in
     elements-left es (in_order d (numbers n (row.end - n))) (sibling_paths d (root_of es) (path_at es n)) (rest_of row_elements c.shared.result)
@@ -15,7 +15,7 @@ returns-in-Next-clause-elements c =
 
 pub returns-in-Next-clause-nodes : goal.returns-in-Next-clause-nodes
 returns-in-Next-clause-nodes c =
-    let es = c.args.tree.now.value.entries.items in
+    let es = c.args.table.now.value.entries.items in
     let n = c.args.number in let d = c.args.direction in
     let row = c.following_numbers.result in
     nodes-left es (in_order d (numbers n (row.end - n))) (sibling_paths d (root_of es) (path_at es n)) (rest_of row_nodes c.shared.result)
@@ -23,7 +23,7 @@ returns-in-Next-clause-nodes c =
 
 pub returns-in-Prev-clause-elements : goal.returns-in-Prev-clause-elements
 returns-in-Prev-clause-elements c =
-    let es = c.args.tree.now.value.entries.items in
+    let es = c.args.table.now.value.entries.items in
     let n = c.args.number in let d = c.args.direction in
     let row = c.preceding_numbers.result in
     elements-left es (in_order d (numbers row.start (n + 1 - row.start))) (sibling_paths d (root_of es) (path_at es n)) (rest_of row_elements c.shared-in-Prev.result)
@@ -31,7 +31,7 @@ returns-in-Prev-clause-elements c =
 
 pub returns-in-Prev-clause-nodes : goal.returns-in-Prev-clause-nodes
 returns-in-Prev-clause-nodes c =
-    let es = c.args.tree.now.value.entries.items in
+    let es = c.args.table.now.value.entries.items in
     let n = c.args.number in let d = c.args.direction in
     let row = c.preceding_numbers.result in
     nodes-left es (in_order d (numbers row.start (n + 1 - row.start))) (sibling_paths d (root_of es) (path_at es n)) (rest_of row_nodes c.shared-in-Prev.result)

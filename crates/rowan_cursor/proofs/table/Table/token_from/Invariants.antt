@@ -1,0 +1,21 @@
+use Rattle.std.proofs.Common.{◌≡◌, ◌<◌, true, Some, length}
+use Rattle.rowan_green.specs.declared.utility_types.NodeOrToken.TheVariants.{Node}
+use Rattle.rowan_green.specs.Path.{begins}
+use Rattle.rowan_cursor.specs.Pass.{leaf_list, element_list, entered, first_inside}
+use Rattle.rowan_cursor.specs.Table.{root_of, path_at}
+use Rattle.rowan_cursor.proofs.table.Table.token_from.Given as goal
+
+-- what is to be found from here is what is to be found from the start
+abbrev pub invariant-loop-number : goal.invariant-loop-number
+invariant-loop-number l =
+    let es = l.self.entries.items in
+    (l.number < length es)
+    × (begins (path_at es l.top) (path_at es l.number) ≡ true)
+    × (first_inside (path_at es l.top) (entered leaf_list (Some (Node (root_of es))) (path_at es l.number))
+    ≡ first_inside (path_at es l.top) (entered leaf_list (Some (Node (root_of es))) (path_at es l.start)))
+
+-- the elements that are left
+abbrev pub decreases-loop-number : goal.decreases-loop-number
+decreases-loop-number l =
+    let es = l.self.entries.items in
+    length (entered element_list (Some (Node (root_of es))) (path_at es l.number))

@@ -1,8 +1,0 @@
-use Rattle.std.proofs.Common.{Some, sym, ◌∙◌, ap}
-use Rattle.rowan_cursor.specs.Table.{green_in}
-use Rattle.rowan_cursor.proofs.TableLemmas.{kept-none}
-use Rattle.rowan_cursor.proofs.tree.Tree.is_node.Goals as goal
-
-pub returns-in_default : goal.returns-in_default
-returns-in_default c =
-    sym (kept-none _ (c.entry.ensures.green ∙ ap (λ k. Some (green_in k)) c.in_default.is))
