@@ -1,7 +1,9 @@
 pub mod ClimbLemmas
+pub mod CoverLemmas
 pub mod EndLemmas
 pub mod FillLemmas
 pub mod LeafLemmas
+pub mod OffsetLemmas
 pub mod PathLemmas
 pub mod RowLemmas
 pub mod RowViews
@@ -9,3 +11,4 @@ pub mod SearchLemmas
 pub mod SizeLemmas
 pub mod TableLemmas
 pub mod TokenLemmas
+pub mod TouchLemmas

@@ -3,9 +3,9 @@
 --     The covering element is the last of it.
 --     The leaves that touch an offset are those with bytes in whose range the offset lies, the ends of the range included.
 -- All offsets are counted from the start of the root's text.
-use Rattle.std.specs.Prelude.{◌≡◌, ℕ, ◌-◌, ◌≤◌, Bool, ◌&&◌, nat_lt, nat_le, List, [], ◌∷◌, ◌++◌, map, filter, Option, Some, None}
+use Rattle.std.specs.Prelude.{◌≡◌, ℕ, ◌+◌, ◌-◌, ◌<◌, ◌≤◌, Bool, true, ◌&&◌, nat_lt, nat_le, List, [], ◌∷◌, ◌++◌, map, filter, Option, Some, None}
 use Rattle.rowan_green.specs.declared.utility_types.NodeOrToken.TheVariants.{Node, Token}
-use Rattle.rowan_green.specs.Term.{NodeTerm}
+use Rattle.rowan_green.specs.Term.{TokenTerm, NodeTerm, token_len}
 use Rattle.rowan_green.specs.Path.{Path, subterm, begins, offset, range}
 use Rattle.rowan_green.specs.Search.{IsChildAt}
 use Rattle.rowan_green.specs.Span.{Span}
@@ -51,6 +51,14 @@ touches root x q =
 -- the leaves at or below a path that touch an offset, in order
 abbrev pub touching : NodeTerm → ℕ → Path → List Path
 touching root x p = filter (touches root x) (filter (begins p) (leaf_paths (Node root)))
+
+-- the token at q, at or below the element at p, has the byte behind an offset
+pub record IsLeafOver (root : NodeTerm) (x : ℕ) (p q : Path) : Type 0 where
+  pub token : TokenTerm
+  pub is : subterm (Node root) q ≡ Some (Token token)
+  pub below : begins p q ≡ true
+  pub from : offset (Node root) q ≤ x
+  pub to : x < offset (Node root) q + token_len token
 
 -- ---- answers
 

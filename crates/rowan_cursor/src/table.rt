@@ -1,7 +1,7 @@
 //! The table that all cursors of one tree share: an entry for each node and token.
 
-mod elements;
 mod draft;
+mod elements;
 mod rows;
 mod search;
 mod tokens;

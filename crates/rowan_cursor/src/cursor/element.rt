@@ -29,7 +29,10 @@ pub(super) fn at(table: &Rc<Table>, number: usize) -> Result<SyntaxElement, Faul
 }
 
 // The same, where there is a number.
-pub(super) fn found(table: &Rc<Table>, number: Option<usize>) -> Result<Option<SyntaxElement>, Fault>
+pub(super) fn found(
+    table: &Rc<Table>,
+    number: Option<usize>,
+) -> Result<Option<SyntaxElement>, Fault>
     requires { IfSome number (λ n. n < length table.now.value.entries.items) }
     ensures ok { IfOk result (λ found. found ≡ option_map (element_of table.now.value.entries.items) number) }
     ensures err { IfErr result (λ e. e ≡ Fault.Memory) }

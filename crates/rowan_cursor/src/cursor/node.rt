@@ -57,7 +57,10 @@ impl SyntaxNode {
     }
 
     // The same, where there is a number.
-    pub(super) fn found(table: &Rc<Table>, number: Option<usize>) -> Result<Option<SyntaxNode>, Fault>
+    pub(super) fn found(
+        table: &Rc<Table>,
+        number: Option<usize>,
+    ) -> Result<Option<SyntaxNode>, Fault>
         requires { IfSome number (HasNode table.now.value.entries.items) }
         ensures ok { IfOk result (λ found. found ≡ option_map (cursor_of table.now.value.entries.items) number) }
         ensures err { IfErr result (λ e. e ≡ Fault.Memory) }

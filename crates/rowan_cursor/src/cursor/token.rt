@@ -52,7 +52,10 @@ impl SyntaxToken {
     }
 
     // The same, where there is a number.
-    pub(super) fn found(table: &Rc<Table>, number: Option<usize>) -> Result<Option<SyntaxToken>, Fault>
+    pub(super) fn found(
+        table: &Rc<Table>,
+        number: Option<usize>,
+    ) -> Result<Option<SyntaxToken>, Fault>
         requires { IfSome number (HasToken table.now.value.entries.items) }
         ensures ok { IfOk result (λ found. found ≡ option_map (cursor_of table.now.value.entries.items) number) }
         ensures err { IfErr result (λ e. e ≡ Fault.Memory) }

@@ -1,15 +1,21 @@
 //! Searches by place: among the children of one node by halves, and so down from node to child.
-ghost use Rattle.std.specs.Prelude.{◌≡◌, ℕ, ◌+◌, ◌<◌, ◌≤◌, true, false, IfSome, IsNone, IsSome, length};
-ghost use Rattle.rowan_green.specs.Path.{Path, begins};
+ghost use Rattle.std.specs.Prelude.{◌≡◌, ℕ, ◌+◌, ◌<◌, ◌≤◌, ◌↔◌, IfSome, IsNone, IsSome, length, map};
+ghost use Rattle.std.specs.List.{AllByRecursion};
+ghost use Rattle.rowan_green.specs.declared.utility_types.NodeOrToken.TheVariants.{Node};
+ghost use Rattle.rowan_green.specs.Path.{Path, range};
 ghost use Rattle.rowan_green.specs.Search.{digits};
+ghost use Rattle.rowan_green.specs.Span.{Holds};
 ghost use Rattle.rowan_green.specs.Steps.{count_limit};
+ghost use Rattle.rowan_green.specs.TokenAtOffset.{found};
+ghost use Rattle.rowan_cursor.specs.CursorView.{HasToken};
 ghost use Rattle.rowan_cursor.specs.Moves.{child_count};
-ghost use Rattle.rowan_cursor.specs.Search.{IsRangeChild, Covers};
+ghost use Rattle.rowan_cursor.specs.Search.{IsRangeChild, Covers, IsLeafOver, touching};
 ghost use Rattle.rowan_cursor.specs.Table.{root_of, path_at};
 
 use super::{Kept, Table};
 use rowan_green::steps::Steps;
-use rowan_green::text::TextRange;
+use rowan_green::text::{TextRange, TextSize};
+use rowan_green::utility_types::TokenAtOffset;
 
 impl Table {
     /// The child at a range of the root's text. Counts the comparisons.
@@ -61,5 +67,46 @@ impl Table {
             covering = child;
         }
         covering
+    }
+
+    // The token that has a byte of the root's text, at or below an entry that has it.
+    fn leaf_over(&self, number: usize, byte: TextSize) -> usize
+        requires number { number < length self.now.entries.items }
+        requires from { let es = self.now.entries.items in (range (Node (root_of es)) (path_at es number)).start ≤ byte }
+        requires to { let es = self.now.entries.items in byte < (range (Node (root_of es)) (path_at es number)).end }
+        ensures leaf { let es = self.now.entries.items in
+            IsLeafOver (root_of es) byte (path_at es number) (path_at es result) }
+        ensures token { HasToken self.now.entries.items result }
+    {
+        self.covering_element(number, TextRange::at(byte, TextSize::from(1)))
+    }
+
+    /// The tokens at or below an entry that touch an offset of the root's text, which lies in that of the entry or at an end of it.
+    pub(crate) fn token_at_offset(&self, number: usize, offset: TextSize) -> TokenAtOffset<usize>
+        requires number { number < length self.now.entries.items }
+        requires offset { let es = self.now.entries.items in Holds (range (Node (root_of es)) (path_at es number)) offset }
+        ensures found { let es = self.now.entries.items in
+            map (path_at es) (found result) ≡ touching (root_of es) offset (path_at es number) }
+        ensures none { let es = self.now.entries.items in let whole = range (Node (root_of es)) (path_at es number) in
+            (result ≡ TokenAtOffset.None) ↔ (whole.start ≡ whole.end) }
+        ensures tokens { AllByRecursion (HasToken self.now.entries.items) (found result) }
+    {
+        let range = self.text_range(number);
+        if range.is_empty() {
+            return TokenAtOffset::None;
+        }
+        if offset == range.start() {
+            return TokenAtOffset::Single(self.leaf_over(number, offset));
+        }
+        let left = self.leaf_over(number, TextSize::from(u32::from(offset) - 1));
+        if offset == range.end() {
+            return TokenAtOffset::Single(left);
+        }
+        let right = self.leaf_over(number, offset);
+        if left == right {
+            TokenAtOffset::Single(left)
+        } else {
+            TokenAtOffset::Between(left, right)
+        }
     }
 }

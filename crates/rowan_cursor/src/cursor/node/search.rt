@@ -1,15 +1,18 @@
 //! Searches by place: at a range or an offset of the root's text.
-ghost use Rattle.std.specs.Prelude.{◌≡◌, ◌+◌, ◌<◌, ◌≤◌, IfOk, IfErr, IsSome};
+ghost use Rattle.std.specs.Prelude.{◌≡◌, ◌+◌, ◌<◌, ◌≤◌, ◌↔◌, [], IfOk, IfErr, IsSome};
 ghost use Rattle.rowan_green.specs.Search.{digits};
+ghost use Rattle.rowan_green.specs.Span.{Holds};
 ghost use Rattle.rowan_green.specs.Steps.{count_limit};
-ghost use Rattle.rowan_cursor.specs.Cursor.{text_range};
+ghost use Rattle.rowan_green.specs.TokenAtOffset.{found};
+ghost use Rattle.rowan_cursor.specs.Cursor.{text_at, text_range};
 ghost use Rattle.rowan_cursor.specs.Moves.{child_count};
-ghost use Rattle.rowan_cursor.specs.Search.{LiesIn, FindsChild, IsCovering};
+ghost use Rattle.rowan_cursor.specs.Search.{LiesIn, FindsChild, IsCovering, tokens_at};
 
-use crate::cursor::{SyntaxElement, SyntaxNode, element};
+use crate::cursor::{SyntaxElement, SyntaxNode, SyntaxToken, element};
 use rowan_green::fault::Fault;
 use rowan_green::steps::Steps;
-use rowan_green::text::TextRange;
+use rowan_green::text::{TextRange, TextSize};
+use rowan_green::utility_types::TokenAtOffset;
 
 impl SyntaxNode {
     /// The child at a range of the root's text, in bytes: the child that has all bytes of the range. An empty range is a place
@@ -58,5 +61,29 @@ impl SyntaxNode {
         ensures err { IfErr result (λ e. e ≡ Fault.Memory) }
     {
         element::at(&self.table, self.table.covering_element(self.number, range))
+    }
+
+    /// The tokens of this node that touch an offset of the root's text, in bytes: those with bytes that begin there, end there, or
+    /// have the offset between their bytes. That is one token, or two neighbours where the offset lies between them; `None` only
+    /// of an empty node. The offset lies in the node's range or is an end of it, as `contains_inclusive` tests. Refused only for
+    /// want of memory, where the tree cannot be shared once or twice more.
+    pub fn token_at_offset(&self, offset: TextSize) -> Result<TokenAtOffset<SyntaxToken>, Fault>
+        requires { Holds (text_range self.now) offset }
+        ensures ok { IfOk result (λ tokens. found tokens ≡ tokens_at offset self.now) }
+        ensures none { IfOk result (λ tokens. (tokens ≡ TokenAtOffset.None) ↔ (text_at self.now ≡ [])) }
+        ensures err { IfErr result (λ e. e ≡ Fault.Memory) }
+    {
+        match self.table.token_at_offset(self.number, offset) {
+            TokenAtOffset::None => Ok(TokenAtOffset::None),
+            TokenAtOffset::Single(token) => {
+                let token = SyntaxToken::at(&self.table, token)?;
+                Ok(TokenAtOffset::Single(token))
+            }
+            TokenAtOffset::Between(left, right) => {
+                let left = SyntaxToken::at(&self.table, left)?;
+                let right = SyntaxToken::at(&self.table, right)?;
+                Ok(TokenAtOffset::Between(left, right))
+            }
+        }
     }
 }

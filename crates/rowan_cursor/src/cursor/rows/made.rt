@@ -59,7 +59,11 @@ impl Row {
     {
         match direction {
             Direction::Next => {
-                Row::shared(table, number..table.following_numbers(number).end, direction)
+                Row::shared(
+                    table,
+                    number..table.following_numbers(number).end,
+                    direction,
+                )
             }
             Direction::Prev => {
                 Row::shared(
