@@ -1,5 +1,5 @@
 -- Laws of coverings: what covers a range has it, and what covers one byte is a token.
-use Rattle.std.proofs.Common.{◌≡◌, ℕ, suc, ◌+◌, ◌-◌, ◌<◌, List, [], ◌∷◌, ◌++◌, Some, refl, sym, ◌∙◌, ap, subst, arith, inl, inr, append_assoc}
+use Rattle.std.proofs.Common.{◌≡◌, ℕ, suc, ◌+◌, ◌-◌, ◌<◌, List, [], ◌∷◌, ◌++◌, Some, refl, sym, ◌∙◌, ap, subst, arith, inl, inr, append_assoc, Bool, true, false}
 use Rattle.std.proofs.lemmas.Bool.{cases_lt}
 use Rattle.std.proofs.lemmas.List.{append-nil}
 use Rattle.rowan_green.specs.declared.utility_types.NodeOrToken.TheVariants.{Node, Token}
@@ -8,8 +8,8 @@ use Rattle.rowan_green.specs.Span.{Span}
 use Rattle.rowan_green.specs.Term.{NodeTerm, Term, node_children, term_len, sum_of_lens}
 use Rattle.rowan_green.specs.Path.{Path, subterm, begins, offset, len_of, range}
 use Rattle.rowan_green.proofs.SearchLemmas.{has-range}
-use Rattle.rowan_cursor.specs.Moves.{children_of}
-use Rattle.rowan_cursor.specs.Search.{LiesIn, IsRangeChild, IsChain, chain_end, Covers, IsLeafOver}
+use Rattle.rowan_cursor.specs.Moves.{children_of, Element, is_node_at, element_if, element_at, place_of, cursor_at}
+use Rattle.rowan_cursor.specs.Search.{LiesIn, IsRangeChild, IsChain, chain_end, Covers, IsLeafOver, StandsWhere}
 use Rattle.rowan_cursor.proofs.PathLemmas.{subterm-child, offset-child, child_start-next, node_len-children, begins-own}
 use Rattle.rowan_cursor.proofs.TableLemmas.{slice_get-some}
 
@@ -112,3 +112,15 @@ pub covers-byte : (root : NodeTerm) (x : ℕ) (p q : Path) (t : Term) → subter
 covers-byte root x p q t there h c =
     let s = covers-has_span root (byte_at x) p q t there h c in
     token-over root x p q s.term s.stands s (covers-ends root (byte_at x) p q c)
+
+-- ---- elements
+
+pub place_of-element : (root : NodeTerm) (q : Path) → place_of (element_at root q) ≡ cursor_at root q
+place_of-element root q = by (is_node_at root q)
+  where
+    by : (b : Bool) → place_of (element_if b (cursor_at root q)) ≡ cursor_at root q
+    by true = refl
+    by false = refl
+
+pub place_of-stands : (root : NodeTerm) (P : Path → Type 0) (e : Element) (s : StandsWhere root P e) → place_of e ≡ cursor_at root s.path
+place_of-stands root P e s = ap place_of s.is ∙ place_of-element root s.path

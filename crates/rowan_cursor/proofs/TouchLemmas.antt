@@ -1,12 +1,13 @@
 -- Laws of leaves that touch an offset, among elements side by side.
-use Rattle.std.proofs.Common.{◌≡◌, true, false, ℕ, ◌+◌, ◌<◌, ◌≤◌, Bool, ◌&&◌, List, [], ◌∷◌, filter, Some, inl, inr, refl, sym, ◌∙◌, ap, subst, arith}
-use Rattle.std.specs.Prelude.{nat_lt, nat_le}
-use Rattle.std.proofs.lemmas.Bool.{lt-ltb, le-ltb, le-leb, lt-leb, cond-true, cond-false}
-use Rattle.rowan_green.specs.declared.utility_types.NodeOrToken.TheVariants.{Node}
+use Rattle.std.proofs.Common.{◌≡◌, true, false, ℕ, ◌+◌, ◌-◌, ◌<◌, ◌≤◌, ◌⊎◌, Bool, cond, ◌&&◌, List, [], ◌∷◌, ◌++◌, map, filter, Option, Some, None, inl, inr, refl, sym, ◌∙◌, ap, subst, arith}
+use Rattle.std.specs.Prelude.{nat_lt, nat_le, slice_get}
+use Rattle.std.proofs.lemmas.Bool.{cases_lt, lt-ltb, le-ltb, le-leb, lt-leb, cond-true, cond-false, true≢false}
+use Rattle.rowan_green.specs.declared.utility_types.NodeOrToken.TheVariants.{Node, Token}
 use Rattle.rowan_green.specs.Term.{NodeTerm, Term}
-use Rattle.rowan_green.specs.Path.{Path, subterm, begins, offset, len_of}
-use Rattle.rowan_cursor.specs.Moves.{leaf_paths}
-use Rattle.rowan_cursor.specs.Search.{touches, touching, IsLeafOver}
+use Rattle.rowan_green.specs.Path.{Path, term_children, subterm_of, subterm, begins, offset, len_of}
+use Rattle.rowan_cursor.specs.Cursor.{Cursor, term_at, text_range}
+use Rattle.rowan_cursor.specs.Moves.{cursor_at, leaf_paths}
+use Rattle.rowan_cursor.specs.Search.{touches, touching, tokens_at, IsLeafOver}
 use Rattle.rowan_cursor.proofs.OffsetLemmas.{Fill, IsAmong, leaves_below-fill, among-leaves_below}
 use Rattle.rowan_cursor.proofs.PathLemmas.{begins-rest}
 
@@ -177,3 +178,79 @@ pub touching-within : (root : NodeTerm) (x y : ℕ) (p a b : Path) (u : Term) �
 touching-within root x y p a b u there e over last =
     beside root x (start_at root p) (end_at root p) (filter (begins p) (leaf_paths (Node root))) a b (leaves_below-fill (Node root) p u there) (among root p a u y there over) (among root p b u x there last)
     (omega (arith, over.from)) (omega (arith, leaf-end root y p a over)) last.from (leaf-end root x p b last)
+
+-- ---- one leaf at an offset
+
+among-filter : (P : Path → Bool) (q : Path) (qs : List Path) → IsAmong q qs → P q ≡ true → IsAmong q (filter P qs)
+among-filter P q [] m h = m
+among-filter P q (r ∷ rs) m h = by (P r) refl (λ n. among-filter P q rs n h)
+  where
+    by : (b : Bool) → P r ≡ b → (IsAmong q rs → IsAmong q (filter P rs)) → IsAmong q (cond b (r ∷ filter P rs) (filter P rs))
+    by true e rest = elim m [ inl i ↦ inl i | inr n ↦ inr (rest n) ]
+    by false e rest = elim m [ inl i ↦ absurd (true≢false (sym h ∙ ap P i ∙ e)) | inr n ↦ rest n ]
+
+-- each byte is one of an element
+record HasByte (root : NodeTerm) (x : ℕ) (qs : List Path) : Type 0 where
+  path : Path
+  among : IsAmong path qs
+  from : start_at root path ≤ x
+  to : x < end_at root path
+
+has_byte : (root : NodeTerm) (x s e : ℕ) (qs : List Path) → Fill (Node root) s qs e → s ≤ x → x < e → HasByte root x qs
+has_byte root x s e [] f h k = absurd (omega arith)
+has_byte root x s e (q ∷ qs) f h k = elim (cases_lt x (s + len_of (subterm (Node root) q))) [
+  | inl less ↦ record { path = q; among = inl refl; from = omega (arith, f.0); to = omega (arith, f.0) }
+  | inr more ↦ (
+      let r = has_byte root x (s + len_of (subterm (Node root) q)) e qs f.1 more k in
+      record { path = r.path; among = inr r.among; from = r.from; to = r.to })
+]
+
+only-one : (qs : List Path) (p q : Path) → qs ≡ p ∷ [] → IsAmong q qs → q ≡ p
+only-one [] p q e m = absurd m
+only-one (r ∷ rs) p q e m = by rs e m
+  where
+    by : (us : List Path) → r ∷ us ≡ p ∷ [] → (q ≡ r) ⊎ IsAmong q us → q ≡ p
+    by [] e m = elim m [ inl i ↦ i ∙ cc | inr n ↦ absurd n ]
+    by (u ∷ us) e m = absurd cc
+
+one-among : (root : NodeTerm) (x y s e : ℕ) (qs : List Path) (q : Path) → Fill (Node root) s qs e → x ≡ y + 1 → s < x → x < e → filter (touches root x) qs ≡ q ∷ [] → (start_at root q < x) × (x < end_at root q)
+one-among root x y s e qs q f next from to h =
+    let a = has_byte root y s e qs f (omega arith) (omega arith) in
+    let b = has_byte root x s e qs f (omega arith) to in
+    let left : touches root x a.path ≡ true = yes root x a.path (omega (arith, a.from, a.to)) (omega (arith, a.from)) (omega (arith, a.to)) in
+    let right : touches root x b.path ≡ true = yes root x b.path (omega (arith, b.from, b.to)) b.from (omega (arith, b.to)) in
+    let first : a.path ≡ q = only-one (filter (touches root x) qs) q a.path h (among-filter (touches root x) a.path qs a.among left) in
+    let last : b.path ≡ q = only-one (filter (touches root x) qs) q b.path h (among-filter (touches root x) b.path qs b.among right) in (
+      omega (arith, a.from, ap (start_at root) first),
+      omega (arith, b.to, ap (end_at root) last),
+    )
+
+same_paths : (root : NodeTerm) (qs : List Path) (t : Cursor) → map (cursor_at root) qs ≡ t ∷ [] → (qs ≡ t.path ∷ []) × (t.root ≡ root)
+same_paths root [] t h = absurd cc
+same_paths root (q ∷ []) t h = let e : cursor_at root q ≡ t = cc in (ap (λ (c : Cursor). c.path ∷ []) e, sym (ap (λ (c : Cursor). c.root) e))
+same_paths root (q ∷ r ∷ rs) t h = absurd cc
+
+stands-nonempty : (o : Option Term) → 0 < len_of o → (u : Term) × (o ≡ Some u)
+stands-nonempty None h = absurd (omega arith)
+stands-nonempty (Some u) h = (u, refl)
+
+pub one_token : (c t : Cursor) (x : ℕ) → tokens_at x c ≡ t ∷ [] → (text_range c).start < x → x < (text_range c).end → ((text_range t).start < x) × (x < (text_range t).end)
+one_token c t x h from to =
+    let qs = filter (begins c.path) (leaf_paths (Node c.root)) in
+    let u = stands-nonempty (term_at c) (omega arith) in
+    let p = same_paths c.root (filter (touches c.root x) qs) t h in
+    let r = one-among c.root x (x - 1) (start_at c.root c.path) (end_at c.root c.path) qs t.path (leaves_below-fill (Node c.root) c.path u.0 u.1) (omega arith) from to p.0 in
+    subst (λ (root : NodeTerm). (start_at root t.path < x) × (x < end_at root t.path)) (sym p.1) r
+
+above : (t : Option Term) (p q : Path) (k : Term) → subterm_of t (p ++ q) ≡ Some k → (u : Term) × (subterm_of t p ≡ Some u)
+above None p q k h = absurd cc
+above (Some t) [] q k h = (t, refl)
+above (Some t) (i ∷ p) q k h = above (slice_get (term_children t) i) p q k h
+
+pub token_alone : (c : Cursor) (q : Path) (x : ℕ) → IsLeafOver c.root x c.path q → offset (Node c.root) q < x → tokens_at x c ≡ cursor_at c.root q ∷ []
+token_alone c q x over from =
+    let r = begins-rest c.path q over.below in
+    let u = above (Some (Node c.root)) c.path r.0 (Token over.token) (ap (subterm (Node c.root)) (sym r.1) ∙ over.is) in
+    let before : IsLeafOver c.root (x - 1) c.path q = record { token = over.token; is = over.is; below = over.below; from = omega arith; to = omega (arith, over.to) } in
+    let b = touching-within c.root x (x - 1) c.path q q u.0 u.1 (omega arith) before over in
+    ap (map (cursor_at c.root)) (b.one refl)
