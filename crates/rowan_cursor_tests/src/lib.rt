@@ -12,4 +12,6 @@ mod example;
 #[cfg(test)]
 mod fixture;
 #[cfg(test)]
+mod searches;
+#[cfg(test)]
 mod twins;

@@ -1,13 +1,13 @@
 //! Searches by place: among the children of one node by halves, and so down from node to child.
 ghost use Rattle.std.specs.Prelude.{◌≡◌, ℕ, ◌+◌, ◌<◌, ◌≤◌, ◌↔◌, IfSome, IsNone, IsSome, length, map};
 ghost use Rattle.std.specs.List.{AllByRecursion};
-ghost use Rattle.rowan_green.specs.declared.utility_types.NodeOrToken.TheVariants.{Node};
-ghost use Rattle.rowan_green.specs.Path.{Path, range};
+ghost use Rattle.rowan_green.specs.Path.{Path};
 ghost use Rattle.rowan_green.specs.Search.{digits};
 ghost use Rattle.rowan_green.specs.Span.{Holds};
 ghost use Rattle.rowan_green.specs.Steps.{count_limit};
 ghost use Rattle.rowan_green.specs.TokenAtOffset.{found};
-ghost use Rattle.rowan_cursor.specs.CursorView.{HasToken};
+ghost use Rattle.rowan_cursor.specs.Cursor.{text_range};
+ghost use Rattle.rowan_cursor.specs.CursorView.{cursor_of, HasToken};
 ghost use Rattle.rowan_cursor.specs.Moves.{child_count};
 ghost use Rattle.rowan_cursor.specs.Search.{IsRangeChild, Covers, IsLeafOver, touching};
 ghost use Rattle.rowan_cursor.specs.Table.{root_of, path_at};
@@ -27,16 +27,17 @@ impl Table {
     ) -> Option<usize>
         requires { number < length self.now.entries.items }
         // the answer
-        ensures child { let es = self.now.entries.items in
-            IfSome result (λ n. IsRangeChild (root_of es) range (path_at es number) (path_at es n)) }
-        ensures none { let es = self.now.entries.items in
-            IsNone result → (q : Path) → ¬ IsRangeChild (root_of es) range (path_at es number) q }
+        ensures child { let es = self.now.entries.items in let here = path_at es number in
+            IfSome result (λ n. IsRangeChild (root_of es) range here (path_at es n)) }
+        ensures none { let es = self.now.entries.items in let here = path_at es number in
+            IsNone result → (q : Path) → ¬ IsRangeChild (root_of es) range here q }
         ensures within { IfSome result (λ n. n < length self.now.entries.items) }
         ensures later { IfSome result (λ n. number < n) }
 
         // the counters
         ensures most { let es = self.now.entries.items in
-            steps.new.comparisons ≤ steps.old.comparisons + digits (child_count (root_of es) (path_at es number)) }
+            let children = child_count (root_of es) (path_at es number) in
+            steps.new.comparisons ≤ steps.old.comparisons + digits children }
         ensures least { IsSome result → steps.old.comparisons < count_limit
             → steps.old.comparisons < steps.new.comparisons }
         ensures grows { steps.old.comparisons ≤ steps.new.comparisons }
@@ -72,8 +73,8 @@ impl Table {
     // The token that has a byte of the root's text, at or below an entry that has it.
     fn leaf_over(&self, number: usize, byte: TextSize) -> usize
         requires number { number < length self.now.entries.items }
-        requires from { let es = self.now.entries.items in (range (Node (root_of es)) (path_at es number)).start ≤ byte }
-        requires to { let es = self.now.entries.items in byte < (range (Node (root_of es)) (path_at es number)).end }
+        requires from { (text_range (cursor_of self.now.entries.items number)).start ≤ byte }
+        requires to { byte < (text_range (cursor_of self.now.entries.items number)).end }
         ensures leaf { let es = self.now.entries.items in
             IsLeafOver (root_of es) byte (path_at es number) (path_at es result) }
         ensures token { HasToken self.now.entries.items result }
@@ -81,13 +82,14 @@ impl Table {
         self.covering_element(number, TextRange::at(byte, TextSize::from(1)))
     }
 
-    /// The tokens at or below an entry that touch an offset of the root's text, which lies in that of the entry or at an end of it.
+    /// The tokens at or below an entry that touch an offset of the root's text. The offset lies in the entry's text or at an end
+    /// of it.
     pub(crate) fn token_at_offset(&self, number: usize, offset: TextSize) -> TokenAtOffset<usize>
         requires number { number < length self.now.entries.items }
-        requires offset { let es = self.now.entries.items in Holds (range (Node (root_of es)) (path_at es number)) offset }
+        requires offset { Holds (text_range (cursor_of self.now.entries.items number)) offset }
         ensures found { let es = self.now.entries.items in
             map (path_at es) (found result) ≡ touching (root_of es) offset (path_at es number) }
-        ensures none { let es = self.now.entries.items in let whole = range (Node (root_of es)) (path_at es number) in
+        ensures none { let whole = text_range (cursor_of self.now.entries.items number) in
             (result ≡ TokenAtOffset.None) ↔ (whole.start ≡ whole.end) }
         ensures tokens { AllByRecursion (HasToken self.now.entries.items) (found result) }
     {

@@ -16,9 +16,9 @@ use rowan_green::utility_types::TokenAtOffset;
 
 impl SyntaxNode {
     /// The child at a range of the root's text, in bytes: the child that has all bytes of the range. An empty range is a place
-    /// between bytes, and the child there is the one with bytes on both sides of it, else the last one that ends there, else the
-    /// first one, if it begins there. `None` where the range does not lie in one child. Refused only for want of memory, where the
-    /// tree cannot be shared once more.
+    /// between bytes. The child there is the one with bytes on both sides of it, else the last one that ends there, else the
+    /// first one, if it begins there. `None` where no child has the whole range. Refused only for want of memory, where the tree
+    /// cannot be shared once more.
     pub fn child_or_token_at_range(&self, range: TextRange) -> Result<Option<SyntaxElement>, Fault>
         ensures ok { IfOk result (FindsChild range self.now) }
         ensures err { IfErr result (λ e. e ≡ Fault.Memory) }
@@ -27,8 +27,8 @@ impl SyntaxNode {
         self.child_or_token_at_range_counted(range, &mut steps)
     }
 
-    /// Answers as `child_or_token_at_range` does, and adds to the counter how many children were compared with the range: at most
-    /// as many as the number of all children has binary digits.
+    /// Answers as `child_or_token_at_range` does, is refused as that is, and counts how many children were compared with the
+    /// range: at most as many as the number of all children has binary digits, and one at least where a child is found.
     pub fn child_or_token_at_range_counted(
         &self,
         range: TextRange,
@@ -52,9 +52,9 @@ impl SyntaxNode {
         )
     }
 
-    /// The smallest element that has the whole range of the root's text, in bytes: from this node on, the search goes down from child
-    /// to child at the range, as `child_or_token_at_range` finds it. The range lies in the node's, as `contains_range` tests.
-    /// Refused only for want of memory, where the tree cannot be shared once more.
+    /// The element that covers a range of the root's text, in bytes: from this node on, the search goes down from child to child
+    /// at the range, as `child_or_token_at_range` finds it, and the last one covers it. The range lies in the node's, as
+    /// `contains_range` tests. Refused only for want of memory, where the tree cannot be shared once more.
     pub fn covering_element(&self, range: TextRange) -> Result<SyntaxElement, Fault>
         requires { LiesIn range (text_range self.now) }
         ensures ok { IfOk result (IsCovering range self.now) }
@@ -63,14 +63,15 @@ impl SyntaxNode {
         element::at(&self.table, self.table.covering_element(self.number, range))
     }
 
-    /// The tokens of this node that touch an offset of the root's text, in bytes: those with bytes that begin there, end there, or
-    /// have the offset between their bytes. That is one token, or two neighbours where the offset lies between them; `None` only
-    /// of an empty node. The offset lies in the node's range or is an end of it, as `contains_inclusive` tests. Refused only for
-    /// want of memory, where the tree cannot be shared once or twice more.
+    /// The tokens of this node that touch an offset of the root's text, in bytes: those with bytes that begin there, end there,
+    /// or have the offset between their bytes. That is one token, or two neighbours where the offset lies between them; `None`
+    /// only of an empty node. The offset lies in the node's range or is an end of it, as `contains_inclusive` tests. Refused
+    /// only for want of memory, where the tree cannot be shared once or twice more.
     pub fn token_at_offset(&self, offset: TextSize) -> Result<TokenAtOffset<SyntaxToken>, Fault>
         requires { Holds (text_range self.now) offset }
         ensures ok { IfOk result (λ tokens. found tokens ≡ tokens_at offset self.now) }
-        ensures none { IfOk result (λ tokens. (tokens ≡ TokenAtOffset.None) ↔ (text_at self.now ≡ [])) }
+        ensures none { IfOk result
+            (λ tokens. (tokens ≡ TokenAtOffset.None) ↔ (text_at self.now ≡ [])) }
         ensures err { IfErr result (λ e. e ≡ Fault.Memory) }
     {
         match self.table.token_at_offset(self.number, offset) {
