@@ -1,16 +1,16 @@
 -- The way up, one step at a time.
-use Rattle.std.proofs.Common.{◌≡◌, ℕ, [], ◌∷◌, ◌++◌, map, refl, sym, ◌∙◌, ap, Ok}
-use Rattle.std.specs.Prelude.{Option, Some, Result}
+use Rattle.std.proofs.Common.{◌≡◌, ℕ, List, [], ◌∷◌, ◌++◌, map, refl, sym, ◌∙◌, ap, Ok}
+use Rattle.std.specs.Prelude.{Option, Some, None}
 use Rattle.std.specs.Option.{option_map, option_map_or}
-use Rattle.std.specs.declared.alloc.AllocError.{AllocError}
 use Rattle.rowan_green.specs.Path.{Path}
-use Rattle.rowan_cursor.specs.declared.cursor.ancestors.Climb.{Climb}
-use Rattle.rowan_cursor.specs.Climb.{climbed}
+use Rattle.rowan_green.specs.Term.{NodeTerm}
+use Rattle.rowan_cursor.specs.declared.cursor.climb.Climb.{Climb}
+use Rattle.rowan_cursor.specs.declared.cursor.remainder.Remainder.{Remainder}
+use Rattle.rowan_cursor.specs.declared.cursor.remainder.Remainder.TheVariants.{Walk}
 use Rattle.rowan_cursor.specs.Cursor.{Cursor}
-use Rattle.rowan_cursor.specs.CursorView.{cursor_of}
-use Rattle.rowan_cursor.specs.Moves.{cursor_at, ancestor_paths, parent_path}
-use Rattle.rowan_cursor.specs.Rows.{rest_of}
-use Rattle.rowan_cursor.specs.Table.{root_of, path_at}
+use Rattle.rowan_cursor.specs.Moves.{cursor_at, ancestor_paths, parent_path, ancestors, parent_ancestors}
+use Rattle.rowan_cursor.specs.TableView.{cursor_of}
+use Rattle.rowan_cursor.specs.Walks.{climb_nodes, rest_of}
 use Rattle.rowan_cursor.specs.Yields.{Rest, YieldsOrRefuses}
 
 -- a path that is not empty has a parent
@@ -28,9 +28,20 @@ ancestors-first (i ∷ j ∷ p) =
     ap (λ ps. map (λ q. i ∷ q) ps ++ [] ∷ []) e
     ∙ sym (ap (λ o. (i ∷ j ∷ p) ∷ option_map_or ancestor_paths (option_map (λ q. i ∷ q) o) []) h.1)
 
-pub climb-yields : (climb : Climb) (left : Option (Result Climb AllocError)) (node : Cursor) (after : Rest Cursor) → left ≡ Some (Ok climb) → node ≡ cursor_of climb.table.value.entries.items climb.next → after ≡ Ok (map (cursor_at (root_of climb.table.value.entries.items)) (option_map_or ancestor_paths (parent_path (path_at climb.table.value.entries.items climb.next)) [])) → YieldsOrRefuses (rest_of climbed left) (Some (Ok node)) after
+mapped : (f : Path → Cursor) (g : Path → List Path) (o : Option Path) → map f (option_map_or g o []) ≡ option_map_or (λ q. map f (g q)) o []
+mapped f g None = refl
+mapped f g (Some q) = refl
+
+over : (root : NodeTerm) (o : Option Path) → option_map_or (λ q. map (cursor_at root) (ancestor_paths q)) o [] ≡ option_map_or ancestors (option_map (cursor_at root) o) []
+over root None = refl
+over root (Some q) = refl
+
+-- a node's ancestors are the node, and then those of its parent
+ancestors-all : (c : Cursor) → ancestors c ≡ c ∷ parent_ancestors c
+ancestors-all c =
+    ap (map (cursor_at c.root)) (ancestors-first c.path) ∙ ap (λ cs. c ∷ cs) (mapped (cursor_at c.root) ancestor_paths (parent_path c.path) ∙ over c.root (parent_path c.path))
+
+pub climb-yields : (climb : Climb) (left : Remainder Climb) (node : Cursor) (after : Rest Cursor) → left ≡ Walk climb → node ≡ cursor_of climb.table.value climb.next → after ≡ Ok (parent_ancestors (cursor_of climb.table.value climb.next)) → YieldsOrRefuses (rest_of climb_nodes left) (Some (Ok node)) after
 climb-yields climb left node after e f g =
-    let es = climb.table.value.entries.items in
-    let p = path_at es climb.next in
-    let ys = map (cursor_at (root_of es)) (option_map_or ancestor_paths (parent_path p) []) in
-    rw (e, f) (ys, ap (λ ps. map (cursor_at (root_of es)) ps) (ancestors-first p), g)
+    let here = cursor_of climb.table.value climb.next in
+    rw (e, f) (parent_ancestors here, ancestors-all here, g)

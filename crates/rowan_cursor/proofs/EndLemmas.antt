@@ -1,14 +1,14 @@
 -- Laws of ends: a child ends where the next sibling starts, and the last where its parent ends.
-use Rattle.std.proofs.Common.{◌≡◌, ℕ, zero, suc, ◌+◌, ◌-◌, ◌<◌, List, [], ◌∷◌, ◌++◌, length, Option, Some, None, sym, ◌∙◌, ap, arith}
+use Rattle.std.proofs.Common.{◌≡◌, ℕ, zero, suc, ◌+◌, ◌-◌, ◌<◌, [], ◌∷◌, ◌++◌, length, Option, Some, None, sym, ◌∙◌, ap, arith}
 use Rattle.std.specs.Prelude.{slice_get}
 use Rattle.std.proofs.lemmas.Option.{slice_get_within}
 use Rattle.rowan_green.specs.declared.utility_types.NodeOrToken.TheVariants.{Node, Token}
 use Rattle.rowan_green.specs.Term.{NodeTerm, Term, sum_of_lens}
 use Rattle.rowan_green.specs.Path.{Path, subterm, offset, len_of}
 use Rattle.rowan_green.proofs.SearchLemmas.{child_end-last}
-use Rattle.rowan_cursor.specs.CursorView.{HasToken}
+use Rattle.rowan_cursor.specs.TableView.{IsTokenIn}
 use Rattle.rowan_cursor.specs.Moves.{child_count, children_of, first_at, following}
-use Rattle.rowan_cursor.specs.declared.table.Entry.{Entry}
+use Rattle.rowan_cursor.specs.declared.table.Table.{Table}
 use Rattle.rowan_cursor.proofs.PathLemmas.{subterm-child, offset-child, following-child, child_start-next, node_len-children, below-first, below-none}
 
 -- a node is as long as its children together
@@ -46,6 +46,6 @@ end_at_last root p q i t path is next =
     ∙ sym (ap (λ x. offset (Node root) x + len_of (subterm (Node root) x)) path)
 
 -- a token has a parent
-pub token_behind : (es : List Entry) (n : ℕ) → HasToken es n → 0 < n
-token_behind es zero h = absurd (cc h.is)
-token_behind es (suc n) h = omega arith
+pub token_behind : (t : Table) (n : ℕ) → IsTokenIn t n → 0 < n
+token_behind t zero h = absurd (cc h.is)
+token_behind t (suc n) h = omega arith

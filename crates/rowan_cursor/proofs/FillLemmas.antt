@@ -15,7 +15,7 @@ use Rattle.rowan_green.specs.Term.{NodeTerm, node, Term, node_children, term_len
 use Rattle.rowan_green.proofs.CacheLemmas.{slice_get-grown, slice_get-cases}
 use Rattle.rowan_green.proofs.Drops.{terms_size-node_children}
 use Rattle.rowan_green.proofs.SearchLemmas.{child_start-le_all}
-use Rattle.rowan_cursor.specs.Table.{IsDraft, GrowsBy, node_in, root_of, green_of, offset_of, green_in, offset_in, children_in, len_in, counts, IsTop, IsChildOf}
+use Rattle.rowan_cursor.specs.Table.{IsDraft, GrowsBy, node_in, root_node, green_of, offset_of, green_in, offset_in, children_in, len_in, counts, IsTop, IsChildOf}
 use Rattle.rowan_cursor.specs.declared.table.Entry.{Entry}
 use Rattle.rowan_cursor.proofs.PathLemmas.{node_len-children}
 use Rattle.rowan_cursor.proofs.TableLemmas.{counts-more, child_end, sum_of_lens-children}
@@ -38,10 +38,10 @@ slice_get-set_same (x ∷ xs) (suc i) y h = slice_get-set_same xs i y (omega ari
 
 -- ---- what depends on the nodes alone
 
-root_of-grown : (es ds : List Entry) (gs : List (Option NodeTerm)) → 0 < length es → map green_of ds ≡ map green_of es ++ gs → root_of ds ≡ root_of es
-root_of-grown [] ds gs some h = absurd (omega arith)
-root_of-grown (e ∷ es) [] gs some h = absurd cc
-root_of-grown (e ∷ es) (d ∷ ds) gs some h =
+root_node-grown : (es ds : List Entry) (gs : List (Option NodeTerm)) → 0 < length es → map green_of ds ≡ map green_of es ++ gs → root_node ds ≡ root_node es
+root_node-grown [] ds gs some h = absurd (omega arith)
+root_node-grown (e ∷ es) [] gs some h = absurd cc
+root_node-grown (e ∷ es) (d ∷ ds) gs some h =
     let same : green_of d ≡ green_of e = cc in
     ap node_in same
 
@@ -74,11 +74,11 @@ pub record IsNextChild (es : List Entry) (p e : Entry) : Type 0 where
   pub is : IsChildOf p (length es) e
   pub end : offset_of e + len_in (green_of e) ≤ byte_limit
 
-IsTop-grown : (es ds : List Entry) (gs : List (Option NodeTerm)) (d e : Entry) → 0 < length es → map green_of ds ≡ map green_of es ++ gs → d.kept ≡ e.kept
+IsTop-grown : (es ds : List Entry) (gs : List (Option NodeTerm)) (d e : Entry) → 0 < length es → map green_of ds ≡ map green_of es ++ gs → d.content ≡ e.content
     → IsTop es d → IsTop ds e
-IsTop-grown es ds gs d e some h kept t = record {
-  green = ap green_in (sym kept) ∙ t.green ∙ ap (λ (n : NodeTerm). Some n) (sym (root_of-grown es ds gs some h));
-  start = ap offset_in (sym kept) ∙ t.start;
+IsTop-grown es ds gs d e some h content t = record {
+  green = ap green_in (sym content) ∙ t.green ∙ ap (λ (n : NodeTerm). Some n) (sym (root_node-grown es ds gs some h));
+  start = ap offset_in (sym content) ∙ t.start;
 }
 
 IsChildOf-at : (p : Entry) (m n : ℕ) (d e : Entry) → IsChildOf p m d → n ≡ m → d ≡ e → IsChildOf p n e
@@ -115,18 +115,18 @@ IsDraft-push done es p y t next above_done all_there = record {
   ];
 }
 
-len_of-kept : (t : Term) → len_in (into_node t) ≤ term_len t
-len_of-kept (Node n) = omega arith
-len_of-kept (Token t) = omega arith
+len_of-content : (t : Term) → len_in (into_node t) ≤ term_len t
+len_of-content (Node n) = omega arith
+len_of-content (Token t) = omega arith
 
 pub next_child : (done : ℕ) (es : List Entry) → IsDraft done es → (p y : Entry) (n : NodeTerm) (i : ℕ) (u : Term) → slice_get es y.parent ≡ Some p → green_of p ≡ Some n → length es ≡ p.first_child + i
     → slice_get (node_children n) i ≡ Some u → green_of y ≡ into_node u → offset_of y ≡ offset_of p + child_start (node_children n) i
     → IsNextChild es p y
-next_child done es t p y n i u at is place child kept start =
+next_child done es t p y n i u at is place child content start =
     let index : i ≡ length es - p.first_child = omega arith in
     let terms : node_children n ≡ children_in (green_of p) = ap children_in (sym is) in
     let here : option_map into_node (slice_get (node_children n) i) ≡ Some (green_of y) =
-    ap (option_map into_node) child ∙ ap (λ g. Some g) (sym kept) in
+    ap (option_map into_node) child ∙ ap (λ g. Some g) (sym content) in
     record {
       above = at;
       is = record {
@@ -134,7 +134,7 @@ next_child done es t p y n i u at is place child kept start =
         child = ap (λ ts. option_map into_node (slice_get ts (length es - p.first_child))) (sym terms) ∙ ap (λ k. option_map into_node (slice_get (node_children n) k)) (sym index) ∙ here;
         start = start ∙ ap (λ k. offset_of p + child_start (node_children n) k) index ∙ ap (λ ts. offset_of p + child_start ts (length es - p.first_child)) terms;
       };
-      end = omega (arith, start, child_end (Node n) i u child, ap len_in is, t.ends y.parent p at, ap len_in kept, len_of-kept u);
+      end = omega (arith, start, child_end (Node n) i u child, ap len_in is, t.ends y.parent p at, ap len_in content, len_of-content u);
     }
 
 -- ---- an entry gets the number of its first child
@@ -143,14 +143,14 @@ next_child done es t p y n i u at is place child kept start =
 record WasEntry (es : List Entry) (i n : ℕ) (e : Entry) : Type 0 where
   pub was : Entry
   pub at : slice_get es n ≡ Some was
-  pub kept : was.kept ≡ e.kept
+  pub content : was.content ≡ e.content
   pub above : was.parent ≡ e.parent
   pub other : n ≢ i → was ≡ e
 
 -- an entry like the one at i, but perhaps for the number of its first child
 pub record IsAlike (es : List Entry) (i : ℕ) (d y : Entry) : Type 0 where
   pub at : slice_get es i ≡ Some d
-  pub kept : d.kept ≡ y.kept
+  pub content : d.content ≡ y.content
   pub above : d.parent ≡ y.parent
 
 was_entry : (es : List Entry) (i : ℕ) (d y : Entry) → IsAlike es i d y → (n : ℕ) (e : Entry) → slice_get (slice_set es i y) n ≡ Some e → WasEntry es i n e
@@ -158,14 +158,14 @@ was_entry es i d y a n e at = elim (set_cases es i y e n at) [
   | inl h ↦ record {
     was = d;
     at = ap (slice_get es) h.0 ∙ a.at;
-    kept = a.kept ∙ ap (λ (x : Entry). x.kept) h.1;
+    content = a.content ∙ ap (λ (x : Entry). x.content) h.1;
     above = a.above ∙ ap (λ (x : Entry). x.parent) h.1;
     other = λ o. absurd (o h.0);
   }
   | inr h ↦ record {
     was = e;
     at = h.1;
-    kept = refl;
+    content = refl;
     above = refl;
     other = λ o. refl;
   }
@@ -173,13 +173,13 @@ was_entry es i d y a n e at = elim (set_cases es i y e n at) [
 
 pub greens-set : (es : List Entry) (i : ℕ) (d y : Entry) → IsAlike es i d y → map green_of (slice_set es i y) ≡ map green_of es
 greens-set es i d y a =
-    map-set_same green_of es i y d (ap green_in (sym a.kept) ∙ ap green_of (sym (get_or_from_slice_get es i d d a.at)))
+    map-set_same green_of es i y d (ap green_in (sym a.content) ∙ ap green_of (sym (get_or_from_slice_get es i d d a.at)))
 
-IsChildOf-kept : (p : Entry) (n : ℕ) (d e : Entry) → d.kept ≡ e.kept → IsChildOf p n d → IsChildOf p n e
-IsChildOf-kept p n d e kept c = record {
+IsChildOf-content : (p : Entry) (n : ℕ) (d e : Entry) → d.content ≡ e.content → IsChildOf p n d → IsChildOf p n e
+IsChildOf-content p n d e content c = record {
   place = c.place;
-  child = c.child ∙ ap (λ k. Some (green_in k)) kept;
-  start = ap offset_in (sym kept) ∙ c.start;
+  child = c.child ∙ ap (λ k. Some (green_in k)) content;
+  start = ap offset_in (sym content) ∙ c.start;
 }
 
 first_of : (es : List Entry) (i : ℕ) (y : Entry) → IsDraft i es → y.first_child ≡ counts (take i es) + 1 → (n : ℕ) (e : Entry) → slice_get (slice_set es i y) n ≡ Some e → n < i + 1
@@ -197,10 +197,10 @@ IsDraft-next es i d y t a first =
       some = omega (arith, length-set es i y, t.some);
       top = λ e at.
           let w = was_entry es i d y a 0 e at in
-          IsTop-grown es (slice_set es i y) [] w.was e t.some same w.kept (t.top w.was w.at);
+          IsTop-grown es (slice_set es i y) [] w.was e t.some same w.content (t.top w.was w.at);
       ends = λ n e at.
           let w = was_entry es i d y a n e at in
-          omega (arith, t.ends n w.was w.at, ap offset_in w.kept, ap (λ k. len_in (green_in k)) w.kept);
+          omega (arith, t.ends n w.was w.at, ap offset_in w.content, ap (λ k. len_in (green_in k)) w.content);
       firsts = λ n e at before.
           first_of es i y t first n e at before ∙ ap (λ k. k + 1) (sym (counts-front es (slice_set es i y) [] n (omega arith) same));
       earlier = λ n e at behind.
@@ -212,23 +212,23 @@ IsDraft-next es i d y t a first =
           let v = was_entry es i d y a e.parent p up in
           let h = t.earlier n w.was w.at behind in
           let is : v.was ≡ p = v.other (omega (arith, h.1, w.above)) in
-          IsChildOf-kept p n w.was e w.kept (subst (λ (x : Entry). IsChildOf x n w.was) is (t.parents n w.was v.was w.at behind (ap (slice_get es) w.above ∙ v.at)));
+          IsChildOf-content p n w.was e w.content (subst (λ (x : Entry). IsChildOf x n w.was) is (t.parents n w.was v.was w.at behind (ap (slice_get es) w.above ∙ v.at)));
     }
 
 -- ---- what was added
 
 GrowsBy-child : (old new : List Entry) (p y : Entry) (i : ℕ) (u : Term) → new ≡ old ++ y ∷ [] → green_of y ≡ into_node u → slice_get (children_in (green_of p)) i ≡ Some u
     → (t : Term) → slice_get (children_in (green_of p)) i ≡ Some t → GrowsBy old new (t ∷ [])
-GrowsBy-child old new p y i u grown kept is t child = record {
+GrowsBy-child old new p y i u grown content is t child = record {
   row = y ∷ [];
   grown = grown;
-  greens = ap (λ g. g ∷ []) (kept ∙ ap into_node (same_Some u t (sym is ∙ child)));
+  greens = ap (λ g. g ∷ []) (content ∙ ap into_node (same_Some u t (sym is ∙ child)));
 }
 
 pub GrowsBy-next : (old new : List Entry) (p y : Entry) (i : ℕ) (u : Term) → new ≡ old ++ y ∷ [] → slice_get old y.parent ≡ Some p → green_of y ≡ into_node u → slice_get (children_in (green_of p)) i ≡ Some u
     → (e : Entry) (t : Term) → slice_get old y.parent ≡ Some e → slice_get (children_in (green_of e)) i ≡ Some t → GrowsBy old new (t ∷ [])
-GrowsBy-next old new p y i u grown above kept is e t at child =
-    GrowsBy-child old new p y i u grown kept is t (subst (λ (x : Entry). slice_get (children_in (green_of x)) i ≡ Some t) (same_Some e p (sym at ∙ above)) child)
+GrowsBy-next old new p y i u grown above content is e t at child =
+    GrowsBy-child old new p y i u grown content is t (subst (λ (x : Entry). slice_get (children_in (green_of x)) i ≡ Some t) (same_Some e p (sym at ∙ above)) child)
 
 pub GrowsBy-none : (es : List Entry) → GrowsBy es es []
 GrowsBy-none es = record {
@@ -312,7 +312,7 @@ IsDraft-one y root r = record {
 
 -- the entries before an entry have their children, and then it has its own
 pub next_done : (es ds : List Entry) (done : ℕ) (e : Entry) → slice_get es done ≡ Some e → length es ≡ counts (take done es) + 1
-    → map green_of ds ≡ map green_of es ++ map into_node (children_in (green_of e)) → (done + 1 ≤ length ds) × (length ds ≡ counts (take (done + 1) ds) + 1) × (root_of ds ≡ root_of es)
+    → map green_of ds ≡ map green_of es ++ map into_node (children_in (green_of e)) → (done + 1 ≤ length ds) × (length ds ≡ counts (take (done + 1) ds) + 1) × (root_node ds ≡ root_node es)
 next_done es ds done e at place g =
     let within : done < length es = slice_get_within es done e at in
     let ts = children_in (green_of e) in
@@ -320,7 +320,7 @@ next_done es ds done e at place g =
     omega (arith, ap length g, length-append (map green_of es) (map into_node ts), length-map ds green_of, length-map es green_of, length-map ts into_node) in (
       omega arith,
       omega (arith, counts-front es ds (map into_node ts) (done + 1) (omega arith) g, counts-more es done e at),
-      root_of-grown es ds (map into_node ts) (omega arith) g,
+      root_node-grown es ds (map into_node ts) (omega arith) g,
     )
 
 -- how much is left: the entries from one on, and what is below their nodes
@@ -335,13 +335,13 @@ sizes-append : (gs hs : List (Option NodeTerm)) → sizes (gs ++ hs) ≡ sizes g
 sizes-append [] hs = omega arith
 sizes-append (g ∷ gs) hs = omega (arith, sizes-append gs hs)
 
-size-kept : (t : Term) → 1 + terms_size (children_in (into_node t)) ≤ term_size t
-size-kept (Node n) = omega (arith, terms_size-node_children n)
-size-kept (Token t) = omega arith
+size-content : (t : Term) → 1 + terms_size (children_in (into_node t)) ≤ term_size t
+size-content (Node n) = omega (arith, terms_size-node_children n)
+size-content (Token t) = omega arith
 
-sizes-kept : (ts : List Term) → sizes (map into_node ts) ≤ terms_size ts
-sizes-kept [] = omega arith
-sizes-kept (t ∷ ts) = omega (arith, size-kept t, sizes-kept ts)
+sizes-content : (ts : List Term) → sizes (map into_node ts) ≤ terms_size ts
+sizes-content [] = omega arith
+sizes-content (t ∷ ts) = omega (arith, size-content t, sizes-content ts)
 
 left_from-first : (es : List Entry) (n : ℕ) (e : Entry) → slice_get es n ≡ Some e → left_from n es ≡ 1 + terms_size (children_in (green_of e)) + left_from (suc n) es
 left_from-first [] n e at = absurd cc
@@ -359,4 +359,4 @@ pub less_left : (es ds : List Entry) (done : ℕ) (e : Entry) → slice_get es d
 less_left es ds done e at g =
     let next : suc done ≡ done + 1 = omega arith in
     let ts = children_in (green_of e) in
-    omega (arith, ap (λ n. left_from n es) next, left_from-grown es ds (map into_node ts) (done + 1) (omega (arith, slice_get_within es done e at)) g, sizes-kept ts, left_from-first es done e at)
+    omega (arith, ap (λ n. left_from n es) next, left_from-grown es ds (map into_node ts) (done + 1) (omega (arith, slice_get_within es done e at)) g, sizes-content ts, left_from-first es done e at)

@@ -11,7 +11,7 @@ use Rattle.rowan_green.specs.declared.utility_types.NodeOrToken.TheVariants.{Nod
 use Rattle.rowan_green.specs.Term.{NodeTerm, node, Forest, empty, node_then, token_then, Term, terms, node_children}
 use Rattle.rowan_green.specs.Path.{Path, term_children, subterm_of, subterm, below_place, node_leaves, leaves_from, stands_before, begins}
 use Rattle.rowan_cursor.specs.Moves.{children_of, leaf_paths, first_at, first_leaf_path, last_leaf_path, next_leaf_path, prev_leaf_path}
-use Rattle.rowan_cursor.specs.Pass.{Lists, row, of_some, after, before, entered, rest, reached, upto, leaf_list, elements_from, node_elements, element_list}
+use Rattle.rowan_cursor.specs.Pass.{Lists, below_children, of_some, after, before, since, since_child, until, until_child, leaf_list, elements_from, node_elements, element_list}
 use Rattle.rowan_cursor.proofs.PathLemmas.{before_at_less, before_at_same, before_at_greater, begins-same, not-begins, subterm-child}
 
 -- Steps.
@@ -24,79 +24,79 @@ after-here g None = refl
 after-here g (Some t) = refl
 
 -- behind a child stand the later children, and then what stands behind its node
-pub after-child : (g : Lists) (t : Option Term) (p : Path) (i : ℕ) → after g t (p ++ i ∷ []) ≡ rest g t p (suc i)
+pub after-child : (g : Lists) (t : Option Term) (p : Path) (i : ℕ) → after g t (p ++ i ∷ []) ≡ since_child g t p (suc i)
 after-child g None [] i = refl
 after-child g None (j ∷ p) i = refl
 after-child g (Some t) [] i =
-    let ls = row g (suc i) (drop (suc i) (term_children t)) in
+    let ls = below_children g (suc i) (drop (suc i) (term_children t)) in
     ap (λ us. map (λ q. i ∷ q) us ++ ls) (after-here g (slice_get (term_children t) i)) ∙ sym (append-nil (map (λ q. q) ls) ∙ map-id ls)
 after-child g (Some t) (j ∷ p) i =
     let u = slice_get (term_children t) j in
-    let own = row g (suc i) (drop (suc i) (children_of (subterm_of u p))) in
-    let ls = row g (suc j) (drop (suc j) (term_children t)) in
+    let own = below_children g (suc i) (drop (suc i) (children_of (subterm_of u p))) in
+    let ls = below_children g (suc j) (drop (suc j) (term_children t)) in
     ap (λ us. map (λ q. j ∷ q) us ++ ls) (after-child g u p i) ∙ ap (λ us. us ++ ls) (map-append (λ q. j ∷ q) (map (λ q. p ++ q) own) (after g u p) ∙ ap (λ us. us ++ map (λ q. j ∷ q) (after g u p)) (map-map (λ q. j ∷ q) (λ q. p ++ q) own)) ∙ append_assoc (map (λ q. (j ∷ p) ++ q) own) (map (λ q. j ∷ q) (after g u p)) ls
 
 -- from the child at a place on is from that child on
-pub rest-child : (g : Lists) (t : Option Term) (p : Path) (i : ℕ) (c : Term) → slice_get (children_of (subterm_of t p)) i ≡ Some c → rest g t p i ≡ entered g t (p ++ i ∷ [])
-rest-child g t p i c e =
+pub since_child-child : (g : Lists) (t : Option Term) (p : Path) (i : ℕ) (c : Term) → slice_get (children_of (subterm_of t p)) i ≡ Some c → since_child g t p i ≡ since g t (p ++ i ∷ [])
+since_child-child g t p i c e =
     let ts = children_of (subterm_of t p) in
     let own = map (λ q. i ∷ q) (g c) in
-    let ls = row g (suc i) (drop (suc i) ts) in
+    let ls = below_children g (suc i) (drop (suc i) ts) in
     let there : subterm_of t (p ++ i ∷ []) ≡ Some c = subterm-child t p i ∙ e in
     let here : drop i ts ≡ c ∷ drop (suc i) ts = drop-cons ts i c (slice_get_within ts i c e) ∙ ap (λ u. u ∷ drop (suc i) ts) (get_or_from_slice_get ts i c c e) in
-    ap (λ us. map (λ q. p ++ q) (row g i us) ++ after g t p) here ∙ ap (λ us. us ++ after g t p) (map-append (λ q. p ++ q) own ls) ∙ append_assoc (map (λ q. p ++ q) own) (map (λ q. p ++ q) ls) (after g t p) ∙ ap (λ us. map (λ q. p ++ q) own ++ us) (sym (after-child g t p i)) ∙ ap (λ us. us ++ after g t (p ++ i ∷ [])) (map_below p i (g c)) ∙ ap (λ u. map (λ q. (p ++ i ∷ []) ++ q) (of_some g u) ++ after g t (p ++ i ∷ [])) (sym there)
+    ap (λ us. map (λ q. p ++ q) (below_children g i us) ++ after g t p) here ∙ ap (λ us. us ++ after g t p) (map-append (λ q. p ++ q) own ls) ∙ append_assoc (map (λ q. p ++ q) own) (map (λ q. p ++ q) ls) (after g t p) ∙ ap (λ us. map (λ q. p ++ q) own ++ us) (sym (after-child g t p i)) ∙ ap (λ us. us ++ after g t (p ++ i ∷ [])) (map_below p i (g c)) ∙ ap (λ u. map (λ q. (p ++ i ∷ []) ++ q) (of_some g u) ++ after g t (p ++ i ∷ [])) (sym there)
 
 -- where no child is at the place or later, only what stands behind the node is left
-pub rest-none : (g : Lists) (t : Option Term) (p : Path) (i : ℕ) → length (children_of (subterm_of t p)) ≤ i → rest g t p i ≡ after g t p
-rest-none g t p i h = ap (λ us. map (λ q. p ++ q) (row g i us) ++ after g t p) (drop_all i (children_of (subterm_of t p)) h)
+pub since_child-none : (g : Lists) (t : Option Term) (p : Path) (i : ℕ) → length (children_of (subterm_of t p)) ≤ i → since_child g t p i ≡ after g t p
+since_child-none g t p i h = ap (λ us. map (λ q. p ++ q) (below_children g i us) ++ after g t p) (drop_all i (children_of (subterm_of t p)) h)
 
 before-here : (g : Lists) (t : Option Term) → before g t [] ≡ []
 before-here g None = refl
 before-here g (Some t) = refl
 
 -- before a child stand what stands before its node, and then the earlier children
-pub before-child : (g : Lists) (t : Option Term) (p : Path) (i : ℕ) → before g t (p ++ i ∷ []) ≡ upto g t p i
+pub before-child : (g : Lists) (t : Option Term) (p : Path) (i : ℕ) → before g t (p ++ i ∷ []) ≡ until_child g t p i
 before-child g None [] zero = refl
 before-child g None [] (suc i) = refl
 before-child g None (j ∷ p) zero = refl
 before-child g None (j ∷ p) (suc i) = refl
 before-child g (Some t) [] i =
-    let ls = row g 0 (take i (term_children t)) in
+    let ls = below_children g 0 (take i (term_children t)) in
     ap (λ us. ls ++ map (λ q. i ∷ q) us) (before-here g (slice_get (term_children t) i)) ∙ append-nil ls ∙ sym (map-id ls)
 before-child g (Some t) (j ∷ p) i =
     let u = slice_get (term_children t) j in
-    let own = row g 0 (take i (children_of (subterm_of u p))) in
-    let ls = row g 0 (take j (term_children t)) in
+    let own = below_children g 0 (take i (children_of (subterm_of u p))) in
+    let ls = below_children g 0 (take j (term_children t)) in
     ap (λ us. ls ++ map (λ q. j ∷ q) us) (before-child g u p i) ∙ ap (λ us. ls ++ us) (map-append (λ q. j ∷ q) (before g u p) (map (λ q. p ++ q) own) ∙ ap (λ us. map (λ q. j ∷ q) (before g u p) ++ us) (map-map (λ q. j ∷ q) (λ q. p ++ q) own)) ∙ sym (append_assoc ls (map (λ q. j ∷ q) (before g u p)) (map (λ q. (j ∷ p) ++ q) own))
 
-row-take : (g : Lists) (m i : ℕ) (ts : List Term) (c : Term) → slice_get ts i ≡ Some c → row g m (take (suc i) ts) ≡ row g m (take i ts) ++ map (λ q. (m + i) ∷ q) (g c)
-row-take g m i [] c e = absurd cc
-row-take g m zero (t ∷ ts) c e =
+below_children-take : (g : Lists) (m i : ℕ) (ts : List Term) (c : Term) → slice_get ts i ≡ Some c → below_children g m (take (suc i) ts) ≡ below_children g m (take i ts) ++ map (λ q. (m + i) ∷ q) (g c)
+below_children-take g m i [] c e = absurd cc
+below_children-take g m zero (t ∷ ts) c e =
     let same : t ≡ c = cc in
     let place : m ≡ m + 0 = omega arith in
     append-nil (map (λ q. m ∷ q) (g t)) ∙ ap (λ u. map (λ q. m ∷ q) (g u)) same ∙ ap (λ k. map (λ q. k ∷ q) (g c)) place
-row-take g m (suc i) (t ∷ ts) c e =
+below_children-take g m (suc i) (t ∷ ts) c e =
     let place : suc m + i ≡ m + suc i = omega arith in
-    ap (λ us. map (λ q. m ∷ q) (g t) ++ us) (row-take g (suc m) i ts c e ∙ ap (λ k. row g (suc m) (take i ts) ++ map (λ q. k ∷ q) (g c)) place) ∙ sym (append_assoc (map (λ q. m ∷ q) (g t)) (row g (suc m) (take i ts)) (map (λ q. (m + suc i) ∷ q) (g c)))
+    ap (λ us. map (λ q. m ∷ q) (g t) ++ us) (below_children-take g (suc m) i ts c e ∙ ap (λ k. below_children g (suc m) (take i ts) ++ map (λ q. k ∷ q) (g c)) place) ∙ sym (append_assoc (map (λ q. m ∷ q) (g t)) (below_children g (suc m) (take i ts)) (map (λ q. (m + suc i) ∷ q) (g c)))
 
 -- up to behind the child at a place is up to that child, itself included
-pub upto-child : (g : Lists) (t : Option Term) (p : Path) (i : ℕ) (c : Term) → slice_get (children_of (subterm_of t p)) i ≡ Some c → upto g t p (suc i) ≡ reached g t (p ++ i ∷ [])
-upto-child g t p i c e =
+pub until_child-child : (g : Lists) (t : Option Term) (p : Path) (i : ℕ) (c : Term) → slice_get (children_of (subterm_of t p)) i ≡ Some c → until_child g t p (suc i) ≡ until g t (p ++ i ∷ [])
+until_child-child g t p i c e =
     let ts = children_of (subterm_of t p) in
-    let ls = row g 0 (take i ts) in
+    let ls = below_children g 0 (take i ts) in
     let place : 0 + i ≡ i = omega arith in
     let there : subterm_of t (p ++ i ∷ []) ≡ Some c = subterm-child t p i ∙ e in
-    ap (λ us. before g t p ++ map (λ q. p ++ q) us) (row-take g 0 i ts c e ∙ ap (λ k. ls ++ map (λ q. k ∷ q) (g c)) place) ∙ ap (λ us. before g t p ++ us) (map-append (λ q. p ++ q) ls (map (λ q. i ∷ q) (g c)) ∙ ap (λ us. map (λ q. p ++ q) ls ++ us) (map_below p i (g c))) ∙ sym (append_assoc (before g t p) (map (λ q. p ++ q) ls) (map (λ q. (p ++ i ∷ []) ++ q) (g c))) ∙ ap (λ us. us ++ map (λ q. (p ++ i ∷ []) ++ q) (g c)) (sym (before-child g t p i)) ∙ ap (λ u. before g t (p ++ i ∷ []) ++ map (λ q. (p ++ i ∷ []) ++ q) (of_some g u)) (sym there)
+    ap (λ us. before g t p ++ map (λ q. p ++ q) us) (below_children-take g 0 i ts c e ∙ ap (λ k. ls ++ map (λ q. k ∷ q) (g c)) place) ∙ ap (λ us. before g t p ++ us) (map-append (λ q. p ++ q) ls (map (λ q. i ∷ q) (g c)) ∙ ap (λ us. map (λ q. p ++ q) ls ++ us) (map_below p i (g c))) ∙ sym (append_assoc (before g t p) (map (λ q. p ++ q) ls) (map (λ q. (p ++ i ∷ []) ++ q) (g c))) ∙ ap (λ us. us ++ map (λ q. (p ++ i ∷ []) ++ q) (g c)) (sym (before-child g t p i)) ∙ ap (λ u. before g t (p ++ i ∷ []) ++ map (λ q. (p ++ i ∷ []) ++ q) (of_some g u)) (sym there)
 
-pub upto-none : (g : Lists) (t : Option Term) (p : Path) → upto g t p 0 ≡ before g t p
-upto-none g t p = append-nil (before g t p)
+pub until_child-none : (g : Lists) (t : Option Term) (p : Path) → until_child g t p 0 ≡ before g t p
+until_child-none g t p = append-nil (before g t p)
 
 -- up to behind the last child is up to the node's end
-pub upto-all : (g : Lists) (t : Option Term) (p : Path) (i : ℕ) → length (children_of (subterm_of t p)) ≤ i → upto g t p i ≡ before g t p ++ map (λ q. p ++ q) (row g 0 (children_of (subterm_of t p)))
-upto-all g t p i h = ap (λ us. before g t p ++ map (λ q. p ++ q) (row g 0 us)) (take_all i (children_of (subterm_of t p)) h)
+pub until_child-all : (g : Lists) (t : Option Term) (p : Path) (i : ℕ) → length (children_of (subterm_of t p)) ≤ i → until_child g t p i ≡ before g t p ++ map (λ q. p ++ q) (below_children g 0 (children_of (subterm_of t p)))
+until_child-all g t p i h = ap (λ us. before g t p ++ map (λ q. p ++ q) (below_children g 0 us)) (take_all i (children_of (subterm_of t p)) h)
 
 -- The leaves of a node are those of its children, and so with its elements.
-leaves_from-list : (m : ℕ) (f : Forest) → map (λ l. l.0) (leaves_from m f) ≡ row leaf_list m (terms f)
+leaves_from-list : (m : ℕ) (f : Forest) → map (λ l. l.0) (leaves_from m f) ≡ below_children leaf_list m (terms f)
 leaves_from-list m empty = refl
 leaves_from-list m (node_then n f) =
     let place : m + 1 ≡ suc m = omega arith in
@@ -105,16 +105,16 @@ leaves_from-list m (token_then t f) =
     let place : m + 1 ≡ suc m = omega arith in
     ap (λ us. (m ∷ []) ∷ us) (ap (λ k. map (λ l. l.0) (leaves_from k f)) place ∙ leaves_from-list (suc m) f)
 
-elements_from-list : (m : ℕ) (f : Forest) → elements_from m f ≡ row element_list m (terms f)
+elements_from-list : (m : ℕ) (f : Forest) → elements_from m f ≡ below_children element_list m (terms f)
 elements_from-list m empty = refl
 elements_from-list m (node_then n f) = ap (λ us. map (λ q. m ∷ q) (node_elements n) ++ us) (elements_from-list (suc m) f)
 elements_from-list m (token_then t f) = ap (λ us. (m ∷ []) ∷ us) (elements_from-list (suc m) f)
 
-pub leaf_list-node : (n : NodeTerm) → leaf_list (Node n) ≡ row leaf_list 0 (node_children n)
+pub leaf_list-node : (n : NodeTerm) → leaf_list (Node n) ≡ below_children leaf_list 0 (node_children n)
 leaf_list-node (node k f) = leaves_from-list 0 f
 
 -- the elements of a term are itself and those of its children
-pub element_list-term : (t : Term) → element_list t ≡ [] ∷ row element_list 0 (term_children t)
+pub element_list-term : (t : Term) → element_list t ≡ [] ∷ below_children element_list 0 (term_children t)
 element_list-term (Node (node k f)) = ap (λ us. [] ∷ us) (elements_from-list 0 f)
 element_list-term (Token t) = refl
 
@@ -137,28 +137,28 @@ joined : (b : Bool) (xs ys : List Path) → cond b xs [] ++ cond b ys [] ≡ con
 joined true xs ys = refl
 joined false xs ys = refl
 
-pub filter_row-const : (g : Lists) (P : Path → Bool) (b : Bool) (m : ℕ) (ts : List Term) → ((j : ℕ) (q : Path) → m ≤ j → P (j ∷ q) ≡ b) → filter P (row g m ts) ≡ cond b (row g m ts) []
+pub filter_row-const : (g : Lists) (P : Path → Bool) (b : Bool) (m : ℕ) (ts : List Term) → ((j : ℕ) (q : Path) → m ≤ j → P (j ∷ q) ≡ b) → filter P (below_children g m ts) ≡ cond b (below_children g m ts) []
 filter_row-const g P true m [] h = refl
 filter_row-const g P false m [] h = refl
 filter_row-const g P b m (t ∷ ts) h =
     let own = map (λ q. m ∷ q) (g t) in
-    filter-append P own (row g (suc m) ts) ∙ ap (λ us. us ++ filter P (row g (suc m) ts)) (filter_const P b m (g t) (λ q. h m q (omega arith))) ∙ ap (λ us. cond b own [] ++ us) (filter_row-const g P b (suc m) ts (λ j q l. h j q (omega arith))) ∙ joined b own (row g (suc m) ts)
+    filter-append P own (below_children g (suc m) ts) ∙ ap (λ us. us ++ filter P (below_children g (suc m) ts)) (filter_const P b m (g t) (λ q. h m q (omega arith))) ∙ ap (λ us. cond b own [] ++ us) (filter_row-const g P b (suc m) ts (λ j q l. h j q (omega arith))) ∙ joined b own (below_children g (suc m) ts)
 
 none_of : (b : Bool) → ◌≡◌ {A = List Path} [] (cond b [] [])
 none_of true = refl
 none_of false = refl
 
-pub filter-row : (g : Lists) (P Q : Path → Bool) (b c : Bool) (m d i : ℕ) (ts : List Term) → i ≡ m + d → ((j : ℕ) (q : Path) → j < i → P (j ∷ q) ≡ b) → ((q : Path) → P (i ∷ q) ≡ Q q) → ((j : ℕ) (q : Path) → i < j → P (j ∷ q) ≡ c) → filter P (row g m ts) ≡ cond b (row g m (take d ts)) [] ++ (map (λ q. i ∷ q) (filter Q (of_some g (slice_get ts d))) ++ cond c (row g (suc i) (drop (suc d) ts)) [])
-filter-row g P Q b c m zero i [] e less same more = none_of c ∙ ap (λ us. us ++ cond c [] []) (none_of b)
-filter-row g P Q b c m (suc d) i [] e less same more = none_of c ∙ ap (λ us. us ++ cond c [] []) (none_of b)
-filter-row g P Q b c m zero i (t ∷ ts) e less same more =
+pub filter-below_children : (g : Lists) (P Q : Path → Bool) (b c : Bool) (m d i : ℕ) (ts : List Term) → i ≡ m + d → ((j : ℕ) (q : Path) → j < i → P (j ∷ q) ≡ b) → ((q : Path) → P (i ∷ q) ≡ Q q) → ((j : ℕ) (q : Path) → i < j → P (j ∷ q) ≡ c) → filter P (below_children g m ts) ≡ cond b (below_children g m (take d ts)) [] ++ (map (λ q. i ∷ q) (filter Q (of_some g (slice_get ts d))) ++ cond c (below_children g (suc i) (drop (suc d) ts)) [])
+filter-below_children g P Q b c m zero i [] e less same more = none_of c ∙ ap (λ us. us ++ cond c [] []) (none_of b)
+filter-below_children g P Q b c m (suc d) i [] e less same more = none_of c ∙ ap (λ us. us ++ cond c [] []) (none_of b)
+filter-below_children g P Q b c m zero i (t ∷ ts) e less same more =
     let place : m ≡ i = omega arith in
-    ap (λ k. filter P (row g k (t ∷ ts))) place ∙ filter-append P (map (λ q. i ∷ q) (g t)) (row g (suc i) ts) ∙ ap (λ us. us ++ filter P (row g (suc i) ts)) (filter_same P Q i (g t) same) ∙ ap (λ us. map (λ q. i ∷ q) (filter Q (g t)) ++ us) (filter_row-const g P c (suc i) ts (λ j q l. more j q (omega arith))) ∙ ap (λ us. us ++ (map (λ q. i ∷ q) (filter Q (g t)) ++ cond c (row g (suc i) ts) [])) (none_of b)
-filter-row g P Q b c m (suc d) i (t ∷ ts) e less same more =
+    ap (λ k. filter P (below_children g k (t ∷ ts))) place ∙ filter-append P (map (λ q. i ∷ q) (g t)) (below_children g (suc i) ts) ∙ ap (λ us. us ++ filter P (below_children g (suc i) ts)) (filter_same P Q i (g t) same) ∙ ap (λ us. map (λ q. i ∷ q) (filter Q (g t)) ++ us) (filter_row-const g P c (suc i) ts (λ j q l. more j q (omega arith))) ∙ ap (λ us. us ++ (map (λ q. i ∷ q) (filter Q (g t)) ++ cond c (below_children g (suc i) ts) [])) (none_of b)
+filter-below_children g P Q b c m (suc d) i (t ∷ ts) e less same more =
     let own = map (λ q. m ∷ q) (g t) in
-    let ls = row g (suc m) (take d ts) in
-    let us = map (λ q. i ∷ q) (filter Q (of_some g (slice_get ts d))) ++ cond c (row g (suc i) (drop (suc d) ts)) [] in
-    filter-append P own (row g (suc m) ts) ∙ ap (λ vs. vs ++ filter P (row g (suc m) ts)) (filter_const P b m (g t) (λ q. less m q (omega arith))) ∙ ap (λ vs. cond b own [] ++ vs) (filter-row g P Q b c (suc m) d i ts (omega arith) less same more) ∙ sym (append_assoc (cond b own []) (cond b ls []) us) ∙ ap (λ vs. vs ++ us) (joined b own ls)
+    let ls = below_children g (suc m) (take d ts) in
+    let us = map (λ q. i ∷ q) (filter Q (of_some g (slice_get ts d))) ++ cond c (below_children g (suc i) (drop (suc d) ts)) [] in
+    filter-append P own (below_children g (suc m) ts) ∙ ap (λ vs. vs ++ filter P (below_children g (suc m) ts)) (filter_const P b m (g t) (λ q. less m q (omega arith))) ∙ ap (λ vs. cond b own [] ++ vs) (filter-below_children g P Q b c (suc m) d i ts (omega arith) less same more) ∙ sym (append_assoc (cond b own []) (cond b ls []) us) ∙ ap (λ vs. vs ++ us) (joined b own ls)
 
 -- The leaves that a path begins, those that it stands before, and those that stand before it.
 pub filter_all : (P : Path → Bool) (qs : List Path) → ((q : Path) → P q ≡ true) → filter P qs ≡ qs
@@ -175,20 +175,20 @@ leaves-below (Some t) [] = filter_all (begins []) (leaf_list t) (λ q. refl) ∙
 leaves-below (Some (Token t)) (i ∷ p) = refl
 leaves-below (Some (Node n)) (i ∷ p) =
     let u = slice_get (node_children n) i in
-    ap (filter (begins (i ∷ p))) (leaf_list-node n) ∙ filter-row leaf_list (begins (i ∷ p)) (begins p) false false 0 i i (node_children n) (omega arith) (λ j q l. not-begins i j p q (inr l)) (λ q. begins-same i p q) (λ j q l. not-begins i j p q (inl l)) ∙ append-nil (map (λ q. i ∷ q) (filter (begins p) (of_some leaf_list u))) ∙ ap (map (λ q. i ∷ q)) (leaves-below u p) ∙ map-map (λ q. i ∷ q) (λ q. p ++ q) (of_some leaf_list (subterm_of u p))
+    ap (filter (begins (i ∷ p))) (leaf_list-node n) ∙ filter-below_children leaf_list (begins (i ∷ p)) (begins p) false false 0 i i (node_children n) (omega arith) (λ j q l. not-begins i j p q (inr l)) (λ q. begins-same i p q) (λ j q l. not-begins i j p q (inl l)) ∙ append-nil (map (λ q. i ∷ q) (filter (begins p) (of_some leaf_list u))) ∙ ap (map (λ q. i ∷ q)) (leaves-below u p) ∙ map-map (λ q. i ∷ q) (λ q. p ++ q) (of_some leaf_list (subterm_of u p))
 
-pub leaves-behind : (t : Option Term) (p : Path) → filter (λ q. stands_before p q) (of_some leaf_list t) ≡ rest leaf_list t p 0
+pub leaves-behind : (t : Option Term) (p : Path) → filter (λ q. stands_before p q) (of_some leaf_list t) ≡ since_child leaf_list t p 0
 leaves-behind None p = refl
 leaves-behind (Some (Token t)) [] = refl
 leaves-behind (Some (Token t)) (i ∷ p) = refl
 leaves-behind (Some (Node n)) [] =
-    let ls = row leaf_list 0 (node_children n) in
+    let ls = below_children leaf_list 0 (node_children n) in
     ap (filter (λ q. stands_before [] q)) (leaf_list-node n) ∙ filter_row-const leaf_list (λ q. stands_before [] q) true 0 (node_children n) (λ j q l. refl) ∙ sym (append-nil (map (λ q. q) ls) ∙ map-id ls)
 leaves-behind (Some (Node n)) (i ∷ p) =
     let u = slice_get (node_children n) i in
-    let own = row leaf_list 0 (children_of (subterm_of u p)) in
-    let ls = row leaf_list (suc i) (drop (suc i) (node_children n)) in
-    ap (filter (λ q. stands_before (i ∷ p) q)) (leaf_list-node n) ∙ filter-row leaf_list (λ q. stands_before (i ∷ p) q) (λ q. stands_before p q) false true 0 i i (node_children n) (omega arith) (λ j q l. before_at_greater i j p q l) (λ q. before_at_same i p q) (λ j q l. before_at_less i j p q l) ∙ ap (λ us. map (λ q. i ∷ q) us ++ ls) (leaves-behind u p) ∙ ap (λ us. us ++ ls) (map-append (λ q. i ∷ q) (map (λ q. p ++ q) own) (after leaf_list u p) ∙ ap (λ us. us ++ map (λ q. i ∷ q) (after leaf_list u p)) (map-map (λ q. i ∷ q) (λ q. p ++ q) own)) ∙ append_assoc (map (λ q. (i ∷ p) ++ q) own) (map (λ q. i ∷ q) (after leaf_list u p)) ls
+    let own = below_children leaf_list 0 (children_of (subterm_of u p)) in
+    let ls = below_children leaf_list (suc i) (drop (suc i) (node_children n)) in
+    ap (filter (λ q. stands_before (i ∷ p) q)) (leaf_list-node n) ∙ filter-below_children leaf_list (λ q. stands_before (i ∷ p) q) (λ q. stands_before p q) false true 0 i i (node_children n) (omega arith) (λ j q l. before_at_greater i j p q l) (λ q. before_at_same i p q) (λ j q l. before_at_less i j p q l) ∙ ap (λ us. map (λ q. i ∷ q) us ++ ls) (leaves-behind u p) ∙ ap (λ us. us ++ ls) (map-append (λ q. i ∷ q) (map (λ q. p ++ q) own) (after leaf_list u p) ∙ ap (λ us. us ++ map (λ q. i ∷ q) (after leaf_list u p)) (map-map (λ q. i ∷ q) (λ q. p ++ q) own)) ∙ append_assoc (map (λ q. (i ∷ p) ++ q) own) (map (λ q. i ∷ q) (after leaf_list u p)) ls
 
 pub leaves-before : (t : Option Term) (p : Path) (c : Term) → subterm_of t p ≡ Some c → filter (λ q. stands_before q p) (of_some leaf_list t) ≡ before leaf_list t p
 leaves-before None p c e = absurd cc
@@ -200,8 +200,8 @@ leaves-before (Some t) [] c e = filter_none (λ q. stands_before q []) (leaf_lis
 leaves-before (Some (Token t)) (i ∷ p) c e = absurd cc
 leaves-before (Some (Node n)) (i ∷ p) c e =
     let u = slice_get (node_children n) i in
-    let ls = row leaf_list 0 (take i (node_children n)) in
-    ap (filter (λ q. stands_before q (i ∷ p))) (leaf_list-node n) ∙ filter-row leaf_list (λ q. stands_before q (i ∷ p)) (λ q. stands_before q p) true false 0 i i (node_children n) (omega arith) (λ j q l. before_at_less j i q p l) (λ q. before_at_same i q p) (λ j q l. before_at_greater j i q p l) ∙ ap (λ us. ls ++ us) (append-nil (map (λ q. i ∷ q) (filter (λ q. stands_before q p) (of_some leaf_list u))) ∙ ap (map (λ q. i ∷ q)) (leaves-before u p c e))
+    let ls = below_children leaf_list 0 (take i (node_children n)) in
+    ap (filter (λ q. stands_before q (i ∷ p))) (leaf_list-node n) ∙ filter-below_children leaf_list (λ q. stands_before q (i ∷ p)) (λ q. stands_before q p) true false 0 i i (node_children n) (omega arith) (λ j q l. before_at_less j i q p l) (λ q. before_at_same i q p) (λ j q l. before_at_greater j i q p l) ∙ ap (λ us. ls ++ us) (append-nil (map (λ q. i ∷ q) (filter (λ q. stands_before q p) (of_some leaf_list u))) ∙ ap (map (λ q. i ∷ q)) (leaves-before u p c e))
 
 -- The first that passes is the first of those that pass, from either end.
 pub find-first : (P : Path → Bool) (qs : List Path) → find P qs ≡ first_at (filter P qs)
@@ -233,8 +233,8 @@ first_leaf-below root p = find-first (begins p) (leaf_paths (Node root)) ∙ ap 
 pub last_leaf-below : (root : NodeTerm) (p : Path) → last_leaf_path root p ≡ last_at (map (λ q. p ++ q) (of_some leaf_list (subterm (Node root) p)))
 last_leaf-below root p = find-last (begins p) (leaf_paths (Node root)) ∙ ap last_at (leaves-below (Some (Node root)) p)
 
-pub next_leaf-rest : (root : NodeTerm) (p : Path) → next_leaf_path root p ≡ first_at (rest leaf_list (Some (Node root)) p 0)
-next_leaf-rest root p = find-first (λ q. stands_before p q) (leaf_paths (Node root)) ∙ ap first_at (leaves-behind (Some (Node root)) p)
+pub next_leaf-since_child : (root : NodeTerm) (p : Path) → next_leaf_path root p ≡ first_at (since_child leaf_list (Some (Node root)) p 0)
+next_leaf-since_child root p = find-first (λ q. stands_before p q) (leaf_paths (Node root)) ∙ ap first_at (leaves-behind (Some (Node root)) p)
 
 pub prev_leaf-before : (root : NodeTerm) (p : Path) (c : Term) → subterm (Node root) p ≡ Some c → prev_leaf_path root p ≡ last_at (before leaf_list (Some (Node root)) p)
 prev_leaf-before root p c e = find-last (λ q. stands_before q p) (leaf_paths (Node root)) ∙ ap last_at (leaves-before (Some (Node root)) p c e)

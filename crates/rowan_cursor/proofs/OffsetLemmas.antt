@@ -8,7 +8,7 @@ use Rattle.rowan_green.specs.Path.{Path, subterm_of, subterm, begins, offset, le
 use Rattle.rowan_green.specs.Search.{child_start}
 use Rattle.rowan_green.proofs.Paths.{offset-empty}
 use Rattle.rowan_cursor.specs.Moves.{leaf_paths}
-use Rattle.rowan_cursor.specs.Pass.{Lists, row, leaf_list}
+use Rattle.rowan_cursor.specs.Pass.{Lists, below_children, leaf_list}
 use Rattle.rowan_cursor.proofs.LeafLemmas.{leaf_list-node, leaves-below}
 use Rattle.rowan_cursor.proofs.PathLemmas.{offset-join, offset-node_child, subterm_of-append, subterm_of-here, child_start-next, node_len-children}
 
@@ -80,16 +80,16 @@ mutual
       fill-to (Node n) 0 (leaf_list (Node n)) (sum_of_lens (node_children n)) (node_len n) (sym (node_len-children n))
       (subst (λ qs. Fill (Node n) 0 qs (sum_of_lens (node_children n))) (sym (leaf_list-node n)) (row-fills n 0 f refl))
 
-  row-fills : (n : NodeTerm) (m : ℕ) (f : Forest) → drop m (node_children n) ≡ terms f → Fill (Node n) (child_start (node_children n) m) (row leaf_list m (terms f)) (sum_of_lens (node_children n))
+  row-fills : (n : NodeTerm) (m : ℕ) (f : Forest) → drop m (node_children n) ≡ terms f → Fill (Node n) (child_start (node_children n) m) (below_children leaf_list m (terms f)) (sum_of_lens (node_children n))
   row-fills n m empty h = ap sum_of_lens (take_all m (node_children n) (drop-none m (node_children n) h))
   row-fills n m (node_then c f) h =
       let ts = node_children n in
       let at = drop-first m ts (Node c) (terms f) h in
-      fill-append (Node n) (child_start ts m) (map (λ q. m ∷ q) (leaf_list (Node c))) (child_start ts (suc m)) (row leaf_list (suc m) (terms f)) (sum_of_lens ts) (child-fills n m (Node c) at.0 (node-fills c)) (row-fills n (suc m) f at.1)
+      fill-append (Node n) (child_start ts m) (map (λ q. m ∷ q) (leaf_list (Node c))) (child_start ts (suc m)) (below_children leaf_list (suc m) (terms f)) (sum_of_lens ts) (child-fills n m (Node c) at.0 (node-fills c)) (row-fills n (suc m) f at.1)
   row-fills n m (token_then t f) h =
       let ts = node_children n in
       let at = drop-first m ts (Token t) (terms f) h in
-      fill-append (Node n) (child_start ts m) (map (λ q. m ∷ q) (leaf_list (Token t))) (child_start ts (suc m)) (row leaf_list (suc m) (terms f)) (sum_of_lens ts) (child-fills n m (Token t) at.0 (token-fills t)) (row-fills n (suc m) f at.1)
+      fill-append (Node n) (child_start ts m) (map (λ q. m ∷ q) (leaf_list (Token t))) (child_start ts (suc m)) (below_children leaf_list (suc m) (terms f)) (sum_of_lens ts) (child-fills n m (Token t) at.0 (token-fills t)) (row-fills n (suc m) f at.1)
 
 -- the leaves of a term fill its text
 pub leaves-fill : (t : Term) → Fill t 0 (leaf_paths t) (term_len t)
@@ -132,17 +132,17 @@ among-right : (q : Path) (rs ss : List Path) → IsAmong q ss → IsAmong q (rs 
 among-right q [] ss h = h
 among-right q (r ∷ rs) ss h = inr (among-right q rs ss h)
 
-among-row : (g : Lists) (m i : ℕ) (ts : List Term) (c : Term) (q : Path) → slice_get ts i ≡ Some c → IsAmong q (g c) → IsAmong ((m + i) ∷ q) (row g m ts)
+among-row : (g : Lists) (m i : ℕ) (ts : List Term) (c : Term) (q : Path) → slice_get ts i ≡ Some c → IsAmong q (g c) → IsAmong ((m + i) ∷ q) (below_children g m ts)
 among-row g m i [] c q at h = absurd cc
 among-row g m zero (t ∷ ts) c q at h =
     let e : m ≡ m + 0 = omega arith in
     let same : c ≡ t = cc in
-    subst (λ j. IsAmong (j ∷ q) (map (λ q. m ∷ q) (g t) ++ row g (suc m) ts)) e
-    (among-left (m ∷ q) (map (λ q. m ∷ q) (g t)) (row g (suc m) ts) (among-map (λ q. m ∷ q) q (g t) (subst (λ u. IsAmong q (g u)) same h)))
+    subst (λ j. IsAmong (j ∷ q) (map (λ q. m ∷ q) (g t) ++ below_children g (suc m) ts)) e
+    (among-left (m ∷ q) (map (λ q. m ∷ q) (g t)) (below_children g (suc m) ts) (among-map (λ q. m ∷ q) q (g t) (subst (λ u. IsAmong q (g u)) same h)))
 among-row g m (suc i) (t ∷ ts) c q at h =
     let e : suc m + i ≡ m + suc i = omega arith in
-    subst (λ j. IsAmong (j ∷ q) (map (λ q. m ∷ q) (g t) ++ row g (suc m) ts)) e
-    (among-right ((suc m + i) ∷ q) (map (λ q. m ∷ q) (g t)) (row g (suc m) ts) (among-row g (suc m) i ts c q at h))
+    subst (λ j. IsAmong (j ∷ q) (map (λ q. m ∷ q) (g t) ++ below_children g (suc m) ts)) e
+    (among-right ((suc m + i) ∷ q) (map (λ q. m ∷ q) (g t)) (below_children g (suc m) ts) (among-row g (suc m) i ts c q at h))
 
 -- a token's path is that of a leaf
 some-token : (o : Option Term) (q : Path) (t : TokenTerm) → subterm_of o q ≡ Some (Token t) → (c : Term) × (o ≡ Some c)
@@ -158,7 +158,7 @@ among-leaves (Node n) (i ∷ q) t h =
     let e : 0 + i ≡ i = omega arith in
     let own = among-leaves c.0 q t (ap (λ o. subterm_of o q) (sym c.1) ∙ h) in
     subst (IsAmong (i ∷ q)) (sym (leaf_list-node n))
-    (subst (λ j. IsAmong (j ∷ q) (row leaf_list 0 (node_children n))) e (among-row leaf_list 0 i (node_children n) c.0 q c.1 own))
+    (subst (λ j. IsAmong (j ∷ q) (below_children leaf_list 0 (node_children n))) e (among-row leaf_list 0 i (node_children n) c.0 q c.1 own))
 
 pub among-leaves_below : (t : Term) (p q : Path) (u : Term) (k : TokenTerm) → subterm t p ≡ Some u → subterm t (p ++ q) ≡ Some (Token k) → IsAmong (p ++ q) (filter (begins p) (leaf_paths t))
 among-leaves_below t p q u k there h =

@@ -14,8 +14,8 @@ use Rattle.rowan_green.specs.Path.{Path, subterm, offset, len_of, term_children}
 use Rattle.rowan_green.proofs.Paths.{offset-empty}
 use Rattle.rowan_green.proofs.SearchLemmas.{child_start-le_all}
 use Rattle.rowan_cursor.specs.Cursor.{last_index}
-use Rattle.rowan_cursor.specs.Moves.{numbers, below, child_count, children_of, is_node, child_paths, first_at, following, preceding}
-use Rattle.rowan_cursor.specs.Table.{root_of, green_of, offset_of, index_of, children_in, len_in, counts, path_within, path_at, IsTop, IsChildOf, IsDraft, IsTable, IsRow, IsRowBack, IsEntry, IsNodeEntry}
+use Rattle.rowan_cursor.specs.Moves.{is_node_at, numbers, below, child_count, children_of, is_node, child_paths, first_at, following, preceding}
+use Rattle.rowan_cursor.specs.Table.{root_node, green_of, offset_of, entry_index, children_in, len_in, counts, path_within, entry_path, IsTop, IsChildOf, IsDraft, IsTable, IsRow, IsRowBack, Describes}
 use Rattle.rowan_cursor.specs.declared.table.Entry.{Entry}
 use Rattle.rowan_cursor.proofs.RowLemmas.{map-reverse, first_split, last_split, empty_row}
 use Rattle.rowan_cursor.proofs.PathLemmas.{subterm-child, offset-child, last_index-child, following-child, preceding-child, child_start-next, node_len-children}
@@ -57,19 +57,19 @@ child_end u i t e =
 
 -- ---- what an entry keeps
 
-kept-children : (o : Option Term) (g : Option NodeTerm) → option_map into_node o ≡ Some g → children_of o ≡ children_in g
-kept-children None g e = absurd cc
-kept-children (Some (Node n)) g e = ap children_in (same_Some (Some n) g e)
-kept-children (Some (Token t)) g e = ap children_in (same_Some None g e)
+content-children : (o : Option Term) (g : Option NodeTerm) → option_map into_node o ≡ Some g → children_of o ≡ children_in g
+content-children None g e = absurd cc
+content-children (Some (Node n)) g e = ap children_in (same_Some (Some n) g e)
+content-children (Some (Token t)) g e = ap children_in (same_Some None g e)
 
-pub kept-some : (o : Option Term) (g : Option NodeTerm) → option_map into_node o ≡ Some g → (u : Term) × (o ≡ Some u)
-kept-some None g e = absurd cc
-kept-some (Some u) g e = (u, refl)
+pub content-some : (o : Option Term) (g : Option NodeTerm) → option_map into_node o ≡ Some g → (u : Term) × (o ≡ Some u)
+content-some None g e = absurd cc
+content-some (Some u) g e = (u, refl)
 
-pub kept-none : (o : Option Term) → option_map into_node o ≡ Some None → is_node o ≡ false
-kept-none None e = absurd cc
-kept-none (Some (Node n)) e = absurd cc
-kept-none (Some (Token t)) e = refl
+pub content-none : (o : Option Term) → option_map into_node o ≡ Some None → is_node o ≡ false
+content-none None e = absurd cc
+content-none (Some (Node n)) e = absurd cc
+content-none (Some (Token t)) e = refl
 
 kept_within : (ts : List Term) (i : ℕ) (g : Option NodeTerm) → option_map into_node (slice_get ts i) ≡ Some g → i < length ts
 kept_within [] i g e = absurd cc
@@ -82,9 +82,9 @@ first_child-counts : (es : List Entry) → IsDraft (length es) es → (n : ℕ) 
 first_child-counts es t n e at = t.firsts n e at (slice_get_within es n e at)
 
 same_step : (es : List Entry) (f g : ℕ → Path) (n : ℕ) → IsDraft (length es) es → ((m : ℕ) → m < n → f m ≡ g m) → 0 < n → (o : Option Entry) → slice_get es n ≡ o
-    → option_map_or (λ e. f e.parent ++ index_of es n e ∷ []) o [] ≡ option_map_or (λ e. g e.parent ++ index_of es n e ∷ []) o []
+    → option_map_or (λ e. f e.parent ++ entry_index es n e ∷ []) o [] ≡ option_map_or (λ e. g e.parent ++ entry_index es n e ∷ []) o []
 same_step es f g n t same h None e = refl
-same_step es f g n t same h (Some x) e = ap (λ p. p ++ index_of es n x ∷ []) (same x.parent (t.earlier n x e h).0)
+same_step es f g n t same h (Some x) e = ap (λ p. p ++ entry_index es n x ∷ []) (same x.parent (t.earlier n x e h).0)
 
 -- going up any further than to the root changes nothing
 path_within-enough : (es : List Entry) → IsDraft (length es) es → (a b n : ℕ) → n ≤ a → n ≤ b → path_within a es n ≡ path_within b es n
@@ -98,42 +98,42 @@ path_within-enough es t (suc a) (suc b) (suc n) h k =
     same_step es (path_within a es) (path_within b es) (suc n) t (λ m less. path_within-enough es t a b m (omega arith) (omega arith)) (omega arith) (slice_get es (suc n)) refl
 
 -- the path of an entry is that of its parent, and its index
-pub path_at-child : (es : List Entry) → IsDraft (length es) es → (n : ℕ) (e : Entry) → slice_get es n ≡ Some e → 0 < n → path_at es n ≡ path_at es e.parent ++ index_of es n e ∷ []
-path_at-child es t zero e at h = absurd (omega arith)
-path_at-child es t (suc n) e at h =
+pub entry_path-child : (es : List Entry) → IsDraft (length es) es → (n : ℕ) (e : Entry) → slice_get es n ≡ Some e → 0 < n → entry_path es n ≡ entry_path es e.parent ++ entry_index es n e ∷ []
+entry_path-child es t zero e at h = absurd (omega arith)
+entry_path-child es t (suc n) e at h =
     let less : e.parent < suc n = (t.earlier (suc n) e at h).0 in
-    ap (λ o. option_map_or (λ d. path_within n es d.parent ++ index_of es (suc n) d ∷ []) o []) at
-    ∙ ap (λ p. p ++ index_of es (suc n) e ∷ []) (path_within-enough es t n e.parent e.parent (omega arith) (omega arith))
+    ap (λ o. option_map_or (λ d. path_within n es d.parent ++ entry_index es (suc n) d ∷ []) o []) at
+    ∙ ap (λ p. p ++ entry_index es (suc n) e ∷ []) (path_within-enough es t n e.parent e.parent (omega arith) (omega arith))
 
-pub index_above : (es : List Entry) (n : ℕ) (e p : Entry) → slice_get es e.parent ≡ Some p → index_of es n e ≡ n - p.first_child
+pub index_above : (es : List Entry) (n : ℕ) (e p : Entry) → slice_get es e.parent ≡ Some p → entry_index es n e ≡ n - p.first_child
 index_above es n e p above = ap (λ o. n - option_map_or (λ (q : Entry). q.first_child) o 0) above
 
 -- the same by the parent's entry
-path_at-below : (es : List Entry) → IsDraft (length es) es → (n : ℕ) (e p : Entry) → slice_get es n ≡ Some e → 0 < n → slice_get es e.parent ≡ Some p → path_at es n ≡ path_at es e.parent ++ (n - p.first_child) ∷ []
-path_at-below es t n e p at h above =
-    path_at-child es t n e at h ∙ ap (λ i. path_at es e.parent ++ i ∷ []) (index_above es n e p above)
+entry_path-below : (es : List Entry) → IsDraft (length es) es → (n : ℕ) (e p : Entry) → slice_get es n ≡ Some e → 0 < n → slice_get es e.parent ≡ Some p → entry_path es n ≡ entry_path es e.parent ++ (n - p.first_child) ∷ []
+entry_path-below es t n e p at h above =
+    entry_path-child es t n e at h ∙ ap (λ i. entry_path es e.parent ++ i ∷ []) (index_above es n e p above)
 
 -- ---- what stands at the path of an entry
 
 pub record Stands (es : List Entry) (n : ℕ) (e : Entry) : Type 0 where
-  pub green : option_map into_node (subterm (Node (root_of es)) (path_at es n)) ≡ Some (green_of e)
-  pub start : offset (Node (root_of es)) (path_at es n) ≡ offset_of e
+  pub green : option_map into_node (subterm (Node (root_node es)) (entry_path es n)) ≡ Some (green_of e)
+  pub start : offset (Node (root_node es)) (entry_path es n) ≡ offset_of e
 
 Stands-top : (es : List Entry) (e : Entry) → IsTop es e → Stands es 0 e
 Stands-top es e top = record {
   green = ap (λ g. Some g) (sym top.green);
-  start = offset-empty (Node (root_of es)) ∙ sym top.start;
+  start = offset-empty (Node (root_node es)) ∙ sym top.start;
 }
 
 Stands-child : (es : List Entry) → IsDraft (length es) es → (n : ℕ) (e p : Entry) → slice_get es n ≡ Some e → 0 < n → slice_get es e.parent ≡ Some p
     → Stands es e.parent p → Stands es n e
 Stands-child es t n e p at h above s =
     let c : IsChildOf p n e = t.parents n e p at h above in
-    let root = root_of es in
-    let q = path_at es e.parent in
+    let root = root_node es in
+    let q = entry_path es e.parent in
     let i = n - p.first_child in
-    let path : path_at es n ≡ q ++ i ∷ [] = path_at-below es t n e p at h above in
-    let terms : children_of (subterm (Node root) q) ≡ children_in (green_of p) = kept-children (subterm (Node root) q) (green_of p) s.green in
+    let path : entry_path es n ≡ q ++ i ∷ [] = entry_path-below es t n e p at h above in
+    let terms : children_of (subterm (Node root) q) ≡ children_in (green_of p) = content-children (subterm (Node root) q) (green_of p) s.green in
     let inside : i < length (children_of (subterm (Node root) q)) = omega (arith, ap length terms, kept_within (children_in (green_of p)) i (green_of e) c.child) in
     record {
       green = ap (λ r. option_map into_node (subterm (Node root) r)) path ∙ ap (option_map into_node) (subterm-child (Some (Node root)) q i ∙ ap (λ ts. slice_get ts i) terms) ∙ c.child;
@@ -162,14 +162,14 @@ ends_below es t n e p at h above (Some u) f =
     omega (arith, (t.parents n e p at h above).start, end_of-token (green_of p) (n - p.first_child) u f, t.ends e.parent p above)
 
 -- an entry's term is that child of the node above
-pub child_above : (es : List Entry) → IsDraft (length es) es → (n : ℕ) (e p : Entry) → slice_get es n ≡ Some e → 0 < n → slice_get es e.parent ≡ Some p → subterm (Node (root_of es)) (path_at es n) ≡ slice_get (children_in (green_of p)) (n - p.first_child)
+pub child_above : (es : List Entry) → IsDraft (length es) es → (n : ℕ) (e p : Entry) → slice_get es n ≡ Some e → 0 < n → slice_get es e.parent ≡ Some p → subterm (Node (root_node es)) (entry_path es n) ≡ slice_get (children_in (green_of p)) (n - p.first_child)
 child_above es t n e p at h above =
-    let root = root_of es in
-    let q = path_at es e.parent in
-    ap (λ r. subterm (Node root) r) (path_at-below es t n e p at h above) ∙ subterm-child (Some (Node root)) q (n - p.first_child)
-    ∙ ap (λ ts. slice_get ts (n - p.first_child)) (kept-children (subterm (Node root) q) (green_of p) (stands es t e.parent p above).green)
+    let root = root_node es in
+    let q = entry_path es e.parent in
+    ap (λ r. subterm (Node root) r) (entry_path-below es t n e p at h above) ∙ subterm-child (Some (Node root)) q (n - p.first_child)
+    ∙ ap (λ ts. slice_get ts (n - p.first_child)) (content-children (subterm (Node root) q) (green_of p) (stands es t e.parent p above).green)
 
-ends_within : (es : List Entry) → IsDraft (length es) es → (n : ℕ) (e : Entry) → slice_get es n ≡ Some e → offset_of e + len_of (subterm (Node (root_of es)) (path_at es n)) ≤ byte_limit
+ends_within : (es : List Entry) → IsDraft (length es) es → (n : ℕ) (e : Entry) → slice_get es n ≡ Some e → offset_of e + len_of (subterm (Node (root_node es)) (entry_path es n)) ≤ byte_limit
 ends_within es t zero e at = omega (arith, t.ends 0 e at, ap len_in (t.top e at).green)
 ends_within es t (suc n) e at =
     let less : e.parent < suc n = (t.earlier (suc n) e at (omega arith)).0 in
@@ -177,10 +177,10 @@ ends_within es t (suc n) e at =
     let p = above.0 in
     omega (arith, ends_below es t (suc n) e p at (omega arith) above.1 (slice_get (children_in (green_of p)) (suc n - p.first_child)) refl, ap len_of (child_above es t (suc n) e p at (omega arith) above.1))
 
-last_index-index : (es : List Entry) → IsDraft (length es) es → (n : ℕ) (e : Entry) → slice_get es n ≡ Some e → last_index (path_at es n) ≡ index_of es n e
+last_index-index : (es : List Entry) → IsDraft (length es) es → (n : ℕ) (e : Entry) → slice_get es n ≡ Some e → last_index (entry_path es n) ≡ entry_index es n e
 last_index-index es t zero e at = omega arith
 last_index-index es t (suc n) e at =
-    ap last_index (path_at-child es t (suc n) e at (omega arith)) ∙ last_index-child (path_at es e.parent) (index_of es (suc n) e)
+    ap last_index (entry_path-child es t (suc n) e at (omega arith)) ∙ last_index-child (entry_path es e.parent) (entry_index es (suc n) e)
 
 -- ---- rows
 
@@ -196,7 +196,7 @@ pub record HasChild (es : List Entry) (n : ℕ) (e : Entry) (j : ℕ) : Type 0 w
   pub child : Entry
   pub at : slice_get es (e.first_child + j) ≡ Some child
   pub parent : child.parent ≡ n
-  pub index : index_of es (e.first_child + j) child ≡ j
+  pub index : entry_index es (e.first_child + j) child ≡ j
 
 same_parent : (a b : ℕ) → (a < b → ⊥) → (b < a → ⊥) → a ≡ b
 same_parent a b h k = omega arith
@@ -231,36 +231,36 @@ has_child es t n e j at h =
       child = c;
       at = found.1;
       parent = same;
-      index = same_index m p.first_child e.first_child (index_of es m c) j (index_above es m c p above.1) refl (same_first p e entry);
+      index = same_index m p.first_child e.first_child (entry_index es m c) j (index_above es m c p above.1) refl (same_first p e entry);
     }
 
-pub path_at-row : (es : List Entry) → IsTable es → (n : ℕ) (e : Entry) (j : ℕ) → slice_get es n ≡ Some e → j < length (children_in (green_of e)) → path_at es (e.first_child + j) ≡ path_at es n ++ j ∷ []
-path_at-row es t n e j at h =
+pub entry_path-row : (es : List Entry) → IsTable es → (n : ℕ) (e : Entry) (j : ℕ) → slice_get es n ≡ Some e → j < length (children_in (green_of e)) → entry_path es (e.first_child + j) ≡ entry_path es n ++ j ∷ []
+entry_path-row es t n e j at h =
     let c : HasChild es n e j = has_child es t n e j at h in
     let behind : 0 < e.first_child + j = omega (arith, first_child-counts es t.draft n e at) in
-    path_at-child es t.draft (e.first_child + j) c.child c.at behind
-    ∙ ap (λ k. path_at es k ++ index_of es (e.first_child + j) c.child ∷ []) c.parent ∙ ap (λ i. path_at es n ++ i ∷ []) c.index
+    entry_path-child es t.draft (e.first_child + j) c.child c.at behind
+    ∙ ap (λ k. entry_path es k ++ entry_index es (e.first_child + j) c.child ∷ []) c.parent ∙ ap (λ i. entry_path es n ++ i ∷ []) c.index
 
 -- a part of the children of an entry
 pub row_below : (es : List Entry) → IsTable es → (n : ℕ) (e : Entry) → slice_get es n ≡ Some e → (c a : ℕ) → a + c ≤ length (children_in (green_of e))
-    → map (path_at es) (numbers (e.first_child + a) c) ≡ below (path_at es n) (numbers a c)
+    → map (entry_path es) (numbers (e.first_child + a) c) ≡ below (entry_path es n) (numbers a c)
 row_below es t n e at zero a h = refl
 row_below es t n e at (suc c) a h =
     let next : e.first_child + a + 1 ≡ e.first_child + (a + 1) = omega arith in
-    let rest : map (path_at es) (numbers (e.first_child + a + 1) c) ≡ below (path_at es n) (numbers (a + 1) c) =
-    ap (λ k. map (path_at es) (numbers k c)) next ∙ row_below es t n e at c (a + 1) (omega arith) in
-    ap (λ p. p ∷ map (path_at es) (numbers (e.first_child + a + 1) c)) (path_at-row es t n e a at (omega arith))
-    ∙ ap (λ ps. (path_at es n ++ a ∷ []) ∷ ps) rest
+    let rest : map (entry_path es) (numbers (e.first_child + a + 1) c) ≡ below (entry_path es n) (numbers (a + 1) c) =
+    ap (λ k. map (entry_path es) (numbers k c)) next ∙ row_below es t n e at c (a + 1) (omega arith) in
+    ap (λ p. p ∷ map (entry_path es) (numbers (e.first_child + a + 1) c)) (entry_path-row es t n e a at (omega arith))
+    ∙ ap (λ ps. (entry_path es n ++ a ∷ []) ∷ ps) rest
 
-child_count-entry : (es : List Entry) → IsDraft (length es) es → (n : ℕ) (e : Entry) → slice_get es n ≡ Some e → child_count (root_of es) (path_at es n) ≡ length (children_in (green_of e))
+child_count-entry : (es : List Entry) → IsDraft (length es) es → (n : ℕ) (e : Entry) → slice_get es n ≡ Some e → child_count (root_node es) (entry_path es n) ≡ length (children_in (green_of e))
 child_count-entry es t n e at =
-    ap length (kept-children (subterm (Node (root_of es)) (path_at es n)) (green_of e) (stands es t n e at).green)
+    ap length (content-children (subterm (Node (root_node es)) (entry_path es n)) (green_of e) (stands es t n e at).green)
 
 -- some of the children of an entry, where their numbers are known in another form
 part : (es : List Entry) → IsTable es → (n : ℕ) (e : Entry) → slice_get es n ≡ Some e → (start a c : ℕ) → start ≡ e.first_child + a → a + c ≤ length (children_in (green_of e))
-    → map (path_at es) (numbers start c) ≡ below (path_at es n) (numbers a c)
+    → map (entry_path es) (numbers start c) ≡ below (entry_path es n) (numbers a c)
 part es t n e at start a c from h =
-    ap (λ k. map (path_at es) (numbers k c)) from ∙ row_below es t n e at c a h
+    ap (λ k. map (entry_path es) (numbers k c)) from ∙ row_below es t n e at c a h
 
 -- the children of an entry end where those of the next begin, and those of the last with the table
 pub row_end-next : (es : List Entry) → IsTable es → (n : ℕ) (e d : Entry) → slice_get es n ≡ Some e → slice_get es (n + 1) ≡ Some d → d.first_child ≡ e.first_child + length (children_in (green_of e))
@@ -271,17 +271,17 @@ pub row_end-last : (es : List Entry) → IsTable es → (n : ℕ) (e : Entry) �
 row_end-last es t n e at h =
     omega (arith, t.whole, first_child-counts es t.draft n e at, counts-more es n e at, ap counts (take_all (n + 1) es (omega arith)))
 
-children_row : (es : List Entry) → IsTable es → (n : ℕ) (e : Entry) → slice_get es n ≡ Some e → IsRow es e.first_child (e.first_child + length (children_in (green_of e))) (child_paths (root_of es) (path_at es n))
+children_row : (es : List Entry) → IsTable es → (n : ℕ) (e : Entry) → slice_get es n ≡ Some e → IsRow es e.first_child (e.first_child + length (children_in (green_of e))) (child_paths (root_node es) (entry_path es n))
 children_row es t n e at =
     let left : e.first_child + length (children_in (green_of e)) - e.first_child ≡ length (children_in (green_of e)) = omega arith in
     record {
       order = omega arith;
       within = row_within es t n e at;
-      row = ap (λ c. map (path_at es) (numbers e.first_child c)) left ∙ part es t n e at e.first_child 0 (length (children_in (green_of e))) (omega arith) (omega arith) ∙ ap (λ c. below (path_at es n) (numbers 0 c)) (sym (child_count-entry es t.draft n e at));
+      row = ap (λ c. map (entry_path es) (numbers e.first_child c)) left ∙ part es t n e at e.first_child 0 (length (children_in (green_of e))) (omega arith) (omega arith) ∙ ap (λ c. below (entry_path es n) (numbers 0 c)) (sym (child_count-entry es t.draft n e at));
     }
 
 -- all that stands at a number
-pub is_entry : (es : List Entry) → IsTable es → (n : ℕ) (e : Entry) → slice_get es n ≡ Some e → IsEntry es n e
+pub is_entry : (es : List Entry) → IsTable es → (n : ℕ) (e : Entry) → slice_get es n ≡ Some e → Describes es n e
 is_entry es t n e at =
     let s : Stands es n e = stands es t.draft n e at in
     record {
@@ -292,7 +292,7 @@ is_entry es t n e at =
       index = last_index-index es t.draft n e at;
       below = λ h. record {
         earlier = (t.draft.earlier n e at h).0;
-        path = path_at-child es t.draft n e at h;
+        path = entry_path-child es t.draft n e at h;
       };
       children = children_row es t n e at;
     }
@@ -311,10 +311,10 @@ index_below : (es : List Entry) (n : ℕ) (e p : Entry) → IsTable es → HasAb
 index_below es n e p t h =
     kept_within (children_in (green_of p)) (n - p.first_child) (green_of e) (t.draft.parents n e p h.at h.behind h.above).child
 
-pub following_row : (es : List Entry) → IsTable es → (n : ℕ) (e p : Entry) → HasAbove es n e p → IsRow es (n + 1) (p.first_child + length (children_in (green_of p))) (following (root_of es) (path_at es n))
+pub following_row : (es : List Entry) → IsTable es → (n : ℕ) (e p : Entry) → HasAbove es n e p → IsRow es (n + 1) (p.first_child + length (children_in (green_of p))) (following (root_node es) (entry_path es n))
 following_row es t n e p h =
-    let root = root_of es in
-    let q = path_at es e.parent in
+    let root = root_node es in
+    let q = entry_path es e.parent in
     let at : n ≡ p.first_child + (n - p.first_child) = place es n e p t h in
     let less : n - p.first_child < length (children_in (green_of p)) = index_below es n e p t h in
     let left : p.first_child + length (children_in (green_of p)) - (n + 1) ≡ length (children_in (green_of p)) - (n - p.first_child + 1) = omega arith in
@@ -322,16 +322,16 @@ following_row es t n e p h =
     record {
       order = omega arith;
       within = row_within es t e.parent p h.above;
-      row = ap (λ c. map (path_at es) (numbers (n + 1) c)) left
+      row = ap (λ c. map (entry_path es) (numbers (n + 1) c)) left
           ∙ part es t e.parent p h.above (n + 1) (n - p.first_child + 1) (length (children_in (green_of p)) - (n - p.first_child + 1)) from (omega arith)
           ∙ ap (λ c. below q (numbers (n - p.first_child + 1) (c - (n - p.first_child + 1)))) (sym (child_count-entry es t.draft e.parent p h.above))
-          ∙ sym (following-child root q (n - p.first_child)) ∙ ap (following root) (sym (path_at-below es t.draft n e p h.at h.behind h.above));
+          ∙ sym (following-child root q (n - p.first_child)) ∙ ap (following root) (sym (entry_path-below es t.draft n e p h.at h.behind h.above));
     }
 
-pub preceding_row : (es : List Entry) → IsTable es → (n : ℕ) (e p : Entry) → HasAbove es n e p → IsRowBack es p.first_child n (preceding (root_of es) (path_at es n))
+pub preceding_row : (es : List Entry) → IsTable es → (n : ℕ) (e p : Entry) → HasAbove es n e p → IsRowBack es p.first_child n (preceding (root_node es) (entry_path es n))
 preceding_row es t n e p h =
-    let root = root_of es in
-    let q = path_at es e.parent in
+    let root = root_node es in
+    let q = entry_path es e.parent in
     let at : n ≡ p.first_child + (n - p.first_child) = place es n e p t h in
     let less : n - p.first_child < length (children_in (green_of p)) = index_below es n e p t h in
     record {
@@ -339,7 +339,7 @@ preceding_row es t n e p h =
       within = omega (arith, slice_get_within es n e h.at);
       row = ap reverse (part es t e.parent p h.above p.first_child 0 (n - p.first_child) (omega arith) (omega arith))
           ∙ sym (map-reverse (λ i. q ++ i ∷ []) (numbers 0 (n - p.first_child)))
-          ∙ sym (preceding-child root q (n - p.first_child)) ∙ ap (preceding root) (sym (path_at-below es t.draft n e p h.at h.behind h.above));
+          ∙ sym (preceding-child root q (n - p.first_child)) ∙ ap (preceding root) (sym (entry_path-below es t.draft n e p h.at h.behind h.above));
     }
 
 pub above_of : (es : List Entry) → IsTable es → (n : ℕ) (e : Entry) → slice_get es n ≡ Some e → 0 < n → (p : Entry) × HasAbove es n e p
@@ -356,11 +356,11 @@ above_of es t n e at h =
 
 -- the siblings behind an entry end where the children of its parent do
 pub following_to : (es : List Entry) → IsTable es → (n : ℕ) (e : Entry) (end : ℕ) → slice_get es n ≡ Some e → 0 < n
-    → ((p : Entry) → slice_get es e.parent ≡ Some p → end ≡ p.first_child + length (children_in (green_of p))) → IsRow es (n + 1) end (following (root_of es) (path_at es n))
+    → ((p : Entry) → slice_get es e.parent ≡ Some p → end ≡ p.first_child + length (children_in (green_of p))) → IsRow es (n + 1) end (following (root_node es) (entry_path es n))
 following_to es t n e end at h ends =
     let a = above_of es t n e at h in
     let row = following_row es t n e a.0 a.1 in
-    subst (λ k. IsRow es (n + 1) k (following (root_of es) (path_at es n))) (sym (ends a.0 a.1.above)) row
+    subst (λ k. IsRow es (n + 1) k (following (root_node es) (entry_path es n))) (sym (ends a.0 a.1.above)) row
 
 -- two entries with one number have one parent
 parent_at : (es : List Entry) (m k : ℕ) (d c : Entry) (parent : ℕ) → slice_get es m ≡ Some d → slice_get es k ≡ Some c → m ≡ k → c.parent ≡ parent → d.parent ≡ parent
@@ -368,26 +368,26 @@ parent_at es m k d c parent at there same above = ap (λ (x : Entry). x.parent) 
 
 -- the next sibling is the next entry, where that has the same parent
 no_next : (es : List Entry) (a b : ℕ) (ps : List Path) → IsRow es a b ps → a ≡ b → None ≡ first_at ps
-no_next es a b ps row h = ap first_at (sym (empty_row (path_at es) a b h) ∙ row.row)
+no_next es a b ps row h = ap first_at (sym (empty_row (entry_path es) a b h) ∙ row.row)
 
-pub next_past : (es : List Entry) → IsTable es → (n : ℕ) (e : Entry) → slice_get es n ≡ Some e → 0 < n → n + 1 ≡ length es → None ≡ first_at (following (root_of es) (path_at es n))
+pub next_past : (es : List Entry) → IsTable es → (n : ℕ) (e : Entry) → slice_get es n ≡ Some e → 0 < n → n + 1 ≡ length es → None ≡ first_at (following (root_node es) (entry_path es n))
 next_past es t n e at h last =
     let a = above_of es t n e at h in
     let row = following_row es t n e a.0 a.1 in
-    no_next es (n + 1) (a.0.first_child + length (children_in (green_of a.0))) (following (root_of es) (path_at es n)) row (omega (arith, row.order, row.within))
+    no_next es (n + 1) (a.0.first_child + length (children_in (green_of a.0))) (following (root_node es) (entry_path es n)) row (omega (arith, row.order, row.within))
 
 pub next_beside : (es : List Entry) → IsTable es → (n : ℕ) (e d : Entry) → slice_get es n ≡ Some e → 0 < n → slice_get es (n + 1) ≡ Some d → d.parent ≡ e.parent
-    → Some (path_at es (n + 1)) ≡ first_at (following (root_of es) (path_at es n))
+    → Some (entry_path es (n + 1)) ≡ first_at (following (root_node es) (entry_path es n))
 next_beside es t n e d at h next same =
     let a = above_of es t n e at h in
     let p = a.0 in
     let row = following_row es t n e p a.1 in
     let is : IsChildOf p (n + 1) d = t.draft.parents (n + 1) d p next (omega arith) (ap (λ k. slice_get es k) same ∙ a.1.above) in
     let less : n + 1 < p.first_child + length (children_in (green_of p)) = omega (arith, is.place, kept_within (children_in (green_of p)) (n + 1 - p.first_child) (green_of d) is.child) in
-    sym (ap first_at (first_split (path_at es) (n + 1) (p.first_child + length (children_in (green_of p))) less)) ∙ ap first_at row.row
+    sym (ap first_at (first_split (entry_path es) (n + 1) (p.first_child + length (children_in (green_of p))) less)) ∙ ap first_at row.row
 
 pub next_apart : (es : List Entry) → IsTable es → (n : ℕ) (e d : Entry) → slice_get es n ≡ Some e → 0 < n → slice_get es (n + 1) ≡ Some d → (d.parent ≡ e.parent → ⊥)
-    → None ≡ first_at (following (root_of es) (path_at es n))
+    → None ≡ first_at (following (root_node es) (entry_path es n))
 next_apart es t n e d at h next apart =
     let a = above_of es t n e at h in
     let p = a.0 in
@@ -399,23 +399,23 @@ next_apart es t n e d at h next apart =
     let c = has_child es t e.parent p (n + 1 - p.first_child) a.1.above (omega arith) in
     apart (parent_at es (n + 1) (p.first_child + (n + 1 - p.first_child)) d c.child e.parent next c.at here c.parent)) in
     let past : end < n + 1 → ⊥ = λ more. omega (arith, row.order) in
-    no_next es (n + 1) end (following (root_of es) (path_at es n)) row (same_parent (n + 1) end inside past)
+    no_next es (n + 1) end (following (root_node es) (entry_path es n)) row (same_parent (n + 1) end inside past)
 
 -- the sibling before is the entry before, where that has the same parent
 no_prev : (es : List Entry) (a b : ℕ) (ps : List Path) → IsRowBack es a b ps → a ≡ b → None ≡ first_at ps
-no_prev es a b ps row h = ap first_at (sym (ap reverse (empty_row (path_at es) a b h)) ∙ row.row)
+no_prev es a b ps row h = ap first_at (sym (ap reverse (empty_row (entry_path es) a b h)) ∙ row.row)
 
 pub prev_beside : (es : List Entry) → IsTable es → (n : ℕ) (e d : Entry) → slice_get es n ≡ Some e → 1 < n → slice_get es (n - 1) ≡ Some d → d.parent ≡ e.parent
-    → Some (path_at es (n - 1)) ≡ first_at (preceding (root_of es) (path_at es n))
+    → Some (entry_path es (n - 1)) ≡ first_at (preceding (root_node es) (entry_path es n))
 prev_beside es t n e d at h before same =
     let a = above_of es t n e at (omega arith) in
     let p = a.0 in
     let row = preceding_row es t n e p a.1 in
     let is : IsChildOf p (n - 1) d = t.draft.parents (n - 1) d p before (omega arith) (ap (λ k. slice_get es k) same ∙ a.1.above) in
-    sym (ap first_at (last_split (path_at es) p.first_child n (n - 1) (omega (arith, is.place)) (omega arith))) ∙ ap first_at row.row
+    sym (ap first_at (last_split (entry_path es) p.first_child n (n - 1) (omega (arith, is.place)) (omega arith))) ∙ ap first_at row.row
 
 pub prev_apart : (es : List Entry) → IsTable es → (n : ℕ) (e d : Entry) → slice_get es n ≡ Some e → 1 < n → slice_get es (n - 1) ≡ Some d → (d.parent ≡ e.parent → ⊥)
-    → None ≡ first_at (preceding (root_of es) (path_at es n))
+    → None ≡ first_at (preceding (root_node es) (entry_path es n))
 prev_apart es t n e d at h before apart =
     let a = above_of es t n e at (omega arith) in
     let p = a.0 in
@@ -425,7 +425,7 @@ prev_apart es t n e d at h before apart =
     let c = has_child es t e.parent p (n - 1 - p.first_child) a.1.above (omega (arith, index_below es n e p t a.1)) in
     apart (parent_at es (n - 1) (p.first_child + (n - 1 - p.first_child)) d c.child e.parent before c.at here c.parent)) in
     let past : n < p.first_child → ⊥ = λ more. omega (arith, row.order) in
-    no_prev es p.first_child n (preceding (root_of es) (path_at es n)) row (same_parent p.first_child n inside past)
+    no_prev es p.first_child n (preceding (root_node es) (entry_path es n)) row (same_parent p.first_child n inside past)
 
 -- only a node has children
 node_with_child : (o : Option Term) (g k : Option NodeTerm) (i : ℕ) → option_map into_node o ≡ Some g → option_map into_node (slice_get (children_in g) i) ≡ Some k → is_node o ≡ true
@@ -433,16 +433,16 @@ node_with_child None g k i e h = absurd cc
 node_with_child (Some (Node n)) g k i e h = refl
 node_with_child (Some (Token t)) g k i e h = absurd (omega (arith, kept_within (children_in g) i k h, ap (λ l. length (children_in l)) (same_Some None g e)))
 
-pub node_above : (es : List Entry) → IsTable es → (n : ℕ) (e : Entry) → slice_get es n ≡ Some e → 0 < n → IsNodeEntry es e.parent
+pub node_above : (es : List Entry) → IsTable es → (n : ℕ) (e : Entry) → slice_get es n ≡ Some e → 0 < n → is_node_at (root_node es) (entry_path es e.parent) ≡ true
 node_above es t n e at h =
     let a = above_of es t n e at h in
     let p = a.0 in
-    node_with_child (subterm (Node (root_of es)) (path_at es e.parent)) (green_of p) (green_of e) (n - p.first_child) (stands es t.draft e.parent p a.1.above).green (t.draft.parents n e p at h a.1.above).child
+    node_with_child (subterm (Node (root_node es)) (entry_path es e.parent)) (green_of p) (green_of e) (n - p.first_child) (stands es t.draft e.parent p a.1.above).green (t.draft.parents n e p at h a.1.above).child
 
 -- what an entry without a node stands for is a child of the node above
 pub child_of_above : (es : List Entry) → IsTable es → (n : ℕ) (e p : Entry) → slice_get es n ≡ Some e → green_of e ≡ None → slice_get es e.parent ≡ Some p
-    → (subterm (Node (root_of es)) (path_at es n) ≡ slice_get (children_in (green_of p)) (n - p.first_child)) × (n - p.first_child < length (children_in (green_of p)))
-child_of_above es t zero e p at bare above = absurd (none-some (root_of es) (sym bare ∙ (t.draft.top e at).green))
+    → (subterm (Node (root_node es)) (entry_path es n) ≡ slice_get (children_in (green_of p)) (n - p.first_child)) × (n - p.first_child < length (children_in (green_of p)))
+child_of_above es t zero e p at bare above = absurd (none-some (root_node es) (sym bare ∙ (t.draft.top e at).green))
 child_of_above es t (suc n) e p at bare above = (
   child_above es t.draft (suc n) e p at (omega arith) above,
   kept_within (children_in (green_of p)) (suc n - p.first_child) (green_of e) (t.draft.parents (suc n) e p at (omega arith) above).child,

@@ -9,13 +9,13 @@ use Rattle.rowan_green.specs.declared.utility_types.NodeOrToken.TheVariants.{Nod
 use Rattle.rowan_green.specs.Term.{NodeTerm, Term}
 use Rattle.rowan_green.specs.Path.{Path, term_children, subterm, begins}
 use Rattle.rowan_cursor.specs.Moves.{parent_path, children_of, numbers, below, child_count, child_paths, following, preceding, is_node, is_node_at, first_at, first_leaf_path, last_leaf_path, next_leaf_path, prev_leaf_path}
-use Rattle.rowan_cursor.specs.Pass.{Lists, row, of_some, after, before, entered, rest, reached, upto, leaf_list, element_list, ComesBehind, ComesNext, ComesBefore, ComesBack, first_inside, last_inside}
-use Rattle.rowan_cursor.specs.Table.{IsDraft, IsTable, green_of, index_of, root_of, path_at}
+use Rattle.rowan_cursor.specs.Pass.{Lists, below_children, of_some, after, before, since, since_child, until, until_child, leaf_list, element_list, ComesBehind, ComesNext, ComesBefore, ComesBack, first_inside, last_inside}
+use Rattle.rowan_cursor.specs.Table.{IsDraft, IsTable, green_of, entry_index, root_node, entry_path}
 use Rattle.rowan_cursor.specs.declared.table.Entry.{Entry}
 use Rattle.rowan_cursor.proofs.PathLemmas.{last-split, parent_path-child, following-child, preceding-child, begins-rest, begins-own, begins-same, not-begins, subterm-child, below-first, below-none}
-use Rattle.rowan_cursor.proofs.LeafLemmas.{after-child, rest-child, rest-none, before-child, upto-child, upto-none, upto-all, leaf_list-node, element_list-term, filter_same, filter_row-const, filter-row, find-first, find-last, last_at, first_leaf-below, last_leaf-below, next_leaf-rest, prev_leaf-before}
+use Rattle.rowan_cursor.proofs.LeafLemmas.{after-child, since_child-child, since_child-none, before-child, until_child-child, until_child-none, until_child-all, leaf_list-node, element_list-term, filter_same, filter_row-const, filter-below_children, find-first, find-last, last_at, first_leaf-below, last_leaf-below, next_leaf-since_child, prev_leaf-before}
 use Rattle.rowan_cursor.proofs.RowLemmas.{map-reverse, row-last}
-use Rattle.rowan_cursor.proofs.TableLemmas.{slice_get-some, index_above, path_at-child, is_entry, kept-some}
+use Rattle.rowan_cursor.proofs.TableLemmas.{slice_get-some, index_above, entry_path-child, is_entry, content-some}
 
 -- The last of a list of children.
 below-back : (p : Path) (n : ℕ) → reverse (below p (numbers 0 (suc n))) ≡ (p ++ n ∷ []) ∷ reverse (below p (numbers 0 n))
@@ -118,7 +118,7 @@ next_behind root p s h =
     let t = has_behind root p s h in
     let c = slice_get-some (children_of (subterm (Node root) t.parent)) (suc t.place) t.count in
     record {
-      same = λ g. ap (entered g (Some (Node root))) t.there ∙ sym (rest-child g (Some (Node root)) t.parent (suc t.place) c.0 c.1) ∙ sym (after-child g (Some (Node root)) t.parent t.place) ∙ ap (after g (Some (Node root))) (sym t.here);
+      same = λ g. ap (since g (Some (Node root))) t.there ∙ sym (since_child-child g (Some (Node root)) t.parent (suc t.place) c.0 c.1) ∙ sym (after-child g (Some (Node root)) t.parent t.place) ∙ ap (after g (Some (Node root))) (sym t.here);
     }
 
 pub next_before : (root : NodeTerm) (p s : Path) (u : Term) → subterm (Node root) s ≡ Some u → Some s ≡ first_at (preceding root p) → ComesBefore root p s
@@ -126,20 +126,20 @@ next_before root p s u there h =
     let t = has_before root p s h in
     let child : slice_get (children_of (subterm (Node root) t.parent)) t.place ≡ Some u = sym (subterm-child (Some (Node root)) t.parent t.place) ∙ ap (subterm (Node root)) (sym t.there) ∙ there in
     record {
-      same = λ g. ap (reached g (Some (Node root))) t.there ∙ sym (upto-child g (Some (Node root)) t.parent t.place u child) ∙ sym (before-child g (Some (Node root)) t.parent (suc t.place)) ∙ ap (before g (Some (Node root))) (sym t.here);
+      same = λ g. ap (until g (Some (Node root))) t.there ∙ sym (until_child-child g (Some (Node root)) t.parent t.place u child) ∙ sym (before-child g (Some (Node root)) t.parent (suc t.place)) ∙ ap (before g (Some (Node root))) (sym t.here);
     }
 
 pub climb_behind : (root : NodeTerm) (p q : Path) → ◌≡◌ {A = Option Path} None (first_at (following root p)) → Some q ≡ parent_path p → (g : Lists) → after g (Some (Node root)) p ≡ after g (Some (Node root)) q
 climb_behind root p q h e g =
     let t = split-parent p q e in
     let none = below-none q (t.0 + 1) (child_count root q - (t.0 + 1)) (h ∙ ap (λ u. first_at (following root u)) t.1 ∙ ap first_at (following-child root q t.0)) in
-    ap (after g (Some (Node root))) t.1 ∙ after-child g (Some (Node root)) q t.0 ∙ rest-none g (Some (Node root)) q (suc t.0) (omega (arith, none))
+    ap (after g (Some (Node root))) t.1 ∙ after-child g (Some (Node root)) q t.0 ∙ since_child-none g (Some (Node root)) q (suc t.0) (omega (arith, none))
 
 pub climb_before : (root : NodeTerm) (p q : Path) → ◌≡◌ {A = Option Path} None (first_at (preceding root p)) → Some q ≡ parent_path p → (g : Lists) → before g (Some (Node root)) p ≡ before g (Some (Node root)) q
 climb_before root p q h e g =
     let t = split-parent p q e in
     let none = below-last_none q t.0 (h ∙ ap (λ u. first_at (preceding root u)) t.1 ∙ ap first_at (preceding-child root q t.0) ∙ nearest q t.0) in
-    ap (before g (Some (Node root))) t.1 ∙ before-child g (Some (Node root)) q t.0 ∙ ap (upto g (Some (Node root)) q) none ∙ upto-none g (Some (Node root)) q
+    ap (before g (Some (Node root))) t.1 ∙ before-child g (Some (Node root)) q t.0 ∙ ap (until_child g (Some (Node root)) q) none ∙ until_child-none g (Some (Node root)) q
 
 pub first_child-inside : (root : NodeTerm) (top p s : Path) → begins top p ≡ true → Some s ≡ first_at (child_paths root p) → begins top s ≡ true
 first_child-inside root top p s h e = inside-child top p s 0 h (below-first p 0 (child_count root p) s e).0
@@ -151,25 +151,25 @@ pub next_child : (root : NodeTerm) (p s : Path) → Some s ≡ first_at (child_p
 next_child root p s h =
     let f = below-first p 0 (child_count root p) s h in
     let c = slice_get-some (children_of (subterm (Node root) p)) 0 f.1 in
-    record { same = λ g. ap (entered g (Some (Node root))) f.0 ∙ sym (rest-child g (Some (Node root)) p 0 c.0 c.1) }
+    record { same = λ g. ap (since g (Some (Node root))) f.0 ∙ sym (since_child-child g (Some (Node root)) p 0 c.0 c.1) }
 
-pub no_child-rest : (root : NodeTerm) (p : Path) → ◌≡◌ {A = Option Path} None (first_at (child_paths root p)) → (g : Lists) → rest g (Some (Node root)) p 0 ≡ after g (Some (Node root)) p
-no_child-rest root p h g = rest-none g (Some (Node root)) p 0 (omega (arith, below-none p 0 (child_count root p) h))
+pub no_child-since_child : (root : NodeTerm) (p : Path) → ◌≡◌ {A = Option Path} None (first_at (child_paths root p)) → (g : Lists) → since_child g (Some (Node root)) p 0 ≡ after g (Some (Node root)) p
+no_child-since_child root p h g = since_child-none g (Some (Node root)) p 0 (omega (arith, below-none p 0 (child_count root p) h))
 
 pub next_no_child : (root : NodeTerm) (p s : Path) → ◌≡◌ {A = Option Path} None (first_at (child_paths root p)) → ComesBehind root p s → ComesNext root p s
-next_no_child root p s h b = record { same = λ g. b.same g ∙ sym (no_child-rest root p h g) }
+next_no_child root p s h b = record { same = λ g. b.same g ∙ sym (no_child-since_child root p h g) }
 
 pub back_child : (root : NodeTerm) (p s : Path) → Some s ≡ first_at (reverse (child_paths root p)) → ComesBack root p s
 back_child root p s h =
     let t = below-last p (child_count root p) s h in
     let c = slice_get-some (children_of (subterm (Node root) p)) t.0 (omega (arith, t.1)) in
-    record { same = λ g. ap (reached g (Some (Node root))) t.2 ∙ sym (upto-child g (Some (Node root)) p t.0 c.0 c.1) ∙ ap (upto g (Some (Node root)) p) (sym t.1) }
+    record { same = λ g. ap (until g (Some (Node root))) t.2 ∙ sym (until_child-child g (Some (Node root)) p t.0 c.0 c.1) ∙ ap (until_child g (Some (Node root)) p) (sym t.1) }
 
-pub no_child-upto : (root : NodeTerm) (p : Path) → ◌≡◌ {A = Option Path} None (first_at (reverse (child_paths root p))) → (g : Lists) → upto g (Some (Node root)) p (child_count root p) ≡ before g (Some (Node root)) p
-no_child-upto root p h g = ap (upto g (Some (Node root)) p) (below-last_none p (child_count root p) h) ∙ upto-none g (Some (Node root)) p
+pub no_child-until_child : (root : NodeTerm) (p : Path) → ◌≡◌ {A = Option Path} None (first_at (reverse (child_paths root p))) → (g : Lists) → until_child g (Some (Node root)) p (child_count root p) ≡ before g (Some (Node root)) p
+no_child-until_child root p h g = ap (until_child g (Some (Node root)) p) (below-last_none p (child_count root p) h) ∙ until_child-none g (Some (Node root)) p
 
 pub back_no_child : (root : NodeTerm) (p s : Path) → ◌≡◌ {A = Option Path} None (first_at (reverse (child_paths root p))) → ComesBefore root p s → ComesBack root p s
-back_no_child root p s h b = record { same = λ g. b.same g ∙ sym (no_child-upto root p h g) }
+back_no_child root p s h b = record { same = λ g. b.same g ∙ sym (no_child-until_child root p h g) }
 
 -- Nothing behind an element is below it, nor before it.
 after-outside : (g : Lists) (t : Option Term) (p : Path) → filter (begins p) (after g t p) ≡ []
@@ -177,7 +177,7 @@ after-outside g None p = refl
 after-outside g (Some t) [] = refl
 after-outside g (Some t) (i ∷ p) =
     let own = after g (slice_get (term_children t) i) p in
-    let ls = row g (suc i) (drop (suc i) (term_children t)) in
+    let ls = below_children g (suc i) (drop (suc i) (term_children t)) in
     filter-append (begins (i ∷ p)) (map (λ q. i ∷ q) own) ls ∙ ap (λ us. us ++ filter (begins (i ∷ p)) ls) (filter_same (begins (i ∷ p)) (begins p) i own (λ q. begins-same i p q) ∙ ap (map (λ q. i ∷ q)) (after-outside g (slice_get (term_children t) i) p)) ∙ filter_row-const g (begins (i ∷ p)) false (suc i) (drop (suc i) (term_children t)) (λ j q l. not-begins i j p q (inl (omega arith)))
 
 before-outside : (g : Lists) (t : Option Term) (p : Path) → filter (begins p) (before g t p) ≡ []
@@ -187,7 +187,7 @@ before-outside g (Some t) (i ∷ p) =
     let own = before g (slice_get (term_children t) i) p in
     let ts = take i (term_children t) in
     let past : slice_get ts i ≡ None = slice_get_past ts i (omega (arith, length-take i (term_children t))) in
-    filter-append (begins (i ∷ p)) (row g 0 ts) (map (λ q. i ∷ q) own) ∙ ap (λ us. us ++ filter (begins (i ∷ p)) (map (λ q. i ∷ q) own)) (filter-row g (begins (i ∷ p)) (begins p) false false 0 i i ts (omega arith) (λ j q l. not-begins i j p q (inr l)) (λ q. begins-same i p q) (λ j q l. not-begins i j p q (inl l)) ∙ ap (λ o. map (λ q. i ∷ q) (filter (begins p) (of_some g o)) ++ []) past) ∙ filter_same (begins (i ∷ p)) (begins p) i own (λ q. begins-same i p q) ∙ ap (map (λ q. i ∷ q)) (before-outside g (slice_get (term_children t) i) p)
+    filter-append (begins (i ∷ p)) (below_children g 0 ts) (map (λ q. i ∷ q) own) ∙ ap (λ us. us ++ filter (begins (i ∷ p)) (map (λ q. i ∷ q) own)) (filter-below_children g (begins (i ∷ p)) (begins p) false false 0 i i ts (omega arith) (λ j q l. not-begins i j p q (inr l)) (λ q. begins-same i p q) (λ j q l. not-begins i j p q (inl l)) ∙ ap (λ o. map (λ q. i ∷ q) (filter (begins p) (of_some g o)) ++ []) past) ∙ filter_same (begins (i ∷ p)) (begins p) i own (λ q. begins-same i p q) ∙ ap (map (λ q. i ∷ q)) (before-outside g (slice_get (term_children t) i) p)
 
 pub first_inside-after : (g : Lists) (t : Option Term) (p : Path) → first_inside p (after g t p) ≡ None
 first_inside-after g t p = find-first (begins p) (after g t p) ∙ ap first_at (after-outside g t p)
@@ -200,13 +200,13 @@ all_below p [] = refl
 all_below p (q ∷ qs) = cond-true (begins p (p ++ q)) ((p ++ q) ∷ filter (begins p) (map (λ q. p ++ q) qs)) (filter (begins p) (map (λ q. p ++ q) qs)) (begins-own p q) ∙ ap (λ us. (p ++ q) ∷ us) (all_below p qs)
 
 -- The moves to tokens, as what a pass finds.
-pub first_leaf-pass : (root : NodeTerm) (p : Path) → first_inside p (entered leaf_list (Some (Node root)) p) ≡ first_leaf_path root p
+pub first_leaf-pass : (root : NodeTerm) (p : Path) → first_inside p (since leaf_list (Some (Node root)) p) ≡ first_leaf_path root p
 first_leaf-pass root p =
     let own = map (λ q. p ++ q) (of_some leaf_list (subterm (Node root) p)) in
     let ls = after leaf_list (Some (Node root)) p in
     find-first (begins p) (own ++ ls) ∙ ap first_at (filter-append (begins p) own ls ∙ ap (λ us. us ++ filter (begins p) ls) (all_below p (of_some leaf_list (subterm (Node root) p))) ∙ ap (λ us. own ++ us) (after-outside leaf_list (Some (Node root)) p) ∙ append-nil own) ∙ sym (first_leaf-below root p)
 
-pub last_leaf-pass : (root : NodeTerm) (p : Path) → last_inside p (reached leaf_list (Some (Node root)) p) ≡ last_leaf_path root p
+pub last_leaf-pass : (root : NodeTerm) (p : Path) → last_inside p (until leaf_list (Some (Node root)) p) ≡ last_leaf_path root p
 last_leaf-pass root p =
     let own = map (λ q. p ++ q) (of_some leaf_list (subterm (Node root) p)) in
     let ls = before leaf_list (Some (Node root)) p in
@@ -216,19 +216,19 @@ first_inside-root : (qs : List Path) → first_inside [] qs ≡ first_at qs
 first_inside-root [] = refl
 first_inside-root (q ∷ qs) = refl
 
-pub next_leaf-pass : (root : NodeTerm) (p : Path) → first_inside [] (rest leaf_list (Some (Node root)) p 0) ≡ next_leaf_path root p
-next_leaf-pass root p = first_inside-root (rest leaf_list (Some (Node root)) p 0) ∙ sym (next_leaf-rest root p)
+pub next_leaf-pass : (root : NodeTerm) (p : Path) → first_inside [] (since_child leaf_list (Some (Node root)) p 0) ≡ next_leaf_path root p
+next_leaf-pass root p = first_inside-root (since_child leaf_list (Some (Node root)) p 0) ∙ sym (next_leaf-since_child root p)
 
 pub prev_leaf-pass : (root : NodeTerm) (p : Path) (c : Term) → subterm (Node root) p ≡ Some c → last_inside [] (before leaf_list (Some (Node root)) p) ≡ prev_leaf_path root p
 prev_leaf-pass root p c e = first_inside-root (reverse (before leaf_list (Some (Node root)) p)) ∙ sym (prev_leaf-before root p c e)
 
 -- At a node the pass goes on below it, and has one element less before it; at a token it has found it.
-entered_node : (t : Option Term) → is_node t ≡ true → of_some leaf_list t ≡ row leaf_list 0 (children_of t)
+entered_node : (t : Option Term) → is_node t ≡ true → of_some leaf_list t ≡ below_children leaf_list 0 (children_of t)
 entered_node None h = absurd (true≢false (sym h))
 entered_node (Some (Token t)) h = absurd (true≢false (sym h))
 entered_node (Some (Node n)) h = leaf_list-node n
 
-entered_elements : (t : Option Term) → is_node t ≡ true → of_some element_list t ≡ [] ∷ row element_list 0 (children_of t)
+entered_elements : (t : Option Term) → is_node t ≡ true → of_some element_list t ≡ [] ∷ below_children element_list 0 (children_of t)
 entered_elements None h = absurd (true≢false (sym h))
 entered_elements (Some t) h = element_list-term t
 
@@ -237,30 +237,30 @@ found_token None c e h = absurd cc
 found_token (Some (Node n)) c e h = absurd (true≢false h)
 found_token (Some (Token t)) c e h = refl
 
-pub entered-node : (root : NodeTerm) (p : Path) → is_node_at root p ≡ true → entered leaf_list (Some (Node root)) p ≡ rest leaf_list (Some (Node root)) p 0
-entered-node root p h = ap (λ us. map (λ q. p ++ q) us ++ after leaf_list (Some (Node root)) p) (entered_node (subterm (Node root) p) h)
+pub since-node : (root : NodeTerm) (p : Path) → is_node_at root p ≡ true → since leaf_list (Some (Node root)) p ≡ since_child leaf_list (Some (Node root)) p 0
+since-node root p h = ap (λ us. map (λ q. p ++ q) us ++ after leaf_list (Some (Node root)) p) (entered_node (subterm (Node root) p) h)
 
-pub entered-fewer : (root : NodeTerm) (p : Path) → is_node_at root p ≡ true → length (rest element_list (Some (Node root)) p 0) < length (entered element_list (Some (Node root)) p)
-entered-fewer root p h =
+pub since-fewer : (root : NodeTerm) (p : Path) → is_node_at root p ≡ true → length (since_child element_list (Some (Node root)) p 0) < length (since element_list (Some (Node root)) p)
+since-fewer root p h =
     let e = ap (λ us. map (λ q. p ++ q) us ++ after element_list (Some (Node root)) p) (entered_elements (subterm (Node root) p) h) in
     omega (arith, ap length e)
 
-pub reached-node : (root : NodeTerm) (p : Path) → is_node_at root p ≡ true → reached leaf_list (Some (Node root)) p ≡ upto leaf_list (Some (Node root)) p (child_count root p)
-reached-node root p h = ap (λ us. before leaf_list (Some (Node root)) p ++ map (λ q. p ++ q) us) (entered_node (subterm (Node root) p) h) ∙ sym (upto-all leaf_list (Some (Node root)) p (child_count root p) (omega arith))
+pub until-node : (root : NodeTerm) (p : Path) → is_node_at root p ≡ true → until leaf_list (Some (Node root)) p ≡ until_child leaf_list (Some (Node root)) p (child_count root p)
+until-node root p h = ap (λ us. before leaf_list (Some (Node root)) p ++ map (λ q. p ++ q) us) (entered_node (subterm (Node root) p) h) ∙ sym (until_child-all leaf_list (Some (Node root)) p (child_count root p) (omega arith))
 
-pub reached-fewer : (root : NodeTerm) (p : Path) → is_node_at root p ≡ true → length (upto element_list (Some (Node root)) p (child_count root p)) < length (reached element_list (Some (Node root)) p)
-reached-fewer root p h =
+pub until-fewer : (root : NodeTerm) (p : Path) → is_node_at root p ≡ true → length (until_child element_list (Some (Node root)) p (child_count root p)) < length (until element_list (Some (Node root)) p)
+until-fewer root p h =
     let ls = before element_list (Some (Node root)) p in
-    let us = row element_list 0 (children_of (subterm (Node root) p)) in
+    let us = below_children element_list 0 (children_of (subterm (Node root) p)) in
     let e = ap (λ us. ls ++ map (λ q. p ++ q) us) (entered_elements (subterm (Node root) p) h) in
-    omega (arith, ap length e, length-append ls (map (λ q. p ++ q) ([] ∷ us)), ap length (upto-all element_list (Some (Node root)) p (child_count root p) (omega arith)), length-append ls (map (λ q. p ++ q) us))
+    omega (arith, ap length e, length-append ls (map (λ q. p ++ q) ([] ∷ us)), ap length (until_child-all element_list (Some (Node root)) p (child_count root p) (omega arith)), length-append ls (map (λ q. p ++ q) us))
 
-pub token-first : (root : NodeTerm) (top p : Path) (c : Term) → subterm (Node root) p ≡ Some c → is_node_at root p ≡ false → begins top p ≡ true → Some p ≡ first_inside top (entered leaf_list (Some (Node root)) p)
+pub token-first : (root : NodeTerm) (top p : Path) (c : Term) → subterm (Node root) p ≡ Some c → is_node_at root p ≡ false → begins top p ≡ true → Some p ≡ first_inside top (since leaf_list (Some (Node root)) p)
 token-first root top p c e h inside =
     let ls = after leaf_list (Some (Node root)) p in
     sym (ap (λ us. first_inside top (map (λ q. p ++ q) us ++ ls)) (found_token (subterm (Node root) p) c e h) ∙ ap (λ q. first_inside top (q ∷ ls)) (append-nil p) ∙ cond-true (begins top p) (Some p) (first_inside top ls) inside)
 
-pub token-last : (root : NodeTerm) (top p : Path) (c : Term) → subterm (Node root) p ≡ Some c → is_node_at root p ≡ false → begins top p ≡ true → Some p ≡ last_inside top (reached leaf_list (Some (Node root)) p)
+pub token-last : (root : NodeTerm) (top p : Path) (c : Term) → subterm (Node root) p ≡ Some c → is_node_at root p ≡ false → begins top p ≡ true → Some p ≡ last_inside top (until leaf_list (Some (Node root)) p)
 token-last root top p c e h inside =
     let ls = before leaf_list (Some (Node root)) p in
     sym (ap (λ us. last_inside top (ls ++ map (λ q. p ++ q) us)) (found_token (subterm (Node root) p) c e h) ∙ ap (λ q. last_inside top (ls ++ q ∷ [])) (append-nil p) ∙ ap (first_inside top) (reverse-append ls (p ∷ [])) ∙ cond-true (begins top p) (Some p) (first_inside top (reverse ls)) inside)
@@ -270,7 +270,7 @@ ends_apart : (p : Path) (i : ℕ) → p ++ i ∷ [] ≡ [] → ⊥
 ends_apart [] i e = cc
 ends_apart (j ∷ p) i e = cc
 
-same_number : (es : List Entry) → IsDraft (length es) es → (k m n : ℕ) → m < k → m < length es → n < length es → path_at es m ≡ path_at es n → m ≡ n
+same_number : (es : List Entry) → IsDraft (length es) es → (k m n : ℕ) → m < k → m < length es → n < length es → entry_path es m ≡ entry_path es n → m ≡ n
 same_number es f zero m n b i j h = absurd (omega arith)
 same_number es f (suc k) m n b i j h =
     let d = slice_get-some es m i in
@@ -278,7 +278,7 @@ same_number es f (suc k) m n b i j h =
     elim (cases_lt 0 m) [
       | inl x ↦ elim (cases_lt 0 n) [
         | inl y ↦ (
-            let ends = same_from_push (path_at es d.0.parent) (path_at es e.0.parent) (index_of es m d.0) (index_of es n e.0) (sym (path_at-child es f m d.0 d.1 x) ∙ h ∙ path_at-child es f n e.0 e.1 y) in
+            let ends = same_from_push (entry_path es d.0.parent) (entry_path es e.0.parent) (entry_index es m d.0) (entry_index es n e.0) (sym (entry_path-child es f m d.0 d.1 x) ∙ h ∙ entry_path-child es f n e.0 e.1 y) in
             let less : d.0.parent < m = (f.earlier m d.0 d.1 x).0 in
             let lesser : e.0.parent < n = (f.earlier n e.0 e.1 y).0 in
             let parents : d.0.parent ≡ e.0.parent = same_number es f k d.0.parent e.0.parent (omega arith) (omega arith) (omega arith) ends.0 in
@@ -288,21 +288,21 @@ same_number es f (suc k) m n b i j h =
             omega (arith, one.place, other.place, ends.1, index_above es m d.0 above.0 above.1, index_above es n e.0 above.0 (ap (slice_get es) (sym parents) ∙ above.1)))
         | inr y ↦ (
             let zero_n : n ≡ 0 = omega arith in
-            absurd (ends_apart (path_at es d.0.parent) (index_of es m d.0) (sym (path_at-child es f m d.0 d.1 x) ∙ h ∙ ap (path_at es) zero_n)))
+            absurd (ends_apart (entry_path es d.0.parent) (entry_index es m d.0) (sym (entry_path-child es f m d.0 d.1 x) ∙ h ∙ ap (entry_path es) zero_n)))
       ]
       | inr x ↦ elim (cases_lt 0 n) [
         | inl y ↦ (
             let zero_m : m ≡ 0 = omega arith in
-            absurd (ends_apart (path_at es e.0.parent) (index_of es n e.0) (sym (path_at-child es f n e.0 e.1 y) ∙ sym h ∙ ap (path_at es) zero_m)))
+            absurd (ends_apart (entry_path es e.0.parent) (entry_index es n e.0) (sym (entry_path-child es f n e.0 e.1 y) ∙ sym h ∙ ap (entry_path es) zero_m)))
         | inr y ↦ omega arith
       ]
     ]
 
-pub apart_paths : (es : List Entry) → IsTable es → (m n : ℕ) → m < length es → n < length es → m ≢ n → path_at es m ≢ path_at es n
+pub apart_paths : (es : List Entry) → IsTable es → (m n : ℕ) → m < length es → n < length es → m ≢ n → entry_path es m ≢ entry_path es n
 apart_paths es t m n i j apart h = apart (same_number es t.draft (suc m) m n (omega arith) i j h)
 
 -- something stands at each path of a table
-pub stands_at : (es : List Entry) → IsTable es → (n : ℕ) → n < length es → (u : Term) × (subterm (Node (root_of es)) (path_at es n) ≡ Some u)
+pub stands_at : (es : List Entry) → IsTable es → (n : ℕ) → n < length es → (u : Term) × (subterm (Node (root_node es)) (entry_path es n) ≡ Some u)
 stands_at es t n i =
     let e = slice_get-some es n i in
-    kept-some (subterm (Node (root_of es)) (path_at es n)) (green_of e.0) (is_entry es t n e.0 e.1).green
+    content-some (subterm (Node (root_node es)) (entry_path es n)) (green_of e.0) (is_entry es t n e.0 e.1).green

@@ -7,4 +7,5 @@ use Rattle.rowan_cursor.specs.Cursor.{Cursor}
 
 abbrev pub coded_cursor : Coded Cursor
 coded_cursor =
-    code_by (NodeTerm × List ℕ) (coded× coded_node (coded_list coded_ℕ)) (λ c. (c.root, c.path)) (λ p. record { root = p.0; path = p.1 }) (λ _. refl)
+    code_by (NodeTerm × List ℕ) (coded× coded_node (coded_list coded_ℕ)) (λ c. (c.root, c.path))
+    (λ p. record { root = p.0; path = p.1 }) (λ _. refl)

@@ -1,4 +1,5 @@
--- Equality of cursors: what stands there, and where its text starts. Neither the tree nor the path to it counts.
+-- Equality of cursors: what stands there, and where its text starts. Neither the tree nor the path
+-- to it counts.
 use Rattle.std.specs.Prelude.{◌≡◌, ℕ, Bool, true, false, ◌==◌, ◌&&◌, List, [], ◌++◌, Option, Some, None, refl}
 use Rattle.std.proofs.Common.{ap}
 use Rattle.std.specs.Bool.{Decides}
@@ -36,14 +37,18 @@ fed_place c = fed.u32 (start_of c) ++ fed_if_some (term_at c)
 
 pub same_if_some-decides : (o p : Option Term) → Decides (same_if_some o p) (o ≡ p)
 same_if_some-decides None None = ((λ h. refl), (λ e. refl))
-same_if_some-decides (Some t) (Some u) = ((λ h. ap (λ x. Some x) ((same_term-decides t u).0 h)), (λ e. (same_term-decides t u).1 cc))
+same_if_some-decides (Some t) (Some u) =
+    let terms = same_term-decides t u in
+    ((λ h. ap (λ x. Some x) (terms.0 h)), (λ e. terms.1 cc))
 same_if_some-decides None (Some u) = ((λ h. absurd (false≢true h)), (λ e. cc))
 same_if_some-decides (Some t) None = ((λ h. absurd (false≢true h)), (λ e. cc))
 
 pub same_place-laws : IsEquivalence same_place
 same_place-laws =
-    and_equiv (on_equiv start_of nat_eq_equiv) (on_equiv term_at (decided same_if_some same_if_some-decides))
+    and_equiv (on_equiv start_of nat_eq_equiv)
+    (on_equiv term_at (decided same_if_some same_if_some-decides))
 
 pub fed_place-same : (c d : Cursor) → same_place c d ≡ true → fed_place c ≡ fed_place d
 fed_place-same =
-    (and-Alike (on_Alike start_of (same_Alike fed.u32 Decides-eqb)) (on_Alike term_at (same_Alike fed_if_some same_if_some-decides))).fed
+    (and-Alike (on_Alike start_of (same_Alike fed.u32 Decides-eqb))
+    (on_Alike term_at (same_Alike fed_if_some same_if_some-decides))).fed

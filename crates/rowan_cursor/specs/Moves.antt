@@ -1,6 +1,8 @@
--- Moves: where each call of a cursor leads, as paths in the same root.
---     Children stand one place further down. Siblings have the same parent. Each list of them is in the order of the tree, but
---     what stands before a path is listed from the path on, so nearest first.
+-- Moves: where each call of a cursor leads in its tree. First paths, then elements, and then a word
+-- for each move.
+--     Children stand one place further down. Siblings have the same parent. Each list of them is in
+--     the order of the tree, but what stands before a path is listed from the path on, so nearest
+--     first.
 --     Tokens follow one another in the order of the leaves, whatever stands between them.
 use Rattle.std.specs.Prelude.{ℕ, ◌+◌, ◌-◌, Bool, true, false, List, [], ◌∷◌, ◌++◌, map, length, reverse, Option, Some, None, slice_get}
 use Rattle.std.specs.List.{find, filter, range_with_len}
@@ -55,7 +57,8 @@ following root p =
 
 -- the siblings before a path, tokens too, nearest first
 abbrev pub preceding : NodeTerm → Path → List Path
-preceding root p = option_map_or (λ q. below q (reverse (numbers 0 (last_index p)))) (parent_path p) []
+preceding root p =
+    option_map_or (λ q. below q (reverse (numbers 0 (last_index p)))) (parent_path p) []
 
 -- the path itself, and its siblings in one direction
 abbrev pub sibling_paths : Direction → NodeTerm → Path → List Path
@@ -132,7 +135,7 @@ place_of (Token c) = c
 abbrev pub element_if_there : NodeTerm → Path → Option Element
 element_if_there root p = option_map (λ t. element_at root p) (subterm (Node root) p)
 
--- the element that is reached from a cursor by these indices, each among all children of the element before
+-- the element to which these indices lead from a cursor, each among all children of the one before
 abbrev pub element_below : Cursor → Path → Option Element
 element_below c indices = element_if_there c.root (c.path ++ indices)
 

@@ -1,6 +1,7 @@
--- A pass over the elements of a term, in the order of their paths: what is left of it at a path, and what lies before.
---     It is said for every list of paths below a term that is put together from lists below its children: for that of its leaves,
---     and for that of all its elements.
+-- A pass over the elements of a term, in the order of their paths: what is left of it at a path,
+-- and what lies before.
+--     It is said for every list of paths below a term that is put together from lists below its
+--     children: for that of its leaves, and for that of all its elements.
 -- A pass inside the element at a path `top` is one that leads to no path but those that top begins.
 use Rattle.std.specs.Prelude.{◌≡◌, ℕ, suc, List, [], ◌∷◌, ◌++◌, map, take, drop, reverse, Option, Some, None, slice_get}
 use Rattle.std.specs.List.{find}
@@ -32,9 +33,9 @@ element_list (Node n) = node_elements n
 element_list (Token t) = [] ∷ []
 
 -- the paths below the children from place i on
-abbrev pub row : Lists → ℕ → List Term → List Path
-row g i [] = []
-row g i (t ∷ ts) = map (λ q. i ∷ q) (g t) ++ row g (suc i) ts
+abbrev pub below_children : Lists → ℕ → List Term → List Path
+below_children g i [] = []
+below_children g i (t ∷ ts) = map (λ q. i ∷ q) (g t) ++ below_children g (suc i) ts
 
 abbrev pub of_some : Lists → Option Term → List Path
 of_some g None = []
@@ -45,46 +46,56 @@ abbrev pub after : Lists → Option Term → Path → List Path
 after g None p = []
 after g (Some t) [] = []
 after g (Some t) (i ∷ p) =
-    map (λ q. i ∷ q) (after g (slice_get (term_children t) i) p) ++ row g (suc i) (drop (suc i) (term_children t))
+    map (λ q. i ∷ q) (after g (slice_get (term_children t) i) p)
+    ++ below_children g (suc i) (drop (suc i) (term_children t))
 
 -- the paths before an element
 abbrev pub before : Lists → Option Term → Path → List Path
 before g None p = []
 before g (Some t) [] = []
 before g (Some t) (i ∷ p) =
-    row g 0 (take i (term_children t)) ++ map (λ q. i ∷ q) (before g (slice_get (term_children t) i) p)
+    below_children g 0 (take i (term_children t))
+    ++ map (λ q. i ∷ q) (before g (slice_get (term_children t) i) p)
 
--- the paths from an element on, those below it too; and from its child at a place on
-abbrev pub entered : Lists → Option Term → Path → List Path
-entered g t p = map (λ q. p ++ q) (of_some g (subterm_of t p)) ++ after g t p
+-- the paths from an element on, those below it too
+abbrev pub since : Lists → Option Term → Path → List Path
+since g t p = map (λ q. p ++ q) (of_some g (subterm_of t p)) ++ after g t p
 
-abbrev pub rest : Lists → Option Term → Path → ℕ → List Path
-rest g t p i = map (λ q. p ++ q) (row g i (drop i (children_of (subterm_of t p)))) ++ after g t p
+-- the paths from its child at a place on
+abbrev pub since_child : Lists → Option Term → Path → ℕ → List Path
+since_child g t p i =
+    map (λ q. p ++ q) (below_children g i (drop i (children_of (subterm_of t p)))) ++ after g t p
 
--- the paths up to an element, those below it too; and up to its child at a place, and not below that
-abbrev pub reached : Lists → Option Term → Path → List Path
-reached g t p = before g t p ++ map (λ q. p ++ q) (of_some g (subterm_of t p))
+-- the paths up to the end of an element, those below it too
+abbrev pub until : Lists → Option Term → Path → List Path
+until g t p = before g t p ++ map (λ q. p ++ q) (of_some g (subterm_of t p))
 
-abbrev pub upto : Lists → Option Term → Path → ℕ → List Path
-upto g t p i = before g t p ++ map (λ q. p ++ q) (row g 0 (take i (children_of (subterm_of t p))))
+-- the paths up to its child at a place, and none of that child
+abbrev pub until_child : Lists → Option Term → Path → ℕ → List Path
+until_child g t p i =
+    before g t p ++ map (λ q. p ++ q) (below_children g 0 (take i (children_of (subterm_of t p))))
 
--- behind p and all below it comes q; behind p comes q
+-- on: behind p and all below it comes q
 pub record ComesBehind (root : NodeTerm) (p q : Path) : Type 0 where
-  pub same : (g : Lists) → entered g (Some (Node root)) q ≡ after g (Some (Node root)) p
+  pub same : (g : Lists) → since g (Some (Node root)) q ≡ after g (Some (Node root)) p
 
+-- on: behind p, and maybe below it, comes q
 pub record ComesNext (root : NodeTerm) (p q : Path) : Type 0 where
-  pub same : (g : Lists) → entered g (Some (Node root)) q ≡ rest g (Some (Node root)) p 0
+  pub same : (g : Lists) → since g (Some (Node root)) q ≡ since_child g (Some (Node root)) p 0
 
--- from the end: before p comes q; before p, and first below it, comes q
+-- back: before p comes q
 pub record ComesBefore (root : NodeTerm) (p q : Path) : Type 0 where
-  pub same : (g : Lists) → reached g (Some (Node root)) q ≡ before g (Some (Node root)) p
+  pub same : (g : Lists) → until g (Some (Node root)) q ≡ before g (Some (Node root)) p
 
+-- back: before the end of p, and maybe below p, comes q
 pub record ComesBack (root : NodeTerm) (p q : Path) : Type 0 where
-  pub same : (g : Lists) → reached g (Some (Node root)) q ≡ upto g (Some (Node root)) p (child_count root p)
+  pub same : (g : Lists)
+      → until g (Some (Node root)) q ≡ until_child g (Some (Node root)) p (child_count root p)
 
--- the first of some leaves inside top, and the last
+-- the first of some paths inside the element at top
 abbrev pub first_inside : Path → List Path → Option Path
 first_inside top paths = find (begins top) paths
 
+-- the last of some paths inside the element at top
 abbrev pub last_inside : Path → List Path → Option Path
 last_inside top paths = find (begins top) (reverse paths)

@@ -1,10 +1,10 @@
 -- The table of a tree: an entry for each of its nodes and tokens, level by level, the root first.
---     The children of a node stand side by side in their order, behind those of the nodes before it. An entry knows the number of
---     its parent and of its first child, and where its text starts. It keeps its node, but no token: a token is found among the
---     children of its parent.
+--     The children of a node stand side by side in their order, behind those of the nodes before.
+--     An entry knows the number of its parent and of its first child, and where its text starts. It
+--     keeps its node, but no token: a token is found among the children of its parent.
 --     The path of an entry is read off by going up: from parent to parent, to the root.
 -- All facts are local: each speaks of one entry, or of an entry and its parent.
-use Rattle.std.specs.Prelude.{◌≡◌, true, ℕ, zero, suc, ◌+◌, ◌-◌, ◌<◌, ◌≤◌, List, [], ◌∷◌, ◌++◌, map, length, take, reverse, Some, Option, None, slice_get}
+use Rattle.std.specs.Prelude.{◌≡◌, ℕ, zero, suc, ◌+◌, ◌-◌, ◌<◌, ◌≤◌, List, [], ◌∷◌, ◌++◌, map, length, take, reverse, Some, Option, None, slice_get}
 use Rattle.std.specs.List.{sum_by}
 use Rattle.std.specs.Option.{option_map, option_map_or}
 use Rattle.rowan_green.specs.declared.utility_types.NodeOrToken.TheVariants.{Node}
@@ -14,82 +14,97 @@ use Rattle.rowan_green.specs.Search.{child_start}
 use Rattle.rowan_green.specs.Term.{NodeTerm, node, empty, Term, node_children, node_len}
 use Rattle.rowan_green.specs.Path.{Path, subterm, offset, len_of}
 use Rattle.rowan_cursor.specs.Cursor.{last_index}
-use Rattle.rowan_cursor.specs.Moves.{child_paths, is_node_at, numbers}
+use Rattle.rowan_cursor.specs.Moves.{child_paths, numbers}
 use Rattle.rowan_cursor.specs.declared.table.Entry.{Entry}
-use Rattle.rowan_cursor.specs.declared.table.Kept.{Kept}
-use Rattle.rowan_cursor.specs.declared.table.Kept.TheVariants.{OfNode, OfToken}
+use Rattle.rowan_cursor.specs.declared.table.Content.{Content}
+use Rattle.rowan_cursor.specs.declared.table.Content.TheVariants.{OfNode, OfToken}
 
--- what an entry keeps: its node, if it is one, and where its text starts
-abbrev pub green_in : Kept → Option NodeTerm
+-- the node that an entry keeps, if it is that of one
+abbrev pub green_in : Content → Option NodeTerm
 green_in (OfNode start n) = Some n
 green_in (OfToken start) = None
 
-abbrev pub offset_in : Kept → ℕ
+-- where its text starts
+abbrev pub offset_in : Content → ℕ
 offset_in (OfNode start n) = start
 offset_in (OfToken start) = start
 
+-- the node of an entry, if it is that of one
 abbrev pub green_of : Entry → Option NodeTerm
-green_of e = green_in e.kept
+green_of e = green_in e.content
 
+-- where the text of an entry starts
 abbrev pub offset_of : Entry → ℕ
-offset_of e = offset_in e.kept
+offset_of e = offset_in e.content
 
--- the children of a node, and its length
+-- the children of a node; a token has none
 abbrev pub children_in : Option NodeTerm → List Term
 children_in None = []
 children_in (Some n) = node_children n
 
+-- the length of a node
 abbrev pub len_in : Option NodeTerm → ℕ
 len_in None = 0
 len_in (Some n) = node_len n
 
+-- the node, if there is one
 abbrev pub node_in : Option NodeTerm → NodeTerm
 node_in None = node 0 empty
 node_in (Some n) = n
 
 -- the node of the first entry
-abbrev pub root_of : List Entry → NodeTerm
-root_of [] = node 0 empty
-root_of (e ∷ es) = node_in (green_of e)
+abbrev pub root_node : List Entry → NodeTerm
+root_node [] = node 0 empty
+root_node (e ∷ es) = node_in (green_of e)
 
 -- how many children these entries have together
 abbrev pub counts : List Entry → ℕ
 counts es = sum_by (λ e. length (children_in (green_of e))) es
 
 -- an entry's index among its siblings: how far it stands behind the first child of its parent
-abbrev pub index_of : List Entry → ℕ → Entry → ℕ
-index_of es n e = n - option_map_or (λ p. p.first_child) (slice_get es e.parent) 0
+abbrev pub entry_index : List Entry → ℕ → Entry → ℕ
+entry_index es n e = n - option_map_or (λ p. p.first_child) (slice_get es e.parent) 0
 
 -- the path of an entry, found by going up at most so many times
 abbrev pub path_within : ℕ → List Entry → ℕ → Path
 path_within zero es n = []
 path_within (suc steps) es zero = []
 path_within (suc steps) es (suc n) =
-    option_map_or (λ e. path_within steps es e.parent ++ index_of es (suc n) e ∷ []) (slice_get es (suc n)) []
+    option_map_or (λ e. path_within steps es e.parent ++ entry_index es (suc n) e ∷ [])
+    (slice_get es (suc n)) []
 
 -- the path of the entry with this number; a parent's number is less than its child's
-abbrev pub path_at : List Entry → ℕ → Path
-path_at es n = path_within n es n
+abbrev pub entry_path : List Entry → ℕ → Path
+entry_path es n = path_within n es n
 
 -- the first entry is that of a root
 pub record IsTop (es : List Entry) (e : Entry) : Type 0 where
-  pub green : green_of e ≡ Some (root_of es)
+  pub green : green_of e ≡ Some (root_node es)
   pub start : offset_of e ≡ 0
+
+-- the children of an entry's node
+abbrev pub children_at : Entry → List Term
+children_at e = children_in (green_of e)
 
 -- entry e, with the number n, is a child of entry p
 pub record IsChildOf (p : Entry) (n : ℕ) (e : Entry) : Type 0 where
   pub place : p.first_child ≤ n
-  pub child : option_map into_node (slice_get (children_in (green_of p)) (n - p.first_child)) ≡ Some (green_of e)
-  pub start : offset_of e ≡ offset_of p + child_start (children_in (green_of p)) (n - p.first_child)
+  pub child :
+      option_map into_node (slice_get (children_at p) (n - p.first_child)) ≡ Some (green_of e)
+  pub start : offset_of e ≡ offset_of p + child_start (children_at p) (n - p.first_child)
 
--- entries of which the first `done` know their first child; the children of the others are not there yet
+-- entries of which the first `done` know their first child; the others' children are still to come
 pub record IsDraft (done : ℕ) (es : List Entry) : Type 0 where
   pub some : 0 < length es
   pub top : (e : Entry) → slice_get es 0 ≡ Some e → IsTop es e
-  pub ends : (n : ℕ) (e : Entry) → slice_get es n ≡ Some e → offset_of e + len_in (green_of e) ≤ byte_limit
-  pub firsts : (n : ℕ) (e : Entry) → slice_get es n ≡ Some e → n < done → e.first_child ≡ counts (take n es) + 1
-  pub earlier : (n : ℕ) (e : Entry) → slice_get es n ≡ Some e → 0 < n → (e.parent < n) × (e.parent < done)
-  pub parents : (n : ℕ) (e p : Entry) → slice_get es n ≡ Some e → 0 < n → slice_get es e.parent ≡ Some p → IsChildOf p n e
+  pub ends : (n : ℕ) (e : Entry) → slice_get es n ≡ Some e
+      → offset_of e + len_in (green_of e) ≤ byte_limit
+  pub firsts : (n : ℕ) (e : Entry) → slice_get es n ≡ Some e
+      → n < done → e.first_child ≡ counts (take n es) + 1
+  pub earlier : (n : ℕ) (e : Entry) → slice_get es n ≡ Some e
+      → 0 < n → (e.parent < n) × (e.parent < done)
+  pub parents : (n : ℕ) (e p : Entry) → slice_get es n ≡ Some e
+      → 0 < n → slice_get es e.parent ≡ Some p → IsChildOf p n e
 
 -- a table: each entry knows its first child, and all children of each are there
 pub record IsTable (es : List Entry) : Type 0 where
@@ -100,35 +115,52 @@ pub record IsTable (es : List Entry) : Type 0 where
 pub record IsRow (es : List Entry) (start end : ℕ) (paths : List Path) : Type 0 where
   pub order : start ≤ end
   pub within : end ≤ length es
-  pub row : map (path_at es) (numbers start (end - start)) ≡ paths
+  pub row : map (entry_path es) (numbers start (end - start)) ≡ paths
 
--- the same in the other order
+-- the entries from one number up to another stand at these paths, from the last on
 pub record IsRowBack (es : List Entry) (start end : ℕ) (paths : List Path) : Type 0 where
   pub order : start ≤ end
   pub within : end ≤ length es
-  pub row : reverse (map (path_at es) (numbers start (end - start))) ≡ paths
+  pub row : reverse (map (entry_path es) (numbers start (end - start))) ≡ paths
 
 -- where an entry's parent stands, if it is not the root
 pub record IsBelow (es : List Entry) (n : ℕ) (e : Entry) : Type 0 where
   pub earlier : e.parent < n
-  pub path : path_at es n ≡ path_at es e.parent ++ index_of es n e ∷ []
+  pub path : entry_path es n ≡ entry_path es e.parent ++ entry_index es n e ∷ []
 
--- what stands in a table at a number, in terms of the paths in its root
-pub record IsEntry (es : List Entry) (n : ℕ) (e : Entry) : Type 0 where
+-- an entry has this number, and tells of what stands at its path in the root
+pub record Describes (es : List Entry) (n : ℕ) (e : Entry) : Type 0 where
   pub at : slice_get es n ≡ Some e
-  pub green : option_map into_node (subterm (Node (root_of es)) (path_at es n)) ≡ Some (green_of e)
-  pub start : offset (Node (root_of es)) (path_at es n) ≡ offset_of e
-  pub end : offset_of e + len_of (subterm (Node (root_of es)) (path_at es n)) ≤ byte_limit
-  pub index : last_index (path_at es n) ≡ index_of es n e
+  pub green :
+      option_map into_node (subterm (Node (root_node es)) (entry_path es n)) ≡ Some (green_of e)
+  pub start : offset (Node (root_node es)) (entry_path es n) ≡ offset_of e
+  pub end : offset_of e + len_of (subterm (Node (root_node es)) (entry_path es n)) ≤ byte_limit
+  pub index : last_index (entry_path es n) ≡ entry_index es n e
   pub below : 0 < n → IsBelow es n e
-  pub children : IsRow es e.first_child (e.first_child + length (children_in (green_of e))) (child_paths (root_of es) (path_at es n))
-
--- the entry with this number is that of a node
-abbrev pub IsNodeEntry : List Entry → ℕ → Type 0
-IsNodeEntry es n = is_node_at (root_of es) (path_at es n) ≡ true
+  pub children :
+      IsRow es e.first_child (e.first_child + length (children_in (green_of e)))
+      (child_paths (root_node es) (entry_path es n))
 
 -- the entries that were added are those of these terms, in this order
 pub record GrowsBy (old new : List Entry) (ts : List Term) : Type 0 where
   pub row : List Entry
   pub grown : new ≡ old ++ row
   pub greens : map green_of row ≡ map into_node ts
+
+-- the child at this index of the entry with this number is the next to get an entry
+abbrev pub IsNextIndex : List Entry → ℕ → ℕ → Type 0
+IsNextIndex es n i =
+    (e : Entry) → slice_get es n ≡ Some e
+    → (i < length (children_in (green_of e))) × (length es ≡ e.first_child + i)
+
+-- an entry was added for the child at this index of the entry with this number
+abbrev pub GainsChild : List Entry → List Entry → ℕ → ℕ → Type 0
+GainsChild old new n i =
+    (e : Entry) (t : Term) → slice_get old n ≡ Some e
+    → slice_get (children_in (green_of e)) i ≡ Some t → GrowsBy old new (t ∷ [])
+
+-- entries were added for all children of the entry with this number
+abbrev pub GainsChildren : List Entry → List Entry → ℕ → Type 0
+GainsChildren old new n =
+    (e : Entry) → slice_get old n ≡ Some e
+    → map green_of new ≡ map green_of old ++ map into_node (children_in (green_of e))

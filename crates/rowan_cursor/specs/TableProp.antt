@@ -7,7 +7,8 @@ use Rattle.rowan_cursor.specs.declared.table.Entry.{Entry}
 use Rattle.rowan_cursor.specs.Table.{IsDraft, IsTable}
 
 IsDraft-prop : (done : ℕ) (es : List Entry) → IsProp (IsDraft done es)
-IsDraft-prop done es = hlevel (props, coded_option coded_node, coded_option (coded_option coded_node))
+IsDraft-prop done es =
+    hlevel (props, coded_option coded_node, coded_option (coded_option coded_node))
 
 pub IsTable-prop : (es : List Entry) → IsProp (IsTable es)
 IsTable-prop es = hlevel (props, IsDraft-prop)

@@ -1,4 +1,5 @@
--- Iterators whose items may be refused, by what is left of them: the items that are still to come, or the one refusal that is.
+-- Iterators whose items may be refused, by what is left of them: the items that are still to come,
+-- or the one refusal that is.
 use Rattle.std.specs.Prelude.{◌≡◌, ℕ, ◌<◌, List, [], ◌∷◌, length, Option, Some, None, Result, Ok, Err}
 use Rattle.rowan_green.specs.declared.fault.Fault.{Fault}
 use Rattle.rowan_green.specs.declared.fault.Fault.TheVariants.{Memory}
@@ -6,7 +7,8 @@ use Rattle.rowan_green.specs.declared.fault.Fault.TheVariants.{Memory}
 abbrev pub Rest : Type 0 → Type 0
 Rest A = Result (List A) Fault
 
--- The first of the items comes next, and then the others are left. In its place `Memory` may come, and then nothing is left.
+-- The first of the items comes next, and then the others are left. In its place `Memory` may come,
+-- and then nothing is left.
 -- Where a refusal is left, it comes next and alone. Where nothing is left, nothing comes.
 abbrev pub YieldsOrRefuses : {A : Type 0} → Rest A → Option (Result A Fault) → Rest A → Type 0
 YieldsOrRefuses (Ok xs) None after = (xs ≡ []) × (after ≡ Ok [])
@@ -16,6 +18,6 @@ YieldsOrRefuses (Err f) (Some (Err e)) after = (e ≡ f) × (after ≡ Ok [])
 YieldsOrRefuses (Err f) _ after = ⊥
 
 -- how many items are left at most, a refusal counted
-abbrev pub count_left : {A : Type 0} → Rest A → ℕ
-count_left (Ok xs) = length xs
-count_left (Err e) = 1
+abbrev pub count_of : {A : Type 0} → Rest A → ℕ
+count_of (Ok xs) = length xs
+count_of (Err e) = 1

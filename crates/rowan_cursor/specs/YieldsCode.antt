@@ -14,7 +14,8 @@ use Rattle.rowan_cursor.specs.Yields.{Rest}
 -- the refusals, each at its number
 abbrev faults : List Fault
 faults =
-    Memory ∷ TextTooLong ∷ TooManyChildren ∷ CheckpointPast ∷ CheckpointBefore ∷ NothingOpen ∷ NotOneElement ∷ NotANode ∷ OtherKind ∷ NotFound ∷ Memory ∷ UnknownMark ∷ NotOneList ∷ []
+    Memory ∷ TextTooLong ∷ TooManyChildren ∷ CheckpointPast ∷ CheckpointBefore ∷ NothingOpen
+    ∷ NotOneElement ∷ NotANode ∷ OtherKind ∷ NotFound ∷ Memory ∷ UnknownMark ∷ NotOneList ∷ []
 
 abbrev fault_at : ℕ → Fault
 fault_at n = get_or faults n Memory
@@ -49,10 +50,12 @@ element_from-cases (Node c) = refl
 element_from-cases (Token c) = refl
 
 abbrev coded_element : Coded Element
-coded_element = code_by (Cursor ⊎ Cursor) (coded⊎ coded_cursor coded_cursor) cursor_cases element_from element_from-cases
+coded_element =
+    code_by (Cursor ⊎ Cursor) (coded⊎ coded_cursor coded_cursor) cursor_cases element_from
+    element_from-cases
 
-abbrev pub coded_cursors_left : Coded (Rest Cursor)
-coded_cursors_left = coded_result (coded_list coded_cursor) coded_fault
+abbrev pub coded_rest_of_cursors : Coded (Rest Cursor)
+coded_rest_of_cursors = coded_result (coded_list coded_cursor) coded_fault
 
-abbrev pub coded_elements_left : Coded (Rest Element)
-coded_elements_left = coded_result (coded_list coded_element) coded_fault
+abbrev pub coded_rest_of_elements : Coded (Rest Element)
+coded_rest_of_elements = coded_result (coded_list coded_element) coded_fault

@@ -1,15 +1,18 @@
 //! Cursors over green trees, without the kinds of a language.
 
 mod ancestors;
+mod climb;
 mod element;
-mod iterators;
+mod element_children;
 mod node;
-mod rows;
+mod node_children;
+mod remainder;
+mod row;
 mod token;
 
+pub use ancestors::Ancestors;
 pub use element::{ElementCalls, SyntaxElement};
-pub use iterators::{
-    Ancestors, Siblings, SiblingsWithTokens, SyntaxElementChildren, SyntaxNodeChildren,
-};
+pub use element_children::{SiblingsWithTokens, SyntaxElementChildren};
 pub use node::SyntaxNode;
+pub use node_children::{Siblings, SyntaxNodeChildren};
 pub use token::SyntaxToken;

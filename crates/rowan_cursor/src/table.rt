@@ -1,34 +1,32 @@
 //! The table that all cursors of one tree share: an entry for each node and token.
 
 mod draft;
-mod elements;
-mod rows;
 mod search;
-mod tokens;
 
-ghost use Rattle.std.specs.Prelude.{◌≡◌, ◌<◌, IfOk, IfErr, IfSome, length, reverse};
-ghost use Rattle.std.specs.Option.{option_map};
-ghost use Rattle.rowan_cursor.specs.Moves.{parent_path, first_at, first_node_at, child_paths, following, preceding, is_node_at};
-ghost use Rattle.rowan_cursor.specs.Table.{IsTable, IsEntry, IsNodeEntry, root_of, path_at};
+ghost use Rattle.rowan_cursor.specs.Table.{IsTable};
 ghost use Rattle.rowan_cursor.specs.TableProp.{IsTable-prop};
 
 use draft::Draft;
-use rowan_green::fault::Fault;
-use rowan_green::green::GreenNode;
-use rowan_green::text::TextSize;
-use std::alloc::Global;
+use rowan_green::green::{GreenElementRef, GreenNode, GreenToken};
+use rowan_green::text::{TextRange, TextSize};
+use rowan_green::utility_types::NodeOrToken;
+use std::alloc::{AllocError, Global};
+use std::ops::Range;
 
-/// What an entry keeps of a node or token: where its text starts, and the node. A token is lent by its parent.
+/// What stands in an entry of a node or token.
 #[derive(Drop)]
-pub(crate) enum Kept {
+pub(crate) enum Content {
+    /// Where the text of the node starts, and the node.
     OfNode(TextSize, GreenNode),
+    /// Where the text of the token starts. The token is lent by its parent.
     OfToken(TextSize),
 }
 
-/// A node or token of a tree, and its place there, by the numbers of its parent and of its first child. The root is its own parent.
+/// A node or token of a tree, and its place there, by the numbers of its parent and of its first child. The root is its own
+/// parent.
 #[derive(Drop)]
 pub(crate) struct Entry {
-    pub(crate) kept: Kept,
+    pub(crate) content: Content,
     pub(crate) parent: u32,
     pub(crate) first_child: u32,
 }
@@ -41,10 +39,18 @@ pub(crate) struct Table {
 }
 
 impl Table {
+    ghost use Rattle.std.specs.Prelude.{◌≡◌, ◌+◌, ◌<◌, None, IfOk, IfSome, IfNone, Some, reverse, slice_get};
+    ghost use Rattle.rowan_green.specs.Lent.{pointee};
+    ghost use Rattle.rowan_cursor.specs.Cursor.{StandsAt, StandsAtToken, term_at, index, text_range};
+    ghost use Rattle.rowan_cursor.specs.Equal.{start_of};
+    ghost use Rattle.rowan_cursor.specs.Moves.{parent_path, first_at, first_node_at, first_leaf_path, last_leaf_path, next_leaf_path, prev_leaf_path};
+    ghost use Rattle.rowan_cursor.specs.Pass.{ComesBehind, ComesNext, ComesBefore, ComesBack};
+    ghost use Rattle.rowan_cursor.specs.TableView.{root_of, path_at, cursor_of, stands_for_node, row_paths, paths_below, paths_behind, paths_before, IsWithin, IsNodeIn, IsTokenIn, IsStretch, IsEntryAt, IsChildrenEnd, StretchShows, StretchShowsBack, Leads, LeadsToNode, LeadsToToken};
+    ghost use Rattle.rowan_cursor.specs.TablePass.{StandsInside, first_token_from, first_token_past, first_token_behind, last_token_until, last_token_to, last_token_before};
+
     /// The table of a green tree. Refused only for want of memory, or of numbers: they have 32 bits.
-    pub(crate) fn new(alloc: Global, green: GreenNode) -> Result<Table, Fault>
-        ensures ok { IfOk result (λ table. root_of table.entries.items ≡ green) }
-        ensures err { IfErr result (λ e. e ≡ Fault.Memory) }
+    pub(crate) fn new(alloc: Global, green: GreenNode) -> Result<Table, AllocError>
+        ensures { IfOk result (λ table. root_of table ≡ green) }
     {
         let mut draft = Draft::new(alloc, green)?;
         let mut done: u32 = 0;
@@ -57,26 +63,25 @@ impl Table {
 
     /// What stands at a number.
     pub(crate) fn entry(&self, number: usize) -> &Entry
-        requires { number < length self.now.entries.items }
-        ensures { IsEntry self.now.entries.items number result.now }
+        requires { IsWithin self.now number }
+        ensures { IsEntryAt self.now number result.now }
     {
         &self.entries[number]
     }
 
     /// Whether a node stands at a number.
     pub(crate) fn is_node(&self, number: usize) -> bool
-        requires { number < length self.now.entries.items }
-        ensures { result ≡ is_node_at (root_of self.now.entries.items) (path_at self.now.entries.items number) }
+        requires { IsWithin self.now number }
+        ensures { result ≡ stands_for_node self.now number }
     {
-        matches!(self.entry(number).kept, Kept::OfNode(_, _))
+        matches!(self.entry(number).content, Content::OfNode(_, _))
     }
 
     /// The parent.
     pub(crate) fn parent(&self, number: usize) -> Option<usize>
-        requires { number < length self.now.entries.items }
-        ensures path { let es = self.now.entries.items in option_map (path_at es) result ≡ parent_path (path_at es number) }
+        requires { IsWithin self.now number }
+        ensures found { LeadsToNode self.now result (parent_path (path_at self.now number)) }
         ensures earlier { IfSome result (λ n. n < number) }
-        ensures node { IfSome result (λ n. IsNodeEntry self.now.entries.items n) }
     {
         if number == 0 {
             return None;
@@ -86,27 +91,24 @@ impl Table {
 
     /// The first child, tokens too.
     pub(crate) fn first_child_or_token(&self, number: usize) -> Option<usize>
-        requires { number < length self.now.entries.items }
-        ensures path { let es = self.now.entries.items in option_map (path_at es) result ≡ first_at (child_paths (root_of es) (path_at es number)) }
-        ensures within { IfSome result (λ n. n < length self.now.entries.items) }
+        requires { IsWithin self.now number }
+        ensures { Leads self.now result (first_at (paths_below self.now number)) }
     {
         self.first_in(self.child_numbers(number))
     }
 
     /// The last child, tokens too.
     pub(crate) fn last_child_or_token(&self, number: usize) -> Option<usize>
-        requires { number < length self.now.entries.items }
-        ensures path { let es = self.now.entries.items in option_map (path_at es) result ≡ first_at (reverse (child_paths (root_of es) (path_at es number))) }
-        ensures within { IfSome result (λ n. n < length self.now.entries.items) }
+        requires { IsWithin self.now number }
+        ensures { Leads self.now result (first_at (reverse (paths_below self.now number))) }
     {
         self.last_in(self.child_numbers(number))
     }
 
     /// The next sibling, tokens too.
     pub(crate) fn next_sibling_or_token(&self, number: usize) -> Option<usize>
-        requires { number < length self.now.entries.items }
-        ensures path { let es = self.now.entries.items in option_map (path_at es) result ≡ first_at (following (root_of es) (path_at es number)) }
-        ensures within { IfSome result (λ n. n < length self.now.entries.items) }
+        requires { IsWithin self.now number }
+        ensures { Leads self.now result (first_at (paths_behind self.now number)) }
     {
         if number == 0 {
             return None;
@@ -124,9 +126,8 @@ impl Table {
 
     /// The sibling before this one, tokens too.
     pub(crate) fn prev_sibling_or_token(&self, number: usize) -> Option<usize>
-        requires { number < length self.now.entries.items }
-        ensures path { let es = self.now.entries.items in option_map (path_at es) result ≡ first_at (preceding (root_of es) (path_at es number)) }
-        ensures within { IfSome result (λ n. n < length self.now.entries.items) }
+        requires { IsWithin self.now number }
+        ensures { Leads self.now result (first_at (paths_before self.now number)) }
     {
         // The root stands alone, and before its first child.
         if number <= 1 {
@@ -140,41 +141,387 @@ impl Table {
 
     /// The first child that is a node.
     pub(crate) fn first_child(&self, number: usize) -> Option<usize>
-        requires { number < length self.now.entries.items }
-        ensures path { let es = self.now.entries.items in option_map (path_at es) result ≡ first_node_at (root_of es) (child_paths (root_of es) (path_at es number)) }
-        ensures within { IfSome result (λ n. n < length self.now.entries.items) }
-        ensures node { IfSome result (λ n. IsNodeEntry self.now.entries.items n) }
+        requires { IsWithin self.now number }
+        ensures { LeadsToNode self.now result
+            (first_node_at (root_of self.now) (paths_below self.now number)) }
     {
         self.first_node_in(self.child_numbers(number))
     }
 
     /// The last child that is a node.
     pub(crate) fn last_child(&self, number: usize) -> Option<usize>
-        requires { number < length self.now.entries.items }
-        ensures path { let es = self.now.entries.items in option_map (path_at es) result ≡ first_node_at (root_of es) (reverse (child_paths (root_of es) (path_at es number))) }
-        ensures within { IfSome result (λ n. n < length self.now.entries.items) }
-        ensures node { IfSome result (λ n. IsNodeEntry self.now.entries.items n) }
+        requires { IsWithin self.now number }
+        ensures { LeadsToNode self.now result
+            (first_node_at (root_of self.now) (reverse (paths_below self.now number))) }
     {
         self.last_node_in(self.child_numbers(number))
     }
 
     /// The next sibling that is a node.
     pub(crate) fn next_sibling(&self, number: usize) -> Option<usize>
-        requires { number < length self.now.entries.items }
-        ensures path { let es = self.now.entries.items in option_map (path_at es) result ≡ first_node_at (root_of es) (following (root_of es) (path_at es number)) }
-        ensures within { IfSome result (λ n. n < length self.now.entries.items) }
-        ensures node { IfSome result (λ n. IsNodeEntry self.now.entries.items n) }
+        requires { IsWithin self.now number }
+        ensures { LeadsToNode self.now result
+            (first_node_at (root_of self.now) (paths_behind self.now number)) }
     {
         self.first_node_in(self.following_numbers(number))
     }
 
     /// The nearest sibling before this one that is a node.
     pub(crate) fn prev_sibling(&self, number: usize) -> Option<usize>
-        requires { number < length self.now.entries.items }
-        ensures path { let es = self.now.entries.items in option_map (path_at es) result ≡ first_node_at (root_of es) (preceding (root_of es) (path_at es number)) }
-        ensures within { IfSome result (λ n. n < length self.now.entries.items) }
-        ensures node { IfSome result (λ n. IsNodeEntry self.now.entries.items n) }
+        requires { IsWithin self.now number }
+        ensures { LeadsToNode self.now result
+            (first_node_at (root_of self.now) (paths_before self.now number)) }
     {
         self.last_node_in(self.preceding_numbers(number))
+    }
+
+    /// The allocator with which the table was made.
+    pub(crate) fn allocator(&self) -> Global {
+        *self.entries.allocator()
+    }
+
+    /// Where the text lies in that of the root.
+    pub(crate) fn text_range(&self, number: usize) -> TextRange
+        requires { IsWithin self.now number }
+        ensures { result ≡ text_range (cursor_of self.now number) }
+    {
+        match &self.entry(number).content {
+            Content::OfNode(start, node) => TextRange::at(*start, node.text_len()),
+            Content::OfToken(start) => TextRange::new(*start, self.end_of_token(number)),
+        }
+    }
+
+    // Where the text starts.
+    fn start(&self, number: usize) -> TextSize
+        requires { IsWithin self.now number }
+        ensures { result ≡ start_of (cursor_of self.now number) }
+    {
+        match &self.entry(number).content {
+            Content::OfNode(start, _) => *start,
+            Content::OfToken(start) => *start,
+        }
+    }
+
+    // Where the text of a node ends.
+    fn end_of_node(&self, number: usize) -> TextSize
+        requires { IsNodeIn self.now number }
+        ensures { result ≡ (text_range (cursor_of self.now number)).end }
+    {
+        TextRange::at(self.start(number), self.node(number).text_len()).end()
+    }
+
+    // Where the text of a token ends: where the next sibling starts, or else where the parent ends.
+    fn end_of_token(&self, number: usize) -> TextSize
+        requires { IsTokenIn self.now number }
+        ensures { result ≡ (text_range (cursor_of self.now number)).end }
+    {
+        if let Some(next) = self.next_sibling_or_token(number) {
+            return self.start(next);
+        }
+        self.end_of_node(self.entry(number).parent as usize)
+    }
+
+    /// The child at an index, tokens counted.
+    pub(crate) fn child_at(&self, number: usize, index: usize) -> Option<usize>
+        requires { IsWithin self.now number }
+        ensures { Leads self.now result (slice_get (paths_below self.now number) index) }
+    {
+        let children = self.child_numbers(number);
+        if index >= children.end - children.start {
+            return None;
+        }
+        Some(children.start + index)
+    }
+
+    /// The node.
+    pub(crate) fn node(&self, number: usize) -> &GreenNode
+        requires { IsNodeIn self.now number }
+        ensures { StandsAt (cursor_of self.now number) result.now }
+    {
+        match &self.entry(number).content {
+            Content::OfNode(_, node) => node,
+            Content::OfToken(_) => unreachable!(),
+        }
+    }
+
+    /// The token.
+    pub(crate) fn token(&self, number: usize) -> &GreenToken
+        requires { IsTokenIn self.now number }
+        ensures { StandsAtToken (cursor_of self.now number) result.now }
+    {
+        match self.element(number) {
+            NodeOrToken::Node(_) => unreachable!(),
+            NodeOrToken::Token(token) => token,
+        }
+    }
+
+    /// The node or token.
+    pub(crate) fn element(&self, number: usize) -> GreenElementRef<'_>
+        requires { IsWithin self.now number }
+        ensures { term_at (cursor_of self.now number) ≡ Some (pointee result) }
+    {
+        let entry = self.entry(number);
+        if let Content::OfNode(_, node) = &entry.content {
+            return NodeOrToken::Node(node);
+        }
+        let above = self.entry(entry.parent as usize);
+        let Content::OfNode(_, parent) = &above.content else {
+            unreachable!();
+        };
+        let Some(found) = parent.child_ref(number - above.first_child as usize) else {
+            unreachable!();
+        };
+        found.1
+    }
+
+    /// The index among all children of the parent; 0 of the root.
+    pub(crate) fn index(&self, number: usize) -> usize
+        requires { IsWithin self.now number }
+        ensures { result ≡ index (cursor_of self.now number) }
+    {
+        if number == 0 {
+            return 0;
+        }
+        let parent = self.entry(self.entry(number).parent as usize);
+        number - parent.first_child as usize
+    }
+
+    /// The numbers of all children.
+    pub(crate) fn child_numbers(&self, number: usize) -> Range<usize>
+        requires { IsWithin self.now number }
+        ensures { StretchShows self.now result.start result.end (paths_below self.now number) }
+    {
+        self.entry(number).first_child as usize..self.children_end(number)
+    }
+
+    /// The numbers of the siblings behind this one.
+    pub(crate) fn following_numbers(&self, number: usize) -> Range<usize>
+        requires { IsWithin self.now number }
+        ensures start { result.start ≡ number + 1 }
+        ensures row { StretchShows self.now result.start result.end (paths_behind self.now number) }
+    {
+        if number == 0 {
+            return 1..1;
+        }
+        number + 1..self.children_end(self.entry(number).parent as usize)
+    }
+
+    /// The numbers of the siblings before this one.
+    pub(crate) fn preceding_numbers(&self, number: usize) -> Range<usize>
+        requires { IsWithin self.now number }
+        ensures end { result.end ≡ number }
+        ensures row { StretchShowsBack self.now result.start result.end
+            (paths_before self.now number) }
+    {
+        if number == 0 {
+            return 0..0;
+        }
+        let parent = self.entry(self.entry(number).parent as usize);
+        parent.first_child as usize..number
+    }
+
+    // Where the children end: where those of the next entry begin.
+    fn children_end(&self, number: usize) -> usize
+        requires { IsWithin self.now number }
+        ensures { IsChildrenEnd self.now number result }
+    {
+        let len = self.entries.len();
+        if number + 1 == len {
+            return len;
+        }
+        self.entries[number + 1].first_child as usize
+    }
+
+    /// The first of a row.
+    pub(crate) fn first_in(&self, row: Range<usize>) -> Option<usize>
+        requires { IsStretch self.now row.start row.end }
+        ensures { Leads self.now result (first_at (row_paths self.now row.start row.end)) }
+    {
+        if row.start == row.end {
+            return None;
+        }
+        Some(row.start)
+    }
+
+    /// The last of a row.
+    pub(crate) fn last_in(&self, row: Range<usize>) -> Option<usize>
+        requires { IsStretch self.now row.start row.end }
+        ensures { Leads self.now result
+            (first_at (reverse (row_paths self.now row.start row.end))) }
+    {
+        if row.start == row.end {
+            return None;
+        }
+        Some(row.end - 1)
+    }
+
+    /// The first node of a row.
+    pub(crate) fn first_node_in(&self, row: Range<usize>) -> Option<usize>
+        requires { IsStretch self.now row.start row.end }
+        ensures { LeadsToNode self.now result
+            (first_node_at (root_of self.now) (row_paths self.now row.start row.end)) }
+    {
+        for number in row.start..row.end {
+            if self.is_node(number) {
+                return Some(number);
+            }
+        }
+        None
+    }
+
+    /// The last node of a row.
+    pub(crate) fn last_node_in(&self, row: Range<usize>) -> Option<usize>
+        requires { IsStretch self.now row.start row.end }
+        ensures { LeadsToNode self.now result
+            (first_node_at (root_of self.now) (reverse (row_paths self.now row.start row.end))) }
+    {
+        for number in (row.start..row.end).rev() {
+            if self.is_node(number) {
+                return Some(number);
+            }
+        }
+        None
+    }
+
+    /// The first token at or below an element.
+    pub(crate) fn first_token(&self, number: usize) -> Option<usize>
+        requires { IsWithin self.now number }
+        ensures { LeadsToToken self.now result
+            (first_leaf_path (root_of self.now) (path_at self.now number)) }
+    {
+        self.token_from(number, number)
+    }
+
+    /// The last token at or below an element.
+    pub(crate) fn last_token(&self, number: usize) -> Option<usize>
+        requires { IsWithin self.now number }
+        ensures { LeadsToToken self.now result
+            (last_leaf_path (root_of self.now) (path_at self.now number)) }
+    {
+        self.token_back_from(number, number)
+    }
+
+    /// The first token behind an element, those below it too.
+    pub(crate) fn next_token(&self, number: usize) -> Option<usize>
+        requires { IsWithin self.now number }
+        ensures { LeadsToToken self.now result
+            (next_leaf_path (root_of self.now) (path_at self.now number)) }
+    {
+        match self.step_on(number, 0) {
+            Some(next) => self.token_from(next, 0),
+            None => None,
+        }
+    }
+
+    /// The last token before an element.
+    pub(crate) fn prev_token(&self, number: usize) -> Option<usize>
+        requires { IsWithin self.now number }
+        ensures { LeadsToToken self.now result
+            (prev_leaf_path (root_of self.now) (path_at self.now number)) }
+    {
+        match self.skip_back(number, 0) {
+            Some(previous) => self.token_back_from(previous, 0),
+            None => None,
+        }
+    }
+
+    // The first token from an element on, inside the element at `top`.
+    fn token_from(&self, start: usize, top: usize) -> Option<usize>
+        requires { StandsInside self.now top start }
+        ensures { LeadsToToken self.now result (first_token_from self.now top start) }
+    {
+        let mut number = start;
+        while self.is_node(number) {
+            match self.step_on(number, top) {
+                Some(next) => number = next,
+                None => return None,
+            }
+        }
+        Some(number)
+    }
+
+    // The last token up to an element's end, inside the element at `top`.
+    fn token_back_from(&self, start: usize, top: usize) -> Option<usize>
+        requires { StandsInside self.now top start }
+        ensures { LeadsToToken self.now result (last_token_to self.now top start) }
+    {
+        let mut number = start;
+        while self.is_node(number) {
+            match self.step_back(number, top) {
+                Some(previous) => number = previous,
+                None => return None,
+            }
+        }
+        Some(number)
+    }
+
+    // The next element inside that at `top`: the first child, or else the next element that is not below.
+    fn step_on(&self, number: usize, top: usize) -> Option<usize>
+        requires { StandsInside self.now top number }
+        ensures found { IfSome result (StandsInside self.now top) }
+        ensures next { IfSome result (λ n.
+            ComesNext (root_of self.now) (path_at self.now number) (path_at self.now n)) }
+        ensures end { IfNone result (first_token_past self.now top number ≡ None) }
+    {
+        match self.first_child_or_token(number) {
+            Some(child) => Some(child),
+            None => self.skip_on(number, top),
+        }
+    }
+
+    // The element before this one, inside that at `top`: the last child, or else the element before it that is not above.
+    fn step_back(&self, number: usize, top: usize) -> Option<usize>
+        requires { StandsInside self.now top number }
+        ensures found { IfSome result (StandsInside self.now top) }
+        ensures back { IfSome result (λ n.
+            ComesBack (root_of self.now) (path_at self.now number) (path_at self.now n)) }
+        ensures end { IfNone result (last_token_until self.now top number ≡ None) }
+    {
+        match self.last_child_or_token(number) {
+            Some(child) => Some(child),
+            None => self.skip_back(number, top),
+        }
+    }
+
+    // The next sibling, or else that of the nearest ancestor which has one, inside the element at `top`.
+    fn skip_on(&self, number: usize, top: usize) -> Option<usize>
+        requires { StandsInside self.now top number }
+        ensures found { IfSome result (StandsInside self.now top) }
+        ensures next { IfSome result (λ n.
+            ComesBehind (root_of self.now) (path_at self.now number) (path_at self.now n)) }
+        ensures end { IfNone result (first_token_behind self.now top number ≡ None) }
+    {
+        let mut current = number;
+        while current != top {
+            if let Some(sibling) = self.next_sibling_or_token(current) {
+                return Some(sibling);
+            }
+            match self.parent(current) {
+                Some(parent) => current = parent,
+                None => return None,
+            }
+        }
+        None
+    }
+
+    // The sibling before, or else that of the nearest ancestor which has one, inside the element at `top`.
+    fn skip_back(&self, number: usize, top: usize) -> Option<usize>
+        requires { StandsInside self.now top number }
+        ensures found { IfSome result (StandsInside self.now top) }
+        ensures back { IfSome result (λ n.
+            ComesBefore (root_of self.now) (path_at self.now number) (path_at self.now n)) }
+        ensures end { IfNone result (last_token_before self.now top number ≡ None) }
+    {
+        let mut current = number;
+        while current != top {
+            if let Some(sibling) = self.prev_sibling_or_token(current) {
+                return Some(sibling);
+            }
+            match self.parent(current) {
+                Some(parent) => current = parent,
+                None => return None,
+            }
+        }
+        None
     }
 }

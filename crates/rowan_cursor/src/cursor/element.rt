@@ -1,7 +1,7 @@
-ghost use Rattle.std.specs.Prelude.{◌≡◌, ◌<◌, IfOk, IfErr, IfSome, Some, length};
+ghost use Rattle.std.specs.Prelude.{◌≡◌, IfOk, IfErr, IfSome, Some};
 ghost use Rattle.std.specs.Option.{option_map};
 ghost use Rattle.rowan_cursor.specs.Cursor.{index, kind, text_range};
-ghost use Rattle.rowan_cursor.specs.CursorView.{element_of};
+ghost use Rattle.rowan_cursor.specs.TableView.{IsWithin, element_of};
 ghost use Rattle.rowan_cursor.specs.Moves.{Element, place_of, tree_top, parent, next_sibling_or_token, prev_sibling_or_token, first_token, last_token, element_ancestors};
 
 use crate::cursor::{Ancestors, SyntaxNode, SyntaxToken};
@@ -10,16 +10,16 @@ use rowan_green::fault::Fault;
 use rowan_green::green::SyntaxKind;
 use rowan_green::text::TextRange;
 use rowan_green::utility_types::NodeOrToken;
+use std::alloc::AllocError;
 use std::rc::Rc;
 
-/// A node or a token in a tree.
+/// A node or a token in a tree. Its calls are those of [`ElementCalls`].
 pub type SyntaxElement = NodeOrToken<SyntaxNode, SyntaxToken>;
 
-// The element of a number.
-pub(super) fn at(table: &Rc<Table>, number: usize) -> Result<SyntaxElement, Fault>
-    requires { number < length table.now.value.entries.items }
-    ensures ok { IfOk result (λ e. e ≡ element_of table.now.value.entries.items number) }
-    ensures err { IfErr result (λ e. e ≡ Fault.Memory) }
+// The element with a number.
+pub(super) fn at(table: &Rc<Table>, number: usize) -> Result<SyntaxElement, AllocError>
+    requires { IsWithin table.now.value number }
+    ensures { IfOk result (λ element. element ≡ element_of table.now.value number) }
 {
     if table.is_node(number) {
         Ok(NodeOrToken::Node(SyntaxNode::at(table, number)?))
@@ -28,14 +28,13 @@ pub(super) fn at(table: &Rc<Table>, number: usize) -> Result<SyntaxElement, Faul
     }
 }
 
-// The same, where there is a number.
+// The element with the number that a move found, if it found one.
 pub(super) fn found(
     table: &Rc<Table>,
     number: Option<usize>,
-) -> Result<Option<SyntaxElement>, Fault>
-    requires { IfSome number (λ n. n < length table.now.value.entries.items) }
-    ensures ok { IfOk result (λ found. found ≡ option_map (element_of table.now.value.entries.items) number) }
-    ensures err { IfErr result (λ e. e ≡ Fault.Memory) }
+) -> Result<Option<SyntaxElement>, AllocError>
+    requires { IfSome number (IsWithin table.now.value) }
+    ensures { IfOk result (λ found. found ≡ option_map (element_of table.now.value) number) }
 {
     match number {
         Some(number) => Ok(Some(at(table, number)?)),
@@ -43,7 +42,8 @@ pub(super) fn found(
     }
 }
 
-/// The calls of a [`SyntaxElement`]. It is a trait since the type of elements is that of another crate.
+/// The calls of a [`SyntaxElement`]. It is a trait since the type of elements is that of another crate. A move is refused only
+/// where the tree cannot be shared once more, since its reference count is full; then the answer is `Err(Fault::Memory)`.
 pub trait ElementCalls {
     ghost element: { Self → Element };
 
@@ -60,36 +60,45 @@ pub trait ElementCalls {
         ensures { kind (place_of (element self.now)) ≡ Some result.0 };
 
     /// The parent, or `None` of a root.
+    /// `Err(Fault::Memory)` where the tree cannot be shared once more.
     fn parent(&self) -> Result<Option<SyntaxNode>, Fault>
         ensures ok { IfOk result (λ found. found ≡ parent (place_of (element self.now))) }
         ensures err { IfErr result (λ e. e ≡ Fault.Memory) };
 
     /// The root of the tree.
+    /// `Err(Fault::Memory)` where the tree cannot be shared once more.
     fn tree_top(&self) -> Result<SyntaxNode, Fault>
         ensures ok { IfOk result (λ n. n ≡ tree_top (place_of (element self.now))) }
         ensures err { IfErr result (λ e. e ≡ Fault.Memory) };
 
     /// The first token of all that are in a node, also an empty one; a token itself.
+    /// `Err(Fault::Memory)` where the tree cannot be shared once more.
     fn first_token(&self) -> Result<Option<SyntaxToken>, Fault>
         ensures ok { IfOk result (λ found. found ≡ first_token (place_of (element self.now))) }
         ensures err { IfErr result (λ e. e ≡ Fault.Memory) };
 
     /// The last token of all that are in a node, also an empty one; a token itself.
+    /// `Err(Fault::Memory)` where the tree cannot be shared once more.
     fn last_token(&self) -> Result<Option<SyntaxToken>, Fault>
         ensures ok { IfOk result (λ found. found ≡ last_token (place_of (element self.now))) }
         ensures err { IfErr result (λ e. e ≡ Fault.Memory) };
 
     /// The next sibling.
+    /// `Err(Fault::Memory)` where the tree cannot be shared once more.
     fn next_sibling_or_token(&self) -> Result<Option<SyntaxElement>, Fault>
-        ensures ok { IfOk result (λ found. found ≡ next_sibling_or_token (place_of (element self.now))) }
+        ensures ok { IfOk result (λ found.
+            found ≡ next_sibling_or_token (place_of (element self.now))) }
         ensures err { IfErr result (λ e. e ≡ Fault.Memory) };
 
     /// The sibling before this one.
+    /// `Err(Fault::Memory)` where the tree cannot be shared once more.
     fn prev_sibling_or_token(&self) -> Result<Option<SyntaxElement>, Fault>
-        ensures ok { IfOk result (λ found. found ≡ prev_sibling_or_token (place_of (element self.now))) }
+        ensures ok { IfOk result (λ found.
+            found ≡ prev_sibling_or_token (place_of (element self.now))) }
         ensures err { IfErr result (λ e. e ≡ Fault.Memory) };
 
     /// A node and the nodes above it, up to the root; of a token the nodes above it.
+    /// An item is `Err(Fault::Memory)` where the tree cannot be shared once more; then the iterator ends.
     fn ancestors(&self) -> Ancestors
         ensures ok { IfOk result (λ list. list ≡ element_ancestors (element self.now)) }
         ensures err { IfErr result (λ e. e ≡ Fault.Memory) };

@@ -3,11 +3,11 @@ mod search;
 ghost use Rattle.std.specs.Prelude.{◌≡◌, [], IfOk, IfErr, IfSome, Some};
 ghost use Rattle.std.specs.Option.{option_map};
 ghost use Rattle.rowan_cursor.specs.Cursor.{StandsAt, index, kind, text_range};
-ghost use Rattle.rowan_cursor.specs.CursorView.{cursor_of, HasNode};
+ghost use Rattle.rowan_cursor.specs.TableView.{cursor_of, IsNodeIn};
 ghost use Rattle.rowan_cursor.specs.Moves.{tree_top, parent, first_child, last_child, first_child_or_token, last_child_or_token, child_or_token_at_index, next_sibling, prev_sibling, next_sibling_or_token, prev_sibling_or_token, first_token, last_token, children, children_with_tokens, siblings, siblings_with_tokens, ancestors};
 
-use crate::cursor::ancestors::Climb;
-use crate::cursor::rows::Row;
+use crate::cursor::climb::Climb;
+use crate::cursor::row::Row;
 use crate::cursor::{
     Ancestors, Siblings, SiblingsWithTokens, SyntaxElement, SyntaxElementChildren,
     SyntaxNodeChildren, SyntaxToken, element,
@@ -23,7 +23,24 @@ use std::hash::{Hash, Hasher};
 use std::marker::Model;
 use std::rc::Rc;
 
-/// A node in a tree: a root, and the way from it to the node. A clone shares the tree.
+/// A node in a tree: a root, and the way from it to the node.
+///
+/// All cursors of one tree share it, and it lives as long as one of them. A move costs a step or a few, and asks for no
+/// memory. It is refused only where the tree cannot be shared once more, since its reference count is full; then the answer is
+/// `Err(Fault::Memory)`. Two nodes are equal if they have equal green nodes and their texts start at the same offset.
+///
+/// ```rust
+/// // `green` is the node of `f(x)`: a token `f`, and a node with the tokens `(`, `x` and `)`
+/// let call = SyntaxNode::new_root(alloc, green)?;
+/// if let Some(arguments) = call.first_child()? {
+///     assert_eq!(arguments.index(), 1);
+///     assert_eq!(arguments.text_range(), TextRange::new(TextSize::from(1), TextSize::from(4)));
+///     assert_eq!(arguments.parent()?, Some(call));
+///     for element in arguments.children_with_tokens() {
+///         let kind = element?.kind();
+///     }
+/// }
+/// ```
 #[derive(Drop)]
 pub struct SyntaxNode {
     table: Rc<Table>,
@@ -38,32 +55,30 @@ impl Model for SyntaxNode {
 
     ghost coded = { coded_cursor };
 
-    ghost use Rattle.rowan_cursor.specs.CursorView.{cursor_of, HasNode};
+    ghost use Rattle.rowan_cursor.specs.TableView.{cursor_of, IsNodeIn};
 
-    ghost view = { λ n. cursor_of n.table.value.entries.items n.number };
+    ghost view = { λ n. cursor_of n.table.value n.number };
 
-    ghost invariant = { λ n. HasNode n.table.value.entries.items n.number };
+    ghost invariant = { λ n. IsNodeIn n.table.value n.number };
 }
 
 impl SyntaxNode {
-    // The cursor at the node of a number.
-    pub(super) fn at(table: &Rc<Table>, number: usize) -> Result<SyntaxNode, Fault>
-        requires { HasNode table.now.value.entries.items number }
-        ensures ok { IfOk result (λ n. n ≡ cursor_of table.now.value.entries.items number) }
-        ensures err { IfErr result (λ e. e ≡ Fault.Memory) }
+    // The cursor at the node with a number.
+    pub(super) fn at(table: &Rc<Table>, number: usize) -> Result<SyntaxNode, AllocError>
+        requires { IsNodeIn table.now.value number }
+        ensures { IfOk result (λ node. node ≡ cursor_of table.now.value number) }
     {
         let table = table.clone()?;
         Ok(SyntaxNode { table, number })
     }
 
-    // The same, where there is a number.
+    // The cursor at the node with the number that a move found, if it found one.
     pub(super) fn found(
         table: &Rc<Table>,
         number: Option<usize>,
-    ) -> Result<Option<SyntaxNode>, Fault>
-        requires { IfSome number (HasNode table.now.value.entries.items) }
-        ensures ok { IfOk result (λ found. found ≡ option_map (cursor_of table.now.value.entries.items) number) }
-        ensures err { IfErr result (λ e. e ≡ Fault.Memory) }
+    ) -> Result<Option<SyntaxNode>, AllocError>
+        requires { IfSome number (IsNodeIn table.now.value) }
+        ensures { IfOk result (λ found. found ≡ option_map (cursor_of table.now.value) number) }
     {
         match number {
             Some(number) => Ok(Some(SyntaxNode::at(table, number)?)),
@@ -71,8 +86,9 @@ impl SyntaxNode {
         }
     }
 
-    /// The cursor at the root of a green tree. Refused only for want of memory, and where the tree has more than 4,294,967,295 nodes
-    /// and tokens, whose table would take 100 GB.
+    /// The cursor at the root of a green tree. It visits each node and token once.
+    /// `Err(Fault::Memory)` for want of memory, and where the tree has more than 4,294,967,295 nodes and tokens, whose table
+    /// would take 100 GB.
     pub fn new_root(alloc: Global, green: GreenNode) -> Result<SyntaxNode, Fault>
         ensures ok { IfOk result (λ n. n ≡ record { root = green; path = [] }) }
         ensures err { IfErr result (λ e. e ≡ Fault.Memory) }
@@ -81,7 +97,8 @@ impl SyntaxNode {
         Ok(SyntaxNode { table, number: 0 })
     }
 
-    /// The root of a new tree, which has the green node of this one. Refused as `new_root` is.
+    /// The root of a new tree, which has the green node of this one. It visits each node and token below this one once.
+    /// `Err(Fault::Memory)` for want of memory.
     pub fn clone_subtree(&self) -> Result<SyntaxNode, Fault>
         ensures ok { IfOk result (λ n. StandsAt self.now n.root) }
         ensures top { IfOk result (λ n. n.path ≡ []) }
@@ -119,110 +136,124 @@ impl SyntaxNode {
     }
 
     /// The root of the tree.
+    /// `Err(Fault::Memory)` where the tree cannot be shared once more.
     pub fn tree_top(&self) -> Result<SyntaxNode, Fault>
         ensures ok { IfOk result (λ n. n ≡ tree_top self.now) }
         ensures err { IfErr result (λ e. e ≡ Fault.Memory) }
     {
-        SyntaxNode::at(&self.table, 0)
+        Ok(SyntaxNode::at(&self.table, 0)?)
     }
 
     /// The parent, or `None` of a root.
+    /// `Err(Fault::Memory)` where the tree cannot be shared once more.
     pub fn parent(&self) -> Result<Option<SyntaxNode>, Fault>
         ensures ok { IfOk result (λ found. found ≡ parent self.now) }
         ensures err { IfErr result (λ e. e ≡ Fault.Memory) }
     {
-        SyntaxNode::found(&self.table, self.table.parent(self.number))
+        Ok(SyntaxNode::found(&self.table, self.table.parent(self.number))?)
     }
 
     /// The first child that is a node.
+    /// `Err(Fault::Memory)` where the tree cannot be shared once more.
     pub fn first_child(&self) -> Result<Option<SyntaxNode>, Fault>
         ensures ok { IfOk result (λ found. found ≡ first_child self.now) }
         ensures err { IfErr result (λ e. e ≡ Fault.Memory) }
     {
-        SyntaxNode::found(&self.table, self.table.first_child(self.number))
+        Ok(SyntaxNode::found(&self.table, self.table.first_child(self.number))?)
     }
 
     /// The last child that is a node.
+    /// `Err(Fault::Memory)` where the tree cannot be shared once more.
     pub fn last_child(&self) -> Result<Option<SyntaxNode>, Fault>
         ensures ok { IfOk result (λ found. found ≡ last_child self.now) }
         ensures err { IfErr result (λ e. e ≡ Fault.Memory) }
     {
-        SyntaxNode::found(&self.table, self.table.last_child(self.number))
+        Ok(SyntaxNode::found(&self.table, self.table.last_child(self.number))?)
     }
 
     /// The first child.
+    /// `Err(Fault::Memory)` where the tree cannot be shared once more.
     pub fn first_child_or_token(&self) -> Result<Option<SyntaxElement>, Fault>
         ensures ok { IfOk result (λ found. found ≡ first_child_or_token self.now) }
         ensures err { IfErr result (λ e. e ≡ Fault.Memory) }
     {
-        element::found(&self.table, self.table.first_child_or_token(self.number))
+        Ok(element::found(&self.table, self.table.first_child_or_token(self.number))?)
     }
 
     /// The last child.
+    /// `Err(Fault::Memory)` where the tree cannot be shared once more.
     pub fn last_child_or_token(&self) -> Result<Option<SyntaxElement>, Fault>
         ensures ok { IfOk result (λ found. found ≡ last_child_or_token self.now) }
         ensures err { IfErr result (λ e. e ≡ Fault.Memory) }
     {
-        element::found(&self.table, self.table.last_child_or_token(self.number))
+        Ok(element::found(&self.table, self.table.last_child_or_token(self.number))?)
     }
 
     /// The child at an index among all children, or `None` past the last one.
+    /// `Err(Fault::Memory)` where the tree cannot be shared once more.
     pub fn child_or_token_at_index(&self, index: usize) -> Result<Option<SyntaxElement>, Fault>
         ensures ok { IfOk result (λ found. found ≡ child_or_token_at_index self.now index) }
         ensures err { IfErr result (λ e. e ≡ Fault.Memory) }
     {
-        element::found(&self.table, self.table.child_at(self.number, index))
+        Ok(element::found(&self.table, self.table.child_at(self.number, index))?)
     }
 
     /// The next sibling that is a node.
+    /// `Err(Fault::Memory)` where the tree cannot be shared once more.
     pub fn next_sibling(&self) -> Result<Option<SyntaxNode>, Fault>
         ensures ok { IfOk result (λ found. found ≡ next_sibling self.now) }
         ensures err { IfErr result (λ e. e ≡ Fault.Memory) }
     {
-        SyntaxNode::found(&self.table, self.table.next_sibling(self.number))
+        Ok(SyntaxNode::found(&self.table, self.table.next_sibling(self.number))?)
     }
 
     /// The nearest sibling before this one that is a node.
+    /// `Err(Fault::Memory)` where the tree cannot be shared once more.
     pub fn prev_sibling(&self) -> Result<Option<SyntaxNode>, Fault>
         ensures ok { IfOk result (λ found. found ≡ prev_sibling self.now) }
         ensures err { IfErr result (λ e. e ≡ Fault.Memory) }
     {
-        SyntaxNode::found(&self.table, self.table.prev_sibling(self.number))
+        Ok(SyntaxNode::found(&self.table, self.table.prev_sibling(self.number))?)
     }
 
     /// The next sibling.
+    /// `Err(Fault::Memory)` where the tree cannot be shared once more.
     pub fn next_sibling_or_token(&self) -> Result<Option<SyntaxElement>, Fault>
         ensures ok { IfOk result (λ found. found ≡ next_sibling_or_token self.now) }
         ensures err { IfErr result (λ e. e ≡ Fault.Memory) }
     {
-        element::found(&self.table, self.table.next_sibling_or_token(self.number))
+        Ok(element::found(&self.table, self.table.next_sibling_or_token(self.number))?)
     }
 
     /// The sibling before this one.
+    /// `Err(Fault::Memory)` where the tree cannot be shared once more.
     pub fn prev_sibling_or_token(&self) -> Result<Option<SyntaxElement>, Fault>
         ensures ok { IfOk result (λ found. found ≡ prev_sibling_or_token self.now) }
         ensures err { IfErr result (λ e. e ≡ Fault.Memory) }
     {
-        element::found(&self.table, self.table.prev_sibling_or_token(self.number))
+        Ok(element::found(&self.table, self.table.prev_sibling_or_token(self.number))?)
     }
 
     /// The first token of all that are in this node, also an empty one.
+    /// `Err(Fault::Memory)` where the tree cannot be shared once more.
     pub fn first_token(&self) -> Result<Option<SyntaxToken>, Fault>
         ensures ok { IfOk result (λ found. found ≡ first_token self.now) }
         ensures err { IfErr result (λ e. e ≡ Fault.Memory) }
     {
-        SyntaxToken::found(&self.table, self.table.first_token(self.number))
+        Ok(SyntaxToken::found(&self.table, self.table.first_token(self.number))?)
     }
 
     /// The last token of all that are in this node, also an empty one.
+    /// `Err(Fault::Memory)` where the tree cannot be shared once more.
     pub fn last_token(&self) -> Result<Option<SyntaxToken>, Fault>
         ensures ok { IfOk result (λ found. found ≡ last_token self.now) }
         ensures err { IfErr result (λ e. e ≡ Fault.Memory) }
     {
-        SyntaxToken::found(&self.table, self.table.last_token(self.number))
+        Ok(SyntaxToken::found(&self.table, self.table.last_token(self.number))?)
     }
 
     /// The node and the nodes above it, up to the root.
+    /// An item is `Err(Fault::Memory)` where the tree cannot be shared once more; then the iterator ends.
     pub fn ancestors(&self) -> Ancestors
         ensures ok { IfOk result (λ list. list ≡ ancestors self.now) }
         ensures err { IfErr result (λ e. e ≡ Fault.Memory) }
@@ -231,6 +262,7 @@ impl SyntaxNode {
     }
 
     /// The children that are nodes.
+    /// An item is `Err(Fault::Memory)` where the tree cannot be shared once more; then the iterator ends.
     pub fn children(&self) -> SyntaxNodeChildren
         ensures ok { IfOk result (λ list. list ≡ children self.now) }
         ensures err { IfErr result (λ e. e ≡ Fault.Memory) }
@@ -239,6 +271,7 @@ impl SyntaxNode {
     }
 
     /// The children.
+    /// An item is `Err(Fault::Memory)` where the tree cannot be shared once more; then the iterator ends.
     pub fn children_with_tokens(&self) -> SyntaxElementChildren
         ensures ok { IfOk result (λ list. list ≡ children_with_tokens self.now) }
         ensures err { IfErr result (λ e. e ≡ Fault.Memory) }
@@ -247,6 +280,7 @@ impl SyntaxNode {
     }
 
     /// The node, and then its siblings in a direction that are nodes, nearest first. A root has none.
+    /// An item is `Err(Fault::Memory)` where the tree cannot be shared once more; then the iterator ends.
     pub fn siblings(&self, direction: Direction) -> Siblings
         ensures ok { IfOk result (λ list. list ≡ siblings direction self.now) }
         ensures err { IfErr result (λ e. e ≡ Fault.Memory) }
@@ -255,6 +289,7 @@ impl SyntaxNode {
     }
 
     /// The node, and then its siblings in a direction, nearest first. A root has none.
+    /// An item is `Err(Fault::Memory)` where the tree cannot be shared once more; then the iterator ends.
     pub fn siblings_with_tokens(&self, direction: Direction) -> SiblingsWithTokens
         ensures ok { IfOk result (λ list. list ≡ siblings_with_tokens direction self.now) }
         ensures err { IfErr result (λ e. e ≡ Fault.Memory) }

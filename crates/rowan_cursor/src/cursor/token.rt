@@ -1,11 +1,11 @@
 ghost use Rattle.std.specs.Prelude.{◌≡◌, IfOk, IfErr, IfSome, Some};
 ghost use Rattle.std.specs.Option.{option_map};
 ghost use Rattle.rowan_cursor.specs.Cursor.{StandsAtToken, index, kind, text_range, text_at};
-ghost use Rattle.rowan_cursor.specs.CursorView.{cursor_of, HasToken};
+ghost use Rattle.rowan_cursor.specs.TableView.{cursor_of, IsTokenIn};
 ghost use Rattle.rowan_cursor.specs.Moves.{tree_top, parent, next_sibling_or_token, prev_sibling_or_token, first_token, last_token, next_token, prev_token, siblings_with_tokens, parent_ancestors};
 
-use crate::cursor::ancestors::Climb;
-use crate::cursor::rows::Row;
+use crate::cursor::climb::Climb;
+use crate::cursor::row::Row;
 use crate::cursor::{Ancestors, SiblingsWithTokens, SyntaxElement, SyntaxNode, element};
 use crate::table::Table;
 use rowan_green::fault::Fault;
@@ -18,7 +18,11 @@ use std::hash::{Hash, Hasher};
 use std::marker::Model;
 use std::rc::Rc;
 
-/// A token in a tree: a root, and the way from it to the token. A clone shares the tree.
+/// A token in a tree: a root, and the way from it to the token.
+///
+/// All cursors of one tree share it, and it lives as long as one of them. A move is refused only where the tree cannot be
+/// shared once more, since its reference count is full; then the answer is `Err(Fault::Memory)`. Two tokens are equal if they
+/// have equal green tokens and their texts start at the same offset.
 #[derive(Drop)]
 pub struct SyntaxToken {
     table: Rc<Table>,
@@ -33,32 +37,30 @@ impl Model for SyntaxToken {
 
     ghost coded = { coded_cursor };
 
-    ghost use Rattle.rowan_cursor.specs.CursorView.{cursor_of, HasToken};
+    ghost use Rattle.rowan_cursor.specs.TableView.{cursor_of, IsTokenIn};
 
-    ghost view = { λ t. cursor_of t.table.value.entries.items t.number };
+    ghost view = { λ t. cursor_of t.table.value t.number };
 
-    ghost invariant = { λ t. HasToken t.table.value.entries.items t.number };
+    ghost invariant = { λ t. IsTokenIn t.table.value t.number };
 }
 
 impl SyntaxToken {
-    // The cursor at the token of a number.
-    pub(super) fn at(table: &Rc<Table>, number: usize) -> Result<SyntaxToken, Fault>
-        requires { HasToken table.now.value.entries.items number }
-        ensures ok { IfOk result (λ t. t ≡ cursor_of table.now.value.entries.items number) }
-        ensures err { IfErr result (λ e. e ≡ Fault.Memory) }
+    // The cursor at the token with a number.
+    pub(super) fn at(table: &Rc<Table>, number: usize) -> Result<SyntaxToken, AllocError>
+        requires { IsTokenIn table.now.value number }
+        ensures { IfOk result (λ token. token ≡ cursor_of table.now.value number) }
     {
         let table = table.clone()?;
         Ok(SyntaxToken { table, number })
     }
 
-    // The same, where there is a number.
+    // The cursor at the token with the number that a move found, if it found one.
     pub(super) fn found(
         table: &Rc<Table>,
         number: Option<usize>,
-    ) -> Result<Option<SyntaxToken>, Fault>
-        requires { IfSome number (HasToken table.now.value.entries.items) }
-        ensures ok { IfOk result (λ found. found ≡ option_map (cursor_of table.now.value.entries.items) number) }
-        ensures err { IfErr result (λ e. e ≡ Fault.Memory) }
+    ) -> Result<Option<SyntaxToken>, AllocError>
+        requires { IfSome number (IsTokenIn table.now.value) }
+        ensures { IfOk result (λ found. found ≡ option_map (cursor_of table.now.value) number) }
     {
         match number {
             Some(number) => Ok(Some(SyntaxToken::at(table, number)?)),
@@ -102,51 +104,57 @@ impl SyntaxToken {
     }
 
     /// The root of the tree.
+    /// `Err(Fault::Memory)` where the tree cannot be shared once more.
     pub fn tree_top(&self) -> Result<SyntaxNode, Fault>
         ensures ok { IfOk result (λ n. n ≡ tree_top self.now) }
         ensures err { IfErr result (λ e. e ≡ Fault.Memory) }
     {
-        SyntaxNode::at(&self.table, 0)
+        Ok(SyntaxNode::at(&self.table, 0)?)
     }
 
     /// The parent.
+    /// `Err(Fault::Memory)` where the tree cannot be shared once more.
     pub fn parent(&self) -> Result<Option<SyntaxNode>, Fault>
         ensures ok { IfOk result (λ found. found ≡ parent self.now) }
         ensures err { IfErr result (λ e. e ≡ Fault.Memory) }
     {
-        SyntaxNode::found(&self.table, self.table.parent(self.number))
+        Ok(SyntaxNode::found(&self.table, self.table.parent(self.number))?)
     }
 
     /// The next sibling.
+    /// `Err(Fault::Memory)` where the tree cannot be shared once more.
     pub fn next_sibling_or_token(&self) -> Result<Option<SyntaxElement>, Fault>
         ensures ok { IfOk result (λ found. found ≡ next_sibling_or_token self.now) }
         ensures err { IfErr result (λ e. e ≡ Fault.Memory) }
     {
-        element::found(&self.table, self.table.next_sibling_or_token(self.number))
+        Ok(element::found(&self.table, self.table.next_sibling_or_token(self.number))?)
     }
 
     /// The sibling before this one.
+    /// `Err(Fault::Memory)` where the tree cannot be shared once more.
     pub fn prev_sibling_or_token(&self) -> Result<Option<SyntaxElement>, Fault>
         ensures ok { IfOk result (λ found. found ≡ prev_sibling_or_token self.now) }
         ensures err { IfErr result (λ e. e ≡ Fault.Memory) }
     {
-        element::found(&self.table, self.table.prev_sibling_or_token(self.number))
+        Ok(element::found(&self.table, self.table.prev_sibling_or_token(self.number))?)
     }
 
     /// The next token of the tree, also an empty one, whatever node it is in.
+    /// `Err(Fault::Memory)` where the tree cannot be shared once more.
     pub fn next_token(&self) -> Result<Option<SyntaxToken>, Fault>
         ensures ok { IfOk result (λ found. found ≡ next_token self.now) }
         ensures err { IfErr result (λ e. e ≡ Fault.Memory) }
     {
-        SyntaxToken::found(&self.table, self.table.next_token(self.number))
+        Ok(SyntaxToken::found(&self.table, self.table.next_token(self.number))?)
     }
 
     /// The token of the tree before this one, also an empty one, whatever node it is in.
+    /// `Err(Fault::Memory)` where the tree cannot be shared once more.
     pub fn prev_token(&self) -> Result<Option<SyntaxToken>, Fault>
         ensures ok { IfOk result (λ found. found ≡ prev_token self.now) }
         ensures err { IfErr result (λ e. e ≡ Fault.Memory) }
     {
-        SyntaxToken::found(&self.table, self.table.prev_token(self.number))
+        Ok(SyntaxToken::found(&self.table, self.table.prev_token(self.number))?)
     }
 
     // The token itself, by the way that a node takes to its first or last token.
@@ -154,17 +162,18 @@ impl SyntaxToken {
         ensures ok { IfOk result (λ found. found ≡ first_token self.now) }
         ensures err { IfErr result (λ e. e ≡ Fault.Memory) }
     {
-        SyntaxToken::found(&self.table, self.table.first_token(self.number))
+        Ok(SyntaxToken::found(&self.table, self.table.first_token(self.number))?)
     }
 
     pub(super) fn last_token(&self) -> Result<Option<SyntaxToken>, Fault>
         ensures ok { IfOk result (λ found. found ≡ last_token self.now) }
         ensures err { IfErr result (λ e. e ≡ Fault.Memory) }
     {
-        SyntaxToken::found(&self.table, self.table.last_token(self.number))
+        Ok(SyntaxToken::found(&self.table, self.table.last_token(self.number))?)
     }
 
     /// The nodes above the token: its parent, and so on up to the root.
+    /// An item is `Err(Fault::Memory)` where the tree cannot be shared once more; then the iterator ends.
     pub fn ancestors(&self) -> Ancestors
         ensures ok { IfOk result (λ list. list ≡ parent_ancestors self.now) }
         ensures err { IfErr result (λ e. e ≡ Fault.Memory) }
@@ -173,6 +182,7 @@ impl SyntaxToken {
     }
 
     /// The token, and then its siblings in a direction, nearest first.
+    /// An item is `Err(Fault::Memory)` where the tree cannot be shared once more; then the iterator ends.
     pub fn siblings_with_tokens(&self, direction: Direction) -> SiblingsWithTokens
         ensures ok { IfOk result (λ list. list ≡ siblings_with_tokens direction self.now) }
         ensures err { IfErr result (λ e. e ≡ Fault.Memory) }

@@ -1,5 +1,5 @@
 //! Searches by place: among the children of one node by halves, and so down from node to child.
-ghost use Rattle.std.specs.Prelude.{◌≡◌, ℕ, ◌+◌, ◌<◌, ◌≤◌, ◌↔◌, IfSome, IsNone, IsSome, length, map};
+ghost use Rattle.std.specs.Prelude.{◌≡◌, ℕ, ◌+◌, ◌<◌, ◌≤◌, ◌↔◌, IfSome, IsNone, IsSome, map};
 ghost use Rattle.std.specs.List.{AllByRecursion};
 ghost use Rattle.rowan_green.specs.Path.{Path};
 ghost use Rattle.rowan_green.specs.Search.{digits};
@@ -7,17 +7,17 @@ ghost use Rattle.rowan_green.specs.Span.{Holds};
 ghost use Rattle.rowan_green.specs.Steps.{count_limit};
 ghost use Rattle.rowan_green.specs.TokenAtOffset.{found};
 ghost use Rattle.rowan_cursor.specs.Cursor.{text_range};
-ghost use Rattle.rowan_cursor.specs.CursorView.{cursor_of, HasToken};
 ghost use Rattle.rowan_cursor.specs.Moves.{child_count};
 ghost use Rattle.rowan_cursor.specs.Search.{IsRangeChild, Covers, IsLeafOver, touching};
-ghost use Rattle.rowan_cursor.specs.Table.{root_of, path_at};
 
-use super::{Kept, Table};
+use super::{Content, Table};
 use rowan_green::steps::Steps;
 use rowan_green::text::{TextRange, TextSize};
 use rowan_green::utility_types::TokenAtOffset;
 
 impl Table {
+    ghost use Rattle.rowan_cursor.specs.TableView.{root_of, path_at, cursor_of, IsWithin, IsTokenIn};
+
     /// The child at a range of the root's text. Counts the comparisons.
     pub(crate) fn child_at_range(
         &self,
@@ -25,18 +25,17 @@ impl Table {
         range: TextRange,
         steps: &mut Steps,
     ) -> Option<usize>
-        requires { number < length self.now.entries.items }
+        requires { IsWithin self.now number }
         // the answer
-        ensures child { let es = self.now.entries.items in let here = path_at es number in
-            IfSome result (λ n. IsRangeChild (root_of es) range here (path_at es n)) }
-        ensures none { let es = self.now.entries.items in let here = path_at es number in
-            IsNone result → (q : Path) → ¬ IsRangeChild (root_of es) range here q }
-        ensures within { IfSome result (λ n. n < length self.now.entries.items) }
+        ensures child { let here = path_at self.now number in
+            IfSome result (λ n. IsRangeChild (root_of self.now) range here (path_at self.now n)) }
+        ensures none { let here = path_at self.now number in
+            IsNone result → (q : Path) → ¬ IsRangeChild (root_of self.now) range here q }
+        ensures within { IfSome result (IsWithin self.now) }
         ensures later { IfSome result (λ n. number < n) }
 
         // the counters
-        ensures most { let es = self.now.entries.items in
-            let children = child_count (root_of es) (path_at es number) in
+        ensures most { let children = child_count (root_of self.now) (path_at self.now number) in
             steps.new.comparisons ≤ steps.old.comparisons + digits children }
         ensures least { IsSome result → steps.old.comparisons < count_limit
             → steps.old.comparisons < steps.new.comparisons }
@@ -44,7 +43,7 @@ impl Table {
         ensures visits { steps.new.visits ≡ steps.old.visits }
     {
         let entry = self.entry(number);
-        let Kept::OfNode(start, green) = &entry.kept else {
+        let Content::OfNode(start, green) = &entry.content else {
             return None;
         };
         let from = range.start().checked_sub(*start)?;
@@ -57,10 +56,9 @@ impl Table {
 
     /// The element that covers a range of the root's text, of those at and below an entry.
     pub(crate) fn covering_element(&self, number: usize, range: TextRange) -> usize
-        requires { number < length self.now.entries.items }
-        ensures covers { let es = self.now.entries.items in
-            Covers (root_of es) range (path_at es number) (path_at es result) }
-        ensures within { result < length self.now.entries.items }
+        requires { IsWithin self.now number }
+        ensures covers { Covers (root_of self.now) range (path_at self.now number) (path_at self.now result) }
+        ensures within { IsWithin self.now result }
     {
         let mut steps = Steps::new();
         let mut covering = number;
@@ -72,12 +70,11 @@ impl Table {
 
     // The token that has a byte of the root's text, at or below an entry that has it.
     fn leaf_over(&self, number: usize, byte: TextSize) -> usize
-        requires number { number < length self.now.entries.items }
-        requires from { (text_range (cursor_of self.now.entries.items number)).start ≤ byte }
-        requires to { byte < (text_range (cursor_of self.now.entries.items number)).end }
-        ensures leaf { let es = self.now.entries.items in
-            IsLeafOver (root_of es) byte (path_at es number) (path_at es result) }
-        ensures token { HasToken self.now.entries.items result }
+        requires number { IsWithin self.now number }
+        requires from { (text_range (cursor_of self.now number)).start ≤ byte }
+        requires to { byte < (text_range (cursor_of self.now number)).end }
+        ensures leaf { IsLeafOver (root_of self.now) byte (path_at self.now number) (path_at self.now result) }
+        ensures token { IsTokenIn self.now result }
     {
         self.covering_element(number, TextRange::at(byte, TextSize::from(1)))
     }
@@ -85,13 +82,13 @@ impl Table {
     /// The tokens at or below an entry that touch an offset of the root's text. The offset lies in the entry's text or at an end
     /// of it.
     pub(crate) fn token_at_offset(&self, number: usize, offset: TextSize) -> TokenAtOffset<usize>
-        requires number { number < length self.now.entries.items }
-        requires offset { Holds (text_range (cursor_of self.now.entries.items number)) offset }
-        ensures found { let es = self.now.entries.items in
-            map (path_at es) (found result) ≡ touching (root_of es) offset (path_at es number) }
-        ensures none { let whole = text_range (cursor_of self.now.entries.items number) in
+        requires number { IsWithin self.now number }
+        requires offset { Holds (text_range (cursor_of self.now number)) offset }
+        ensures found { let leaves = touching (root_of self.now) offset (path_at self.now number) in
+            map (path_at self.now) (found result) ≡ leaves }
+        ensures none { let whole = text_range (cursor_of self.now number) in
             (result ≡ TokenAtOffset.None) ↔ (whole.start ≡ whole.end) }
-        ensures tokens { AllByRecursion (HasToken self.now.entries.items) (found result) }
+        ensures tokens { AllByRecursion (IsTokenIn self.now) (found result) }
     {
         let range = self.text_range(number);
         if range.is_empty() {

@@ -1,5 +1,4 @@
 use Rattle.std.proofs.Common.{sym, subst}
-use Rattle.rowan_green.specs.Path.{Path}
 use Rattle.rowan_cursor.specs.Cursor.{Cursor, text_range}
 use Rattle.rowan_cursor.specs.Search.{LiesIn, FindsChild, Covers}
 use Rattle.std.specs.Prelude.{None}

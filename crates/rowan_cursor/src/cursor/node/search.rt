@@ -46,10 +46,8 @@ impl SyntaxNode {
         ensures grows { steps.old.comparisons ≤ steps.new.comparisons }
         ensures visits { steps.new.visits ≡ steps.old.visits }
     {
-        element::found(
-            &self.table,
-            self.table.child_at_range(self.number, range, steps),
-        )
+        let child = self.table.child_at_range(self.number, range, steps);
+        Ok(element::found(&self.table, child)?)
     }
 
     /// The element that covers a range of the root's text, in bytes: from this node on, the search goes down from child to child
@@ -60,7 +58,8 @@ impl SyntaxNode {
         ensures ok { IfOk result (IsCovering range self.now) }
         ensures err { IfErr result (λ e. e ≡ Fault.Memory) }
     {
-        element::at(&self.table, self.table.covering_element(self.number, range))
+        let covering = self.table.covering_element(self.number, range);
+        Ok(element::at(&self.table, covering)?)
     }
 
     /// The tokens of this node that touch an offset of the root's text, in bytes: those with bytes that begin there, end there,

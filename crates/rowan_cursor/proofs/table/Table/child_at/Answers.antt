@@ -1,19 +1,25 @@
-use Rattle.std.proofs.Common.{sym, ◌∙◌, ap, ◌-◌}
+use Rattle.std.proofs.Common.{sym, ◌∙◌, ap, ◌-◌, arith}
 use Rattle.std.specs.Prelude.{slice_get}
-use Rattle.rowan_cursor.specs.Table.{path_at}
+use Rattle.rowan_cursor.specs.Table.{entry_path}
 use Rattle.rowan_cursor.proofs.RowLemmas.{row-get, row-past}
 use Rattle.rowan_cursor.proofs.table.Table.child_at.Goals as goal
 
-pub returns-then-index-children-clause-path : goal.returns-then-index-children-clause-path
-returns-then-index-children-clause-path c =
+pub returns-then-index-children : goal.returns-then-index-children
+returns-then-index-children c =
     let es = c.args.self.now.entries.items in
     let row = c.child_numbers-children.result in
-    sym (row-past (path_at es) row.start (row.end - row.start) c.args.index c.if-index-children.true)
-    ∙ ap (λ ps. slice_get ps c.args.index) c.child_numbers-children.ensures.row
+    record {
+      path = sym (row-past (entry_path es) row.start (row.end - row.start) c.args.index c.if-index-children.true)
+          ∙ ap (λ ps. slice_get ps c.args.index) c.child_numbers-children.ensures.row;
+      within = tt;
+    }
 
-pub returns-clause-path : goal.returns-clause-path
-returns-clause-path c =
+pub returns : goal.returns
+returns c =
     let es = c.args.self.now.entries.items in
     let row = c.child_numbers-children.result in
-    sym (row-get (path_at es) row.start (row.end - row.start) c.args.index c.if-index-children.false)
-    ∙ ap (λ ps. slice_get ps c.args.index) c.child_numbers-children.ensures.row
+    record {
+      path = sym (row-get (entry_path es) row.start (row.end - row.start) c.args.index c.if-index-children.false)
+          ∙ ap (λ ps. slice_get ps c.args.index) c.child_numbers-children.ensures.row;
+      within = omega (arith, c.child_numbers-children.ensures.within, c.child_numbers-children.ensures.order, c.if-index-children.false);
+    }

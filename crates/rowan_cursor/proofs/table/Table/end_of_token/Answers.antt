@@ -1,7 +1,7 @@
 use Rattle.std.proofs.Common.{◌∙◌, arith}
-use Rattle.rowan_cursor.specs.Table.{root_of, path_at, index_of, green_of}
+use Rattle.rowan_cursor.specs.Table.{root_node, entry_path, entry_index, green_of}
 use Rattle.rowan_cursor.proofs.EndLemmas.{end_at_next, end_at_last, token_behind}
-use Rattle.rowan_cursor.proofs.TableLemmas.{slice_get-some, is_entry, kept-some, node_above}
+use Rattle.rowan_cursor.proofs.TableLemmas.{slice_get-some, is_entry, content-some, node_above}
 use Rattle.rowan_cursor.proofs.table.Table.end_of_token.Goals as goal
 
 pub returns-in-Some : goal.returns-in-Some
@@ -10,8 +10,8 @@ returns-in-Some c =
     let es = s.entries.items in
     let n = c.args.number in
     let e = slice_get-some es n c.requires.within in
-    let below = (is_entry es s.complete n e.0 e.1).below (token_behind es n c.requires) in
-    c.start.ensures ∙ end_at_next (root_of es) (path_at es n) (path_at es e.0.parent) (path_at es c.in-Some.next) (index_of es n e.0) below.path c.in-Some.ensures.path
+    let below = (is_entry es s.complete n e.0 e.1).below (token_behind s n c.requires) in
+    c.start.ensures ∙ end_at_next (root_node es) (entry_path es n) (entry_path es e.0.parent) (entry_path es c.in-Some.next) (entry_index es n e.0) below.path c.in-Some.ensures.path
 
 pub end_of_node-requires : goal.end_of_node-requires
 end_of_node-requires c =
@@ -19,7 +19,7 @@ end_of_node-requires c =
     let es = s.entries.items in
     let n = c.args.number in
     let e = c.entry.result.now in
-    let behind = token_behind es n c.requires in
+    let behind = token_behind s n c.requires in
     record {
       within = omega (arith, (c.entry.ensures.below behind).earlier, c.requires.within);
       is = node_above es s.complete n e c.entry.ensures.at behind;
@@ -27,9 +27,10 @@ end_of_node-requires c =
 
 pub returns : goal.returns
 returns c =
-    let es = c.args.self.now.entries.items in
+    let s = c.args.self.now in
+    let es = s.entries.items in
     let n = c.args.number in
     let e = c.entry.result.now in
-    let below = c.entry.ensures.below (token_behind es n c.requires) in
-    let t = kept-some _ (green_of e) c.entry.ensures.green in
-    c.end_of_node.ensures ∙ end_at_last (root_of es) (path_at es n) (path_at es e.parent) (index_of es n e) t.0 below.path t.1 c.in_default.ensures.path
+    let below = c.entry.ensures.below (token_behind s n c.requires) in
+    let t = content-some _ (green_of e) c.entry.ensures.green in
+    c.end_of_node.ensures ∙ end_at_last (root_node es) (entry_path es n) (entry_path es e.parent) (entry_index es n e) t.0 below.path t.1 c.in_default.ensures.path

@@ -1,11 +1,11 @@
 use Rattle.std.proofs.Common.{◌≡◌, ◌-◌, map}
 use Rattle.rowan_cursor.specs.Moves.{numbers, first_node_at}
-use Rattle.rowan_cursor.specs.Table.{root_of, path_at}
+use Rattle.rowan_cursor.specs.Table.{root_node, entry_path}
 use Rattle.rowan_cursor.proofs.table.Table.first_node_in.Given as goal
 
 abbrev pub invariant-loop-number : goal.invariant-loop-number
 invariant-loop-number l =
     let es = l.self.entries.items in
     let end = l.fn.row.end in
-    first_node_at (root_of es) (map (path_at es) (numbers l.fn.row.start (end - l.fn.row.start)))
-    ≡ first_node_at (root_of es) (map (path_at es) (numbers l.number (end - l.number)))
+    first_node_at (root_node es) (map (entry_path es) (numbers l.fn.row.start (end - l.fn.row.start)))
+    ≡ first_node_at (root_node es) (map (entry_path es) (numbers l.number (end - l.number)))

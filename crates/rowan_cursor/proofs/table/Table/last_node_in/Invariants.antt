@@ -1,11 +1,11 @@
 use Rattle.std.proofs.Common.{◌≡◌, ◌-◌, map, reverse}
 use Rattle.rowan_cursor.specs.Moves.{numbers, first_node_at}
-use Rattle.rowan_cursor.specs.Table.{root_of, path_at}
+use Rattle.rowan_cursor.specs.Table.{root_node, entry_path}
 use Rattle.rowan_cursor.proofs.table.Table.last_node_in.Given as goal
 
 abbrev pub invariant-loop-number : goal.invariant-loop-number
 invariant-loop-number l =
     let es = l.self.entries.items in
     let start = l.fn.row.start in
-    first_node_at (root_of es) (reverse (map (path_at es) (numbers start (l.fn.row.end - start))))
-    ≡ first_node_at (root_of es) (reverse (map (path_at es) (numbers start (l.number - start))))
+    first_node_at (root_node es) (reverse (map (entry_path es) (numbers start (l.fn.row.end - start))))
+    ≡ first_node_at (root_node es) (reverse (map (entry_path es) (numbers start (l.number - start))))

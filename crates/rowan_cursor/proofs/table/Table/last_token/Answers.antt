@@ -1,13 +1,20 @@
 use Rattle.std.proofs.Common.{◌∙◌}
-use Rattle.rowan_cursor.specs.Table.{root_of, path_at}
+use Rattle.rowan_cursor.specs.Table.{root_node, entry_path}
 use Rattle.rowan_cursor.proofs.PathLemmas.{begins-self}
 use Rattle.rowan_cursor.proofs.TokenLemmas.{last_leaf-pass}
 use Rattle.rowan_cursor.proofs.table.Table.last_token.Goals as goal
 
-pub token_back_from-requires-clause-inside : goal.token_back_from-requires-clause-inside
-token_back_from-requires-clause-inside c = begins-self (path_at c.args.self.now.entries.items c.args.number)
+pub token_back_from-requires : goal.token_back_from-requires
+token_back_from-requires c = record {
+  top_within = c.requires;
+  within = c.requires;
+  inside = begins-self (entry_path c.args.self.now.entries.items c.args.number);
+}
 
-pub returns-clause-path : goal.returns-clause-path
-returns-clause-path c =
+pub returns : goal.returns
+returns c =
     let es = c.args.self.now.entries.items in
-    c.token_back_from.ensures.path ∙ last_leaf-pass (root_of es) (path_at es c.args.number)
+    record {
+      path = c.token_back_from.ensures.path ∙ last_leaf-pass (root_node es) (entry_path es c.args.number);
+      token = c.token_back_from.ensures.token;
+    }

@@ -1,15 +1,21 @@
 use Rattle.std.proofs.Common.{[], sym, ◌∙◌, ap}
 use Rattle.rowan_cursor.specs.Pass.{leaf_list, first_inside}
-use Rattle.rowan_cursor.specs.Table.{root_of, path_at}
+use Rattle.rowan_cursor.specs.Table.{root_node, entry_path}
 use Rattle.rowan_cursor.proofs.TokenLemmas.{next_leaf-pass}
 use Rattle.rowan_cursor.proofs.table.Table.next_token.Goals as goal
 
-pub returns-in-Some-clause-path : goal.returns-in-Some-clause-path
-returns-in-Some-clause-path c =
+pub returns-in-Some : goal.returns-in-Some
+returns-in-Some c =
     let es = c.args.self.now.entries.items in
-    c.token_from.ensures.path ∙ ap (first_inside []) (c.in-Some.ensures.next.same leaf_list) ∙ next_leaf-pass (root_of es) (path_at es c.args.number)
+    record {
+      path = c.token_from.ensures.path ∙ ap (first_inside []) (c.in-Some.ensures.next.same leaf_list) ∙ next_leaf-pass (root_node es) (entry_path es c.args.number);
+      token = c.token_from.ensures.token;
+    }
 
-pub returns-in-None-clause-path : goal.returns-in-None-clause-path
-returns-in-None-clause-path c =
+pub returns-in-None : goal.returns-in-None
+returns-in-None c =
     let es = c.args.self.now.entries.items in
-    sym c.in-None.ensures.end ∙ next_leaf-pass (root_of es) (path_at es c.args.number)
+    record {
+      path = sym c.in-None.ensures.end ∙ next_leaf-pass (root_node es) (entry_path es c.args.number);
+      token = tt;
+    }

@@ -2,7 +2,7 @@ use Rattle.std.proofs.Common.{◌≡◌, ◌<◌, true, Some, length}
 use Rattle.rowan_green.specs.declared.utility_types.NodeOrToken.TheVariants.{Node}
 use Rattle.rowan_green.specs.Path.{begins}
 use Rattle.rowan_cursor.specs.Pass.{Lists, after}
-use Rattle.rowan_cursor.specs.Table.{root_of, path_at}
+use Rattle.rowan_cursor.specs.Table.{root_node, entry_path}
 use Rattle.rowan_cursor.proofs.table.Table.skip_on.Given as goal
 
 -- the pass goes on from the ancestor as from the element
@@ -10,8 +10,8 @@ abbrev pub invariant-loop-current : goal.invariant-loop-current
 invariant-loop-current l =
     let es = l.self.entries.items in
     (l.current < length es)
-    × (begins (path_at es l.top) (path_at es l.current) ≡ true)
-    × ((g : Lists) → after g (Some (Node (root_of es))) (path_at es l.current) ≡ after g (Some (Node (root_of es))) (path_at es l.number))
+    × (begins (entry_path es l.top) (entry_path es l.current) ≡ true)
+    × ((g : Lists) → after g (Some (Node (root_node es))) (entry_path es l.current) ≡ after g (Some (Node (root_node es))) (entry_path es l.number))
 
 abbrev pub decreases-loop-current : goal.decreases-loop-current
 decreases-loop-current l = l.current

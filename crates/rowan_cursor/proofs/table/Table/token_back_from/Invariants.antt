@@ -1,8 +1,8 @@
 use Rattle.std.proofs.Common.{◌≡◌, ◌<◌, true, Some, length}
 use Rattle.rowan_green.specs.declared.utility_types.NodeOrToken.TheVariants.{Node}
 use Rattle.rowan_green.specs.Path.{begins}
-use Rattle.rowan_cursor.specs.Pass.{leaf_list, element_list, reached, last_inside}
-use Rattle.rowan_cursor.specs.Table.{root_of, path_at}
+use Rattle.rowan_cursor.specs.Pass.{leaf_list, element_list, until, last_inside}
+use Rattle.rowan_cursor.specs.Table.{root_node, entry_path}
 use Rattle.rowan_cursor.proofs.table.Table.token_back_from.Given as goal
 
 -- what is to be found from here is what is to be found from the start
@@ -10,12 +10,12 @@ abbrev pub invariant-loop-number : goal.invariant-loop-number
 invariant-loop-number l =
     let es = l.self.entries.items in
     (l.number < length es)
-    × (begins (path_at es l.top) (path_at es l.number) ≡ true)
-    × (last_inside (path_at es l.top) (reached leaf_list (Some (Node (root_of es))) (path_at es l.number))
-    ≡ last_inside (path_at es l.top) (reached leaf_list (Some (Node (root_of es))) (path_at es l.start)))
+    × (begins (entry_path es l.top) (entry_path es l.number) ≡ true)
+    × (last_inside (entry_path es l.top) (until leaf_list (Some (Node (root_node es))) (entry_path es l.number))
+    ≡ last_inside (entry_path es l.top) (until leaf_list (Some (Node (root_node es))) (entry_path es l.start)))
 
 -- the elements that are left
 abbrev pub decreases-loop-number : goal.decreases-loop-number
 decreases-loop-number l =
     let es = l.self.entries.items in
-    length (reached element_list (Some (Node (root_of es))) (path_at es l.number))
+    length (until element_list (Some (Node (root_node es))) (entry_path es l.number))

@@ -1,8 +1,8 @@
 use Rattle.std.proofs.Common.{◌≡◌, ◌<◌, true, Some, length}
 use Rattle.rowan_green.specs.declared.utility_types.NodeOrToken.TheVariants.{Node}
 use Rattle.rowan_green.specs.Path.{begins}
-use Rattle.rowan_cursor.specs.Pass.{leaf_list, element_list, entered, first_inside}
-use Rattle.rowan_cursor.specs.Table.{root_of, path_at}
+use Rattle.rowan_cursor.specs.Pass.{leaf_list, element_list, since, first_inside}
+use Rattle.rowan_cursor.specs.Table.{root_node, entry_path}
 use Rattle.rowan_cursor.proofs.table.Table.token_from.Given as goal
 
 -- what is to be found from here is what is to be found from the start
@@ -10,12 +10,12 @@ abbrev pub invariant-loop-number : goal.invariant-loop-number
 invariant-loop-number l =
     let es = l.self.entries.items in
     (l.number < length es)
-    × (begins (path_at es l.top) (path_at es l.number) ≡ true)
-    × (first_inside (path_at es l.top) (entered leaf_list (Some (Node (root_of es))) (path_at es l.number))
-    ≡ first_inside (path_at es l.top) (entered leaf_list (Some (Node (root_of es))) (path_at es l.start)))
+    × (begins (entry_path es l.top) (entry_path es l.number) ≡ true)
+    × (first_inside (entry_path es l.top) (since leaf_list (Some (Node (root_node es))) (entry_path es l.number))
+    ≡ first_inside (entry_path es l.top) (since leaf_list (Some (Node (root_node es))) (entry_path es l.start)))
 
 -- the elements that are left
 abbrev pub decreases-loop-number : goal.decreases-loop-number
 decreases-loop-number l =
     let es = l.self.entries.items in
-    length (entered element_list (Some (Node (root_of es))) (path_at es l.number))
+    length (since element_list (Some (Node (root_node es))) (entry_path es l.number))

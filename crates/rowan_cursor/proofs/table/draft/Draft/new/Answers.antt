@@ -1,14 +1,14 @@
 use Rattle.std.proofs.Common.{◌≡◌, [], ◌∷◌, ◌++◌, refl, sym, ◌∙◌, ap, subst}
 use Rattle.rowan_cursor.specs.Table.{IsDraft}
 use Rattle.rowan_cursor.specs.declared.table.Entry.{Entry}
-use Rattle.rowan_cursor.specs.declared.table.Kept.TheVariants.{OfNode}
+use Rattle.rowan_cursor.specs.declared.table.Content.TheVariants.{OfNode}
 use Rattle.rowan_cursor.proofs.FillLemmas.{IsDraft-one}
 use Rattle.rowan_cursor.proofs.table.draft.Draft.new.Goals as goal
 
 pub returns-clause-draft : goal.returns-clause-draft
 returns-clause-draft c =
     let y : Entry = record {
-      kept = OfNode c.from.result c.args.green;
+      content = OfNode c.from.result c.args.green;
       parent = 0;
       first_child = 0;
     } in

@@ -39,12 +39,12 @@ returns-clause-draft c =
     let node = c.in-OfNode.node in
     let at : slice_get es c.args.parent ≡ Some above = slice_get_read es _ c.args.parent above refl c.requires.within c.index-above.ensures in
     let y : Entry = record {
-      kept = c.in_ok-kept.kept;
+      content = c.in_ok-content.content;
       parent = c.args.parent;
       first_child = 0;
     } in
-    let start : offset_of y ≡ offset_of above + child_start (node_children node) c.args.index = omega (arith, c.in_ok-kept.ensures.start, ap offset_in c.in-OfNode.is, c.from.ensures, c.from-2.ensures, c.from-3.ensures, c.in-Some.ensures.some.0) in
-    let next : IsNextChild es above y = next_child (c.args.parent + 1) es c.requires.draft above y node c.args.index (pointee c.in-Some.found.1) at (ap green_in c.in-OfNode.is) (c.requires.place above at).1 c.in-Some.ensures.some.1 c.in_ok-kept.ensures.green start in
+    let start : offset_of y ≡ offset_of above + child_start (node_children node) c.args.index = omega (arith, c.in_ok-content.ensures.start, ap offset_in c.in-OfNode.is, c.from.ensures, c.from-2.ensures, c.from-3.ensures, c.in-Some.ensures.some.0) in
+    let next : IsNextChild es above y = next_child (c.args.parent + 1) es c.requires.draft above y node c.args.index (pointee c.in-Some.found.1) at (ap green_in c.in-OfNode.is) (c.requires.place above at).1 c.in-Some.ensures.some.1 c.in_ok-content.ensures.green start in
     let items : c.push.new.self.items ≡ es ++ y ∷ [] = c.in_ok-push.ensures.items in
     subst (IsDraft (c.args.parent + 1)) (sym items) (IsDraft-push (c.args.parent + 1) es above y c.requires.draft next (omega arith) (omega (arith, c.requires.within)))
 
@@ -55,9 +55,9 @@ returns-clause-grown c =
     let above = c.index-above.result.now in
     let at : slice_get es c.args.parent ≡ Some above = slice_get_read es _ c.args.parent above refl c.requires.within c.index-above.ensures in
     let y : Entry = record {
-      kept = c.in_ok-kept.kept;
+      content = c.in_ok-content.content;
       parent = c.args.parent;
       first_child = 0;
     } in
     let items : c.push.new.self.items ≡ es ++ y ∷ [] = c.in_ok-push.ensures.items in
-    GrowsBy-next es c.push.new.self.items above y c.args.index (pointee c.in-Some.found.1) items at c.in_ok-kept.ensures.green (ap (λ k. slice_get (children_in (green_in k)) c.args.index) c.in-OfNode.is ∙ c.in-Some.ensures.some.1)
+    GrowsBy-next es c.push.new.self.items above y c.args.index (pointee c.in-Some.found.1) items at c.in_ok-content.ensures.green (ap (λ k. slice_get (children_in (green_in k)) c.args.index) c.in-OfNode.is ∙ c.in-Some.ensures.some.1)

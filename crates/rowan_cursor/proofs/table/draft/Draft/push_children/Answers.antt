@@ -16,7 +16,7 @@ loop-index-init c =
     let y : Entry = record d { first_child = c.in-Ok.first_child } in
     let alike : IsAlike es c.args.parent d y = record {
       at = slice_get_read es _ c.args.parent d refl c.requires.within c.index_mut-entry.ensures.value;
-      kept = refl;
+      content = refl;
       above = refl;
     } in
     let first : y.first_child ≡ counts (take c.args.parent es) + 1 = omega (arith, c.in-Ok.ensures.1, c.len.ensures, c.requires.place) in
@@ -74,7 +74,7 @@ returns-clause-grown c e at =
     let read : slice_get es c.args.parent ≡ Some d = slice_get_read es _ c.args.parent d refl c.requires.within c.index_mut-entry.ensures.value in
     let alike : IsAlike es c.args.parent d y = record {
       at = read;
-      kept = refl;
+      content = refl;
       above = refl;
     } in
     let same : ts ≡ children_in (green_of e) = ap (λ (x : Entry). children_in (green_of x)) (same_Some d e (sym read ∙ at)) in

@@ -1,6 +1,6 @@
 use Rattle.std.proofs.Common.{arith}
 use Rattle.rowan_cursor.proofs.RowViews.{row-from-back}
-use Rattle.rowan_cursor.proofs.cursor.rows.Row.next.Goals as goal
+use Rattle.rowan_cursor.proofs.cursor.row.Row.next.Goals as goal
 
 pub returns-in-Prev-clause-some : goal.returns-in-Prev-clause-some
 returns-in-Prev-clause-some c =

@@ -1,0 +1,102 @@
+-- What the numbers of a table stand for: the elements of its tree, by their paths and as cursors.
+use Rattle.std.specs.Prelude.{◌≡◌, ℕ, ◌+◌, ◌-◌, ◌<◌, ◌≤◌, Bool, true, false, List, map, length, Option, Some, IfSome, slice_get}
+use Rattle.std.specs.Option.{option_map}
+use Rattle.rowan_green.specs.Path.{Path}
+use Rattle.rowan_green.specs.Term.{NodeTerm}
+use Rattle.rowan_cursor.specs.declared.table.Entry.{Entry}
+use Rattle.rowan_cursor.specs.declared.table.Table.{Table}
+use Rattle.rowan_cursor.specs.Cursor.{Cursor}
+use Rattle.rowan_cursor.specs.Moves.{cursor_at, is_node_at, Element, element_at, numbers, child_paths, following, preceding}
+use Rattle.rowan_cursor.specs.Table.{root_node, entry_path, green_of, children_in, Describes, IsRow, IsRowBack}
+
+-- the root of the tree
+abbrev pub root_of : Table → NodeTerm
+root_of t = root_node t.entries.items
+
+-- the table has an entry with this number
+abbrev pub IsWithin : Table → ℕ → Type 0
+IsWithin t n = n < length t.entries.items
+
+-- the table has entries with all numbers below this one
+abbrev pub EndsWithin : Table → ℕ → Type 0
+EndsWithin t end = end ≤ length t.entries.items
+
+-- the path of the element with this number
+abbrev pub path_at : Table → ℕ → Path
+path_at t n = entry_path t.entries.items n
+
+-- whether that is a node
+abbrev pub stands_for_node : Table → ℕ → Bool
+stands_for_node t n = is_node_at (root_of t) (path_at t n)
+
+-- the table has an entry with this number, that of a node
+pub record IsNodeIn (t : Table) (n : ℕ) : Type 0 where
+  pub within : IsWithin t n
+  pub is : stands_for_node t n ≡ true
+
+-- the table has an entry with this number, that of a token
+pub record IsTokenIn (t : Table) (n : ℕ) : Type 0 where
+  pub within : IsWithin t n
+  pub is : stands_for_node t n ≡ false
+
+-- the cursor at the path of a number
+abbrev pub cursor_of : Table → ℕ → Cursor
+cursor_of t n = cursor_at (root_of t) (path_at t n)
+
+-- the element at the path of a number
+abbrev pub element_of : Table → ℕ → Element
+element_of t n = element_at (root_of t) (path_at t n)
+
+-- the element with this number is the one at this path, where there is either
+pub record Leads (t : Table) (number : Option ℕ) (place : Option Path) : Type 0 where
+  pub path : option_map (path_at t) number ≡ place
+  pub within : IfSome number (IsWithin t)
+
+-- the element with this number is the one at this path, where there is either, and it is a node
+pub record LeadsToNode (t : Table) (number : Option ℕ) (place : Option Path) : Type 0 where
+  pub path : option_map (path_at t) number ≡ place
+  pub node : IfSome number (IsNodeIn t)
+
+-- the element with this number is the one at this path, where there is either, and it is a token
+pub record LeadsToToken (t : Table) (number : Option ℕ) (place : Option Path) : Type 0 where
+  pub path : option_map (path_at t) number ≡ place
+  pub token : IfSome number (IsTokenIn t)
+
+-- the table has entries with the numbers from a start up to an end
+pub record IsStretch (t : Table) (start end : ℕ) : Type 0 where
+  pub order : start ≤ end
+  pub within : EndsWithin t end
+
+-- the paths of the elements with these numbers
+abbrev pub row_paths : Table → ℕ → ℕ → List Path
+row_paths t start end = map (path_at t) (numbers start (end - start))
+
+-- the elements with these numbers are those at these paths, in this order
+abbrev pub StretchShows : Table → ℕ → ℕ → List Path → Type 0
+StretchShows t start end paths = IsRow t.entries.items start end paths
+
+-- the elements with these numbers, from the last on, are those at these paths
+abbrev pub StretchShowsBack : Table → ℕ → ℕ → List Path → Type 0
+StretchShowsBack t start end paths = IsRowBack t.entries.items start end paths
+
+-- this entry has the number, and tells of what stands there
+abbrev pub IsEntryAt : Table → ℕ → Entry → Type 0
+IsEntryAt t n e = Describes t.entries.items n e
+
+-- the numbers of the children of the element with a number go up to this one
+abbrev pub IsChildrenEnd : Table → ℕ → ℕ → Type 0
+IsChildrenEnd t n end =
+    (e : Entry) → slice_get t.entries.items n ≡ Some e
+    → end ≡ e.first_child + length (children_in (green_of e))
+
+-- the paths of the children of the element with a number
+abbrev pub paths_below : Table → ℕ → List Path
+paths_below t n = child_paths (root_of t) (path_at t n)
+
+-- the paths of its siblings behind it
+abbrev pub paths_behind : Table → ℕ → List Path
+paths_behind t n = following (root_of t) (path_at t n)
+
+-- the paths of its siblings before it, nearest first
+abbrev pub paths_before : Table → ℕ → List Path
+paths_before t n = preceding (root_of t) (path_at t n)
