@@ -57,7 +57,8 @@ impl Table {
     /// The element that covers a range of the root's text, of those at and below an entry.
     pub(crate) fn covering_element(&self, number: usize, range: TextRange) -> usize
         requires { IsWithin self.now number }
-        ensures covers { Covers (root_of self.now) range (path_at self.now number) (path_at self.now result) }
+        ensures covers { let here = path_at self.now number in
+            Covers (root_of self.now) range here (path_at self.now result) }
         ensures within { IsWithin self.now result }
     {
         let mut steps = Steps::new();
@@ -73,7 +74,8 @@ impl Table {
         requires number { IsWithin self.now number }
         requires from { (text_range (cursor_of self.now number)).start ≤ byte }
         requires to { byte < (text_range (cursor_of self.now number)).end }
-        ensures leaf { IsLeafOver (root_of self.now) byte (path_at self.now number) (path_at self.now result) }
+        ensures leaf { let here = path_at self.now number in
+            IsLeafOver (root_of self.now) byte here (path_at self.now result) }
         ensures token { IsTokenIn self.now result }
     {
         self.covering_element(number, TextRange::at(byte, TextSize::from(1)))
