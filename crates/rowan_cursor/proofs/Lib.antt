@@ -1,13 +1,17 @@
 pub mod ClimbLemmas
+pub mod CoverLemmas
 pub mod EndLemmas
 pub mod EventLemmas
 pub mod FillLemmas
 pub mod LeafLemmas
+pub mod OffsetLemmas
 pub mod PathLemmas
 pub mod PreorderLaws
 pub mod RowLemmas
 pub mod RowViews
+pub mod SearchLemmas
 pub mod SizeLemmas
 pub mod TableLemmas
 pub mod TokenLemmas
 pub mod TraversalLemmas
+pub mod TouchLemmas

@@ -8,6 +8,7 @@ pub mod Moves
 pub mod Pass
 pub mod Preorder
 pub mod PreorderRuns
+pub mod Search
 pub mod Table
 pub mod TablePass
 pub mod TableProp

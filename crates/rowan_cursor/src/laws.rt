@@ -1,11 +1,15 @@
 //! Laws of cursors, each as the contract of a function that does nothing.
-ghost use Rattle.std.specs.Prelude.{◌≡◌, ℕ, false, List, [], ◌∷◌, ◌++◌, ◌↔◌, IsTrue, Some};
-ghost use Rattle.rowan_green.specs.Path.{Path};
+ghost use Rattle.std.specs.Prelude.{◌≡◌, ℕ, ◌<◌, false, List, [], ◌∷◌, ◌++◌, ◌↔◌, IsTrue, Some, None};
+ghost use Rattle.rowan_green.specs.declared.utility_types.NodeOrToken.TheVariants.{Node};
+ghost use Rattle.rowan_green.specs.Path.{Path, offset};
+ghost use Rattle.rowan_green.specs.Span.{Span};
 ghost use Rattle.rowan_green.specs.Term.{Term};
-ghost use Rattle.rowan_cursor.specs.Cursor.{Cursor, term_at};
+ghost use Rattle.rowan_cursor.specs.Cursor.{Cursor, term_at, text_range};
 ghost use Rattle.rowan_cursor.specs.Equal.{same_place, start_of};
 ghost use Rattle.rowan_cursor.specs.Preorder.{preorder_with_tokens, preorder, descendants_with_tokens, descendants, entered_by};
 ghost use Rattle.rowan_cursor.specs.PreorderRuns.{WalkCall, given, still_to_come, LeavesAll};
+ghost use Rattle.rowan_cursor.specs.Moves.{Element, place_of, cursor_at};
+ghost use Rattle.rowan_cursor.specs.Search.{LiesIn, IsCovering, FindsChild, IsLeafOver, tokens_at};
 
 /// Two cursors are equal exactly if the same stands there, and its text starts at the same offset.
 pub fn cursors_are_equal_by_value_and_start()
@@ -34,4 +38,22 @@ pub fn walks_enter_the_descendants()
     ensures with_tokens { (c : Cursor) →
         entered_by (preorder_with_tokens c) ≡ descendants_with_tokens c }
     ensures nodes { (c : Cursor) → entered_by (preorder c) ≡ descendants c }
+{}
+
+/// The element that covers a range has it, and has no child at the range.
+pub fn nothing_smaller_covers_a_range()
+    ensures has { (c : Cursor) (span : Span) (t : Term) (e : Element) → term_at c ≡ Some t
+        → LiesIn span (text_range c) → IsCovering span c e → LiesIn span (text_range (place_of e)) }
+    ensures last { (c : Cursor) (span : Span) (e : Element) → IsCovering span c e
+        → FindsChild span (place_of e) None }
+{}
+
+/// Where one token is at an offset between two bytes of a node, it has both of them; and a token that has the bytes on both
+/// sides of an offset is the one that is there.
+pub fn one_token_has_the_bytes_on_both_sides()
+    ensures has { (c t : Cursor) (x : ℕ) → tokens_at x c ≡ t ∷ []
+        → (text_range c).start < x → x < (text_range c).end
+        → ((text_range t).start < x) × (x < (text_range t).end) }
+    ensures one { (c : Cursor) (q : Path) (x : ℕ) → IsLeafOver c.root x c.path q
+        → offset (Node c.root) q < x → tokens_at x c ≡ cursor_at c.root q ∷ [] }
 {}

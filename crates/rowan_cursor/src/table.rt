@@ -2,6 +2,7 @@
 
 mod draft;
 mod events;
+mod search;
 
 ghost use Rattle.rowan_cursor.specs.Table.{IsTable};
 ghost use Rattle.rowan_cursor.specs.TableProp.{IsTable-prop};

@@ -12,6 +12,8 @@ mod example;
 #[cfg(test)]
 mod fixture;
 #[cfg(test)]
+mod searches;
+#[cfg(test)]
 mod table;
 #[cfg(test)]
 mod twins;

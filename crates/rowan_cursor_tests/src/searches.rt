@@ -1,0 +1,139 @@
+//! Searches at ranges and offsets.
+use crate::fixture::{ATOM, Call, LIST, ROOT, Shown, WORD, element, root_of, token};
+use rowan::cursor::SyntaxNode;
+use rowan::{Fault, TextRange, TextSize};
+use std::test::Fail;
+
+/// `ROOT["ab" LIST[] "cd"]`
+const AROUND_A_NODE: [Call; 6] = [
+    Call::Open(ROOT),
+    Call::Word("ab"),
+    Call::Open(LIST),
+    Call::Close,
+    Call::Word("cd"),
+    Call::Close,
+];
+
+/// `ROOT["ab" "" "cd"]`
+const AROUND_A_TOKEN: [Call; 5] = [
+    Call::Open(ROOT),
+    Call::Word("ab"),
+    Call::Word(""),
+    Call::Word("cd"),
+    Call::Close,
+];
+
+/// The tree of `(+ (* 15 2) 62)`.
+const SUM: [Call; 29] = [
+    Call::Open(ROOT),
+    Call::Open(LIST),
+    Call::Word("("),
+    Call::Open(ATOM),
+    Call::Word("+"),
+    Call::Close,
+    Call::Word(" "),
+    Call::Open(LIST),
+    Call::Word("("),
+    Call::Open(ATOM),
+    Call::Word("*"),
+    Call::Close,
+    Call::Word(" "),
+    Call::Open(ATOM),
+    Call::Word("15"),
+    Call::Close,
+    Call::Word(" "),
+    Call::Open(ATOM),
+    Call::Word("2"),
+    Call::Close,
+    Call::Word(")"),
+    Call::Close,
+    Call::Word(" "),
+    Call::Open(ATOM),
+    Call::Word("62"),
+    Call::Close,
+    Call::Word(")"),
+    Call::Close,
+    Call::Close,
+];
+
+fn range(start: u32, len: u32) -> Result<TextRange, Fault> {
+    let start = TextSize::from(start);
+    match start.checked_add(TextSize::from(len)) {
+        Some(end) => Ok(TextRange::new(start, end)),
+        None => Err(Fault::TextTooLong),
+    }
+}
+
+/// Where a range starts and how long it is, and the child there.
+const CHILDREN: [(u32, u32, Option<Shown>); 7] = [
+    (0, 0, Some((WORD, 0, 2))),
+    (1, 0, Some((WORD, 0, 2))),
+    (2, 0, Some((LIST, 2, 2))),
+    (4, 0, Some((WORD, 2, 4))),
+    (2, 2, Some((WORD, 2, 4))),
+    (1, 2, None),
+    (3, 6, None),
+];
+
+#[test]
+fn children_at_ranges(rt: HostRuntime) -> Result<(), Fail> {
+    let root = root_of(rt.alloc(), AROUND_A_NODE.as_slice())?;
+    for (start, len, expected) in CHILDREN {
+        assert!(rt; element(root.child_or_token_at_range(range(start, len)?)) == Ok(expected));
+    }
+    Ok(())
+}
+
+/// What covers a range, or a refusal where the range does not lie in the node.
+fn covering(node: &SyntaxNode, range: TextRange) -> Result<Option<Shown>, Fault> {
+    if !node.text_range().contains_range(range) {
+        return Err(Fault::NotFound);
+    }
+    let found = node.covering_element(range)?;
+    element(Ok(Some(found)))
+}
+
+#[test]
+fn what_covers_a_range(rt: HostRuntime) -> Result<(), Fail> {
+    let root = root_of(rt.alloc(), AROUND_A_NODE.as_slice())?;
+    assert!(rt; covering(&root, range(2, 0)?) == Ok(Some((LIST, 2, 2))));
+    let root = root_of(rt.alloc(), SUM.as_slice())?;
+    assert!(rt; covering(&root, range(6, 3)?) == Ok(Some((LIST, 3, 11))));
+    Ok(())
+}
+
+/// What the tokens at an offset show, or a refusal where the offset does not lie in the node.
+fn tokens(node: &SyntaxNode, offset: u32) -> Result<[Option<Shown>; 2], Fault> {
+    let offset = TextSize::from(offset);
+    if !node.text_range().contains_inclusive(offset) {
+        return Err(Fault::NotFound);
+    }
+    let mut found = node.token_at_offset(offset)?;
+    let first = token(Ok(found.next()))?;
+    let second = token(Ok(found.next()))?;
+    Ok([first, second])
+}
+
+/// Offsets, and the tokens there.
+const TOKENS: [(u32, [Option<Shown>; 2]); 4] = [
+    (3, [Some((WORD, 2, 3)), Some((WORD, 3, 4))]),
+    (7, [Some((WORD, 6, 8)), None]),
+    (0, [Some((WORD, 0, 1)), None]),
+    (15, [Some((WORD, 14, 15)), None]),
+];
+
+#[test]
+fn tokens_at_offsets(rt: HostRuntime) -> Result<(), Fail> {
+    let root = root_of(rt.alloc(), SUM.as_slice())?;
+    for (offset, expected) in TOKENS {
+        assert!(rt; tokens(&root, offset)? == expected);
+    }
+    Ok(())
+}
+
+#[test]
+fn empty_tokens_touch_no_offset(rt: HostRuntime) -> Result<(), Fail> {
+    let root = root_of(rt.alloc(), AROUND_A_TOKEN.as_slice())?;
+    assert!(rt; tokens(&root, 2)? == [Some((WORD, 0, 2)), Some((WORD, 2, 4))]);
+    Ok(())
+}
