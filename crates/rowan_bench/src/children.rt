@@ -19,7 +19,7 @@ const TEXTS: [&str; 8] = [
 const RANGE_LIMIT: usize = 4;
 
 /// Where the tokens of a node are.
-#[derive(Clone, Copy, PartialEq, Eq, Debug)]
+#[derive(Clone, Copy)]
 pub enum Memory {
     /// Equal ones are one token, as a cache makes them.
     Shared,
@@ -94,7 +94,7 @@ pub fn search(node: &GreenNode, ranges: &[TextRange], steps: &mut Steps) -> usiz
 }
 
 /// An edit of a node at one of its children.
-#[derive(Clone, Copy, PartialEq, Eq, Debug)]
+#[derive(Clone, Copy)]
 pub enum Edit {
     Replace,
     Insert,

@@ -11,7 +11,7 @@ use std::time::{Duration, Instant};
 const MOVES: usize = 1_000_000;
 
 /// What is timed, in each of many turns.
-#[derive(Clone, Copy, PartialEq, Eq, Debug)]
+#[derive(Clone, Copy)]
 pub enum Operation {
     /// A cursor at the root is made, and is dropped after its time was taken.
     Fill,
@@ -40,7 +40,7 @@ impl Operation {
 }
 
 /// What a turn went through: how many places, and where the text of the last one starts.
-#[derive(Clone, Copy, PartialEq, Eq, Debug)]
+#[derive(Clone, Copy)]
 pub struct Visited {
     pub places: u64,
     pub last: TextSize,
@@ -195,57 +195,68 @@ fn next_of(place: &SyntaxElement) -> Result<Option<SyntaxElement>, Fault> {
     Ok(None)
 }
 
-/// Takes so many turns, and answers the time of all of them and what the last one made. What a turn makes is dropped after its
-/// time was taken.
-fn timed<T: Drop, F: FnMut() -> Result<T, Fault>>(
-    rt: &HostRuntime,
-    turns: usize,
-    mut turn: F,
-) -> Result<(Duration, Option<T>)>
-    requires { F.IsAlwaysCallable turn }
-{
-    let mut total = Duration::ZERO;
-    let mut last = None;
-    for _ in 0..turns {
-        let start = Instant::now(rt)?;
-        let made = turn()?;
-        total = total.saturating_add(start.elapsed(rt)?);
-        last = Some(made);
-    }
-    Ok((total, last))
+/// What a turn of an operation needs, which is made before the time is taken.
+#[derive(Drop)]
+enum Turn {
+    Fill,
+    Whole,
+    Walk(SyntaxNode),
+    Move(SyntaxNode, Vec<Move>),
+    Nodes(SyntaxNode, Vec<NodeMove>),
 }
 
-/// Times an operation, and answers the time of all turns and what the last one visited.
+/// What a turn made.
+#[derive(Drop)]
+enum Made {
+    Root(SyntaxNode),
+    Visited(Visited),
+}
+
+impl Turn {
+    fn new(alloc: Global, green: &GreenNode, operation: Operation) -> Result<Turn, Fault> {
+        match operation {
+            Operation::Fill => Ok(Turn::Fill),
+            Operation::Whole => Ok(Turn::Whole),
+            Operation::Walk => Ok(Turn::Walk(root_of(alloc, green)?)),
+            Operation::Move => Ok(Turn::Move(root_of(alloc, green)?, drawn_moves(alloc)?)),
+            Operation::Nodes => Ok(Turn::Nodes(root_of(alloc, green)?, drawn_node_moves(alloc)?)),
+        }
+    }
+
+    fn take(&self, alloc: Global, green: &GreenNode) -> Result<Made, Fault> {
+        match self {
+            Turn::Fill => Ok(Made::Root(root_of(alloc, green)?)),
+            Turn::Whole => Ok(Made::Visited(walk(&root_of(alloc, green)?)?)),
+            Turn::Walk(root) => Ok(Made::Visited(walk(root)?)),
+            Turn::Move(root, moves) => Ok(Made::Visited(make_moves(root, moves.as_slice())?)),
+            Turn::Nodes(root, moves) => Ok(Made::Visited(make_node_moves(root, moves.as_slice())?)),
+        }
+    }
+}
+
+/// A cursor at the root of a tree.
+fn root_of(alloc: Global, green: &GreenNode) -> Result<SyntaxNode, Fault> {
+    SyntaxNode::new_root(alloc, green.clone()?)
+}
+
+/// Times an operation, and answers the time of all turns and what the last one visited. What a turn makes is dropped after its
+/// time was taken.
 pub fn time(
     rt: &HostRuntime,
     green: &GreenNode,
     operation: Operation,
     turns: usize,
 ) -> Result<(Duration, Option<Visited>)> {
-    let alloc = rt.alloc();
-    match operation {
-        Operation::Fill => {
-            let (total, _root) = timed(rt, turns, || SyntaxNode::new_root(alloc, green.clone()?))?;
-            Ok((total, None))
-        }
-        Operation::Whole => timed(
-            rt,
-            turns,
-            || walk(&SyntaxNode::new_root(alloc, green.clone()?)?),
-        ),
-        Operation::Walk => {
-            let root = SyntaxNode::new_root(alloc, green.clone()?)?;
-            timed(rt, turns, || walk(&root))
-        }
-        Operation::Move => {
-            let root = SyntaxNode::new_root(alloc, green.clone()?)?;
-            let moves = drawn_moves(alloc)?;
-            timed(rt, turns, || make_moves(&root, moves.as_slice()))
-        }
-        Operation::Nodes => {
-            let root = SyntaxNode::new_root(alloc, green.clone()?)?;
-            let moves = drawn_node_moves(alloc)?;
-            timed(rt, turns, || make_node_moves(&root, moves.as_slice()))
+    let turn = Turn::new(rt.alloc(), green, operation)?;
+    let mut total = Duration::ZERO;
+    let mut visited = None;
+    for _ in 0..turns {
+        let start = Instant::now(rt)?;
+        let made = turn.take(rt.alloc(), green)?;
+        total = total.saturating_add(start.elapsed(rt)?);
+        if let Made::Visited(places) = &made {
+            visited = Some(*places);
         }
     }
+    Ok((total, visited))
 }

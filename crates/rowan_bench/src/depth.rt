@@ -3,7 +3,7 @@ use rowan_tool::sexp;
 use std::alloc::Global;
 
 /// What is done with a deep tree.
-#[derive(Clone, Copy, PartialEq, Eq, Debug)]
+#[derive(Clone, Copy)]
 pub enum Operation {
     /// Parse it, and drop it.
     Parse,

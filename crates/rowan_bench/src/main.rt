@@ -74,19 +74,26 @@ fn run(rt: &HostRuntime) -> Result<()> {
     }
 }
 
+/// The word at a place; an empty one where there is none.
+fn word_at(words: &[String], place: usize) -> &str {
+    match words.get(place) {
+        Some(word) => word.as_str(),
+        None => "",
+    }
+}
+
 /// The word at a place, as a number.
 fn number_at(words: &[String], place: usize) -> Result<usize> {
-    let number = words
-        .get(place)
-        .and_then(|word| word.as_str().parse::<usize>().ok());
-    number.context("a number is missing")
+    match word_at(words, place).parse::<usize>() {
+        Ok(number) => Ok(number),
+        Err(_) => bail!("a number is missing"),
+    }
 }
 
 fn nest(rt: &HostRuntime, words: &[String]) -> Result<()> {
-    let word = words.get(1).map(|word| word.as_str());
-    let operation = word
-        .and_then(Operation::from_word)
-        .context("parse, compare or show is missing")?;
+    let operation = Operation::from_word(word_at(words, 1)).context(
+        "parse, compare or show is missing",
+    )?;
     let levels = number_at(words, 2)?;
     let bytes = operation.run(rt.alloc(), levels)?;
     println!(rt; "{levels} levels, {bytes} bytes")?;
@@ -119,9 +126,9 @@ fn intern(rt: &HostRuntime, words: &[String]) -> Result<()> {
     let count = number_at(words, 2)?;
     let mut cache = NodeCache::new(rt.alloc());
     let start = Instant::now(rt)?;
-    match words.get(1).map(|word| word.as_str()) {
-        Some("tokens") => timed::intern_tokens(rt.alloc(), &mut cache, count)?,
-        Some("nodes") => timed::intern_nodes(rt.alloc(), &mut cache, count)?,
+    match word_at(words, 1) {
+        "tokens" => timed::intern_tokens(rt.alloc(), &mut cache, count)?,
+        "nodes" => timed::intern_nodes(rt.alloc(), &mut cache, count)?,
         _ => bail!("tokens or nodes is missing"),
     }
     tell(rt, "new", start, &cache, TextSize::from(0))
@@ -129,10 +136,7 @@ fn intern(rt: &HostRuntime, words: &[String]) -> Result<()> {
 
 /// The tokens that the words ask for, and how often something is done with them.
 fn tokens(rt: &HostRuntime, words: &[String]) -> Result<(Vec<GreenElement>, usize)> {
-    let word = words.get(1).map(|word| word.as_str());
-    let memory = word
-        .and_then(Memory::from_word)
-        .context("shared or own is missing")?;
+    let memory = Memory::from_word(word_at(words, 1)).context("shared or own is missing")?;
     let tokens = memory.tokens(rt.alloc(), number_at(words, 2)?)?;
     Ok((tokens, number_at(words, 3)?))
 }
@@ -165,10 +169,9 @@ fn edit(rt: &HostRuntime, words: &[String]) -> Result<()> {
 }
 
 fn move_cursors(rt: &HostRuntime, words: &[String]) -> Result<()> {
-    let word = words.get(1).map(|word| word.as_str());
-    let operation = word
-        .and_then(cursors::Operation::from_word)
-        .context("fill, whole, walk, move or nodes is missing")?;
+    let operation = cursors::Operation::from_word(word_at(words, 1)).context(
+        "fill, whole, walk, move or nodes is missing",
+    )?;
     let turns = number_at(words, 2)?;
     let text = io::read_to_string(rt.alloc(), rt.reader())?;
     let parsed = sexp::parse(rt.alloc(), text.as_str())?;
