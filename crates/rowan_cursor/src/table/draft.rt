@@ -28,9 +28,7 @@ impl Draft {
         ensures root { IfOk result (λ draft. root_node (entries_of draft) ≡ green) }
         ensures one { IfOk result (λ draft. length (entries_of draft) ≡ 1) }
     {
-        // What has a length is within the limits.
-        let _len = green.text_len();
-        let mut entries = Vec::new(alloc);
+        let mut entries = Vec::with_capacity(alloc, 1 + green.children().len())?;
         entries.push(Entry {
             content: Content::OfNode(TextSize::from(0), green),
             parent: 0,

@@ -264,6 +264,7 @@ impl GreenNode {
     pub fn children(&self) -> Children<'_>
         ensures list { result ≡ node_children self.now }
         ensures within { AreWithin (node_children self.now) }
+        ensures fits { FitsNode self.now }
     {
         Children::new(self.data.children.as_slice())
     }

@@ -12,11 +12,11 @@ returns-clause-draft c =
       parent = 0;
       first_child = 0;
     } in
-    let items : c.push.new.self.items ≡ y ∷ [] = c.in_ok-push.ensures.items ∙ ap (λ es. es ++ y ∷ []) c.new-entries.ensures.items in
+    let items : c.push.new.self.items ≡ y ∷ [] = c.in_ok-push.ensures.items ∙ ap (λ es. es ++ y ∷ []) c.in_ok-entries.ensures.items in
     subst (IsDraft 0) (sym items)
     (IsDraft-one y c.args.green
     (record {
       green = refl;
       start = c.from.ensures;
-      fits = c.text_len-len.ensures.fits;
+      fits = c.children.ensures.fits;
     }))
