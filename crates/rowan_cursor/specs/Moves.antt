@@ -230,7 +230,7 @@ ancestors c = map (cursor_at c.root) (ancestor_paths c.path)
 abbrev pub parent_ancestors : Cursor → List Cursor
 parent_ancestors c = option_map_or ancestors (parent c) []
 
--- a node's start with the node itself, a token's with its parent
+-- the ancestors of an element: a node's start with the node itself, a token's with its parent
 abbrev pub element_ancestors : Element → List Cursor
 element_ancestors (Node c) = ancestors c
 element_ancestors (Token c) = parent_ancestors c

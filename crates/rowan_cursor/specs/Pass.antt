@@ -61,7 +61,7 @@ before g (Some t) (i ∷ p) =
 abbrev pub since : Lists → Option Term → Path → List Path
 since g t p = map (λ q. p ++ q) (of_some g (subterm_of t p)) ++ after g t p
 
--- the paths from its child at a place on
+-- the paths from the child of an element at a place on
 abbrev pub since_child : Lists → Option Term → Path → ℕ → List Path
 since_child g t p i =
     map (λ q. p ++ q) (below_children g i (drop i (children_of (subterm_of t p)))) ++ after g t p
@@ -70,7 +70,7 @@ since_child g t p i =
 abbrev pub until : Lists → Option Term → Path → List Path
 until g t p = before g t p ++ map (λ q. p ++ q) (of_some g (subterm_of t p))
 
--- the paths up to its child at a place, and none of that child
+-- the paths up to the child of an element at a place, and none of that child
 abbrev pub until_child : Lists → Option Term → Path → ℕ → List Path
 until_child g t p i =
     before g t p ++ map (λ q. p ++ q) (below_children g 0 (take i (children_of (subterm_of t p))))

@@ -19,17 +19,17 @@ use Rattle.rowan_cursor.specs.declared.table.Entry.{Entry}
 use Rattle.rowan_cursor.specs.declared.table.Content.{Content}
 use Rattle.rowan_cursor.specs.declared.table.Content.TheVariants.{OfNode, OfToken}
 
--- the node that an entry keeps, if it is that of one
+-- the node, by what stands in an entry; none in that of a token
 abbrev pub green_in : Content → Option NodeTerm
 green_in (OfNode start n) = Some n
 green_in (OfToken start) = None
 
--- where its text starts
+-- where the text starts, by what stands in an entry
 abbrev pub offset_in : Content → ℕ
 offset_in (OfNode start n) = start
 offset_in (OfToken start) = start
 
--- the node of an entry, if it is that of one
+-- the node of an entry; none of that of a token
 abbrev pub green_of : Entry → Option NodeTerm
 green_of e = green_in e.content
 
@@ -42,12 +42,16 @@ abbrev pub children_in : Option NodeTerm → List Term
 children_in None = []
 children_in (Some n) = node_children n
 
+-- the children of an entry's node
+abbrev pub entry_children : Entry → List Term
+entry_children e = children_in (green_of e)
+
 -- the length of a node
 abbrev pub len_in : Option NodeTerm → ℕ
 len_in None = 0
 len_in (Some n) = node_len n
 
--- the node, if there is one
+-- the node, or an empty one where there is none
 abbrev pub node_in : Option NodeTerm → NodeTerm
 node_in None = node 0 empty
 node_in (Some n) = n
@@ -59,7 +63,7 @@ root_node (e ∷ es) = node_in (green_of e)
 
 -- how many children these entries have together
 abbrev pub counts : List Entry → ℕ
-counts es = sum_by (λ e. length (children_in (green_of e))) es
+counts es = sum_by (λ e. length (entry_children e)) es
 
 -- an entry's index among its siblings: how far it stands behind the first child of its parent
 abbrev pub entry_index : List Entry → ℕ → Entry → ℕ
@@ -82,16 +86,12 @@ pub record IsTop (es : List Entry) (e : Entry) : Type 0 where
   pub green : green_of e ≡ Some (root_node es)
   pub start : offset_of e ≡ 0
 
--- the children of an entry's node
-abbrev pub children_at : Entry → List Term
-children_at e = children_in (green_of e)
-
 -- entry e, with the number n, is a child of entry p
 pub record IsChildOf (p : Entry) (n : ℕ) (e : Entry) : Type 0 where
   pub place : p.first_child ≤ n
   pub child :
-      option_map into_node (slice_get (children_at p) (n - p.first_child)) ≡ Some (green_of e)
-  pub start : offset_of e ≡ offset_of p + child_start (children_at p) (n - p.first_child)
+      option_map into_node (slice_get (entry_children p) (n - p.first_child)) ≡ Some (green_of e)
+  pub start : offset_of e ≡ offset_of p + child_start (entry_children p) (n - p.first_child)
 
 -- entries of which the first `done` know their first child; the others' children are still to come
 pub record IsDraft (done : ℕ) (es : List Entry) : Type 0 where
@@ -138,7 +138,7 @@ pub record Describes (es : List Entry) (n : ℕ) (e : Entry) : Type 0 where
   pub index : last_index (entry_path es n) ≡ entry_index es n e
   pub below : 0 < n → IsBelow es n e
   pub children :
-      IsRow es e.first_child (e.first_child + length (children_in (green_of e)))
+      IsRow es e.first_child (e.first_child + length (entry_children e))
       (child_paths (root_node es) (entry_path es n))
 
 -- the entries that were added are those of these terms, in this order
@@ -151,16 +151,16 @@ pub record GrowsBy (old new : List Entry) (ts : List Term) : Type 0 where
 abbrev pub IsNextIndex : List Entry → ℕ → ℕ → Type 0
 IsNextIndex es n i =
     (e : Entry) → slice_get es n ≡ Some e
-    → (i < length (children_in (green_of e))) × (length es ≡ e.first_child + i)
+    → (i < length (entry_children e)) × (length es ≡ e.first_child + i)
 
 -- an entry was added for the child at this index of the entry with this number
 abbrev pub GainsChild : List Entry → List Entry → ℕ → ℕ → Type 0
 GainsChild old new n i =
     (e : Entry) (t : Term) → slice_get old n ≡ Some e
-    → slice_get (children_in (green_of e)) i ≡ Some t → GrowsBy old new (t ∷ [])
+    → slice_get (entry_children e) i ≡ Some t → GrowsBy old new (t ∷ [])
 
 -- entries were added for all children of the entry with this number
 abbrev pub GainsChildren : List Entry → List Entry → ℕ → Type 0
 GainsChildren old new n =
     (e : Entry) → slice_get old n ≡ Some e
-    → map green_of new ≡ map green_of old ++ map into_node (children_in (green_of e))
+    → map green_of new ≡ map green_of old ++ map into_node (entry_children e)

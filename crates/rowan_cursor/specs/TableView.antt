@@ -7,7 +7,7 @@ use Rattle.rowan_cursor.specs.declared.table.Entry.{Entry}
 use Rattle.rowan_cursor.specs.declared.table.Table.{Table}
 use Rattle.rowan_cursor.specs.Cursor.{Cursor}
 use Rattle.rowan_cursor.specs.Moves.{cursor_at, is_node_at, Element, element_at, numbers, child_paths, following, preceding}
-use Rattle.rowan_cursor.specs.Table.{root_node, entry_path, green_of, children_in, Describes, IsRow, IsRowBack}
+use Rattle.rowan_cursor.specs.Table.{root_node, entry_path, entry_children, Describes, IsRow, IsRowBack}
 
 -- the root of the tree
 abbrev pub root_of : Table → NodeTerm
@@ -25,7 +25,7 @@ EndsWithin t end = end ≤ length t.entries.items
 abbrev pub path_at : Table → ℕ → Path
 path_at t n = entry_path t.entries.items n
 
--- whether that is a node
+-- whether a node stands at the path of this number
 abbrev pub stands_for_node : Table → ℕ → Bool
 stands_for_node t n = is_node_at (root_of t) (path_at t n)
 
@@ -87,16 +87,16 @@ IsEntryAt t n e = Describes t.entries.items n e
 abbrev pub IsChildrenEnd : Table → ℕ → ℕ → Type 0
 IsChildrenEnd t n end =
     (e : Entry) → slice_get t.entries.items n ≡ Some e
-    → end ≡ e.first_child + length (children_in (green_of e))
+    → end ≡ e.first_child + length (entry_children e)
 
 -- the paths of the children of the element with a number
 abbrev pub paths_below : Table → ℕ → List Path
 paths_below t n = child_paths (root_of t) (path_at t n)
 
--- the paths of its siblings behind it
+-- the paths of the siblings behind the element with a number
 abbrev pub paths_behind : Table → ℕ → List Path
 paths_behind t n = following (root_of t) (path_at t n)
 
--- the paths of its siblings before it, nearest first
+-- the paths of the siblings before the element with a number, nearest first
 abbrev pub paths_before : Table → ℕ → List Path
 paths_before t n = preceding (root_of t) (path_at t n)

@@ -39,7 +39,7 @@ nodes_in t start end direction =
 abbrev pub row_numbers : Row → List ℕ
 row_numbers row = numbers_between row.start row.end row.direction
 
--- of these, those of nodes
+-- the numbers of a row that are those of nodes
 abbrev pub node_numbers : Row → List ℕ
 node_numbers row = filter (stands_for_node row.table.value) (row_numbers row)
 

@@ -145,14 +145,14 @@ impl ElementCalls for SyntaxElement {
     fn first_token(&self) -> Result<Option<SyntaxToken>, Fault> {
         match self {
             NodeOrToken::Node(node) => node.first_token(),
-            NodeOrToken::Token(token) => token.first_token(),
+            NodeOrToken::Token(token) => Ok(token.first_token()?),
         }
     }
 
     fn last_token(&self) -> Result<Option<SyntaxToken>, Fault> {
         match self {
             NodeOrToken::Node(node) => node.last_token(),
-            NodeOrToken::Token(token) => token.last_token(),
+            NodeOrToken::Token(token) => Ok(token.last_token()?),
         }
     }
 

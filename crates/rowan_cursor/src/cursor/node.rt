@@ -25,17 +25,18 @@ use std::rc::Rc;
 
 /// A node in a tree: a root, and the way from it to the node.
 ///
-/// All cursors of one tree share it, and it lives as long as one of them. A move costs a step or a few, and asks for no
-/// memory. It is refused only where the tree cannot be shared once more, since its reference count is full; then the answer is
-/// `Err(Fault::Memory)`. Two nodes are equal if they have equal green nodes and their texts start at the same offset.
+/// All cursors of one tree share it, and it lives as long as one of them. A move goes by a table of the tree, which `new_root`
+/// fills, and asks for no memory. It is refused only where the tree cannot be shared once more, since its reference count is
+/// full; then the answer is `Err(Fault::Memory)`. Two nodes are equal if they have equal green nodes and their texts start at
+/// the same offset.
 ///
 /// ```rust
 /// // `green` is the node of `f(x)`: a token `f`, and a node with the tokens `(`, `x` and `)`
 /// let call = SyntaxNode::new_root(alloc, green)?;
 /// if let Some(arguments) = call.first_child()? {
-///     assert_eq!(arguments.index(), 1);
-///     assert_eq!(arguments.text_range(), TextRange::new(TextSize::from(1), TextSize::from(4)));
-///     assert_eq!(arguments.parent()?, Some(call));
+///     assert_eq!(rt; arguments.index(), 1);
+///     assert_eq!(rt; arguments.text_range(), TextRange::new(TextSize::from(1), TextSize::from(4)));
+///     assert_eq!(rt; arguments.parent()?, Some(call));
 ///     for element in arguments.children_with_tokens() {
 ///         let kind = element?.kind();
 ///     }

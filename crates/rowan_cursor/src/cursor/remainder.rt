@@ -1,9 +1,11 @@
 //! What is still to come of an iterator over cursors.
 
-// A walk over a shared table, or the refusal to share the table, or nothing.
+// The state of an iterator. What it does stands beside each kind of walk.
 #[derive(Drop)]
 pub(super) enum Remainder<W> {
+    // The items of a walk over a shared table.
     Walk(W),
+    // The refusal to share the table, once.
     Refusal,
     Nothing,
 }

@@ -157,19 +157,18 @@ impl SyntaxToken {
         Ok(SyntaxToken::found(&self.table, self.table.prev_token(self.number))?)
     }
 
-    // The token itself, by the way that a node takes to its first or last token.
-    pub(super) fn first_token(&self) -> Result<Option<SyntaxToken>, Fault>
-        ensures ok { IfOk result (λ found. found ≡ first_token self.now) }
-        ensures err { IfErr result (λ e. e ≡ Fault.Memory) }
+    // The token itself, found in the way of a node's first token.
+    pub(super) fn first_token(&self) -> Result<Option<SyntaxToken>, AllocError>
+        ensures { IfOk result (λ found. found ≡ first_token self.now) }
     {
-        Ok(SyntaxToken::found(&self.table, self.table.first_token(self.number))?)
+        SyntaxToken::found(&self.table, self.table.first_token(self.number))
     }
 
-    pub(super) fn last_token(&self) -> Result<Option<SyntaxToken>, Fault>
-        ensures ok { IfOk result (λ found. found ≡ last_token self.now) }
-        ensures err { IfErr result (λ e. e ≡ Fault.Memory) }
+    // The token itself, found in the way of a node's last token.
+    pub(super) fn last_token(&self) -> Result<Option<SyntaxToken>, AllocError>
+        ensures { IfOk result (λ found. found ≡ last_token self.now) }
     {
-        Ok(SyntaxToken::found(&self.table, self.table.last_token(self.number))?)
+        SyntaxToken::found(&self.table, self.table.last_token(self.number))
     }
 
     /// The nodes above the token: its parent, and so on up to the root.
