@@ -65,7 +65,7 @@ impl<L: Language> SyntaxNode<L> {
     pub fn debug_tree(&self, alloc: Global) -> Result<String, Fault>
         ensures { IfErr result (λ e. e ≡ Fault.Memory) }
     {
-        Ok(printed::tree::<L>(alloc, self.raw.green(), self.text_range().start())?)
+        Ok(printed::tree::<L>(alloc, &self.raw)?)
     }
 }
 
