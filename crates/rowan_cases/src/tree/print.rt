@@ -2,7 +2,8 @@
 
 use crate::operand;
 use itoa::Buffer;
-use rowan::{GreenElement, GreenNode, GreenToken, NodeOrToken, SyntaxKind};
+use rowan::cursor::{SyntaxElement, SyntaxNode};
+use rowan::{GreenElement, GreenNode, GreenToken, NodeOrToken, SyntaxKind, WalkEvent};
 use std::alloc::{AllocError, Global};
 
 /// Writes a node or a token.
@@ -18,38 +19,49 @@ pub fn push_element(
 }
 
 /// Writes a node and all that is in it.
-pub fn push_node(alloc: Global, text: &mut String, root: &GreenNode) -> Result<(), AllocError> {
-    // The nodes that are not closed yet, each with the place of its next child.
-    let mut open = Vec::new(alloc);
-    open.push((root, 0usize))?;
-    push_opening(text, root)?;
-    // No tree has so many nodes and tokens.
-    for _turn in 0..u64::MAX {
-        let Some((node, place)) = open.pop() else {
-            break;
+pub fn push_node(alloc: Global, text: &mut String, node: &GreenNode) -> Result<(), AllocError> {
+    let Ok(root) = SyntaxNode::new_root(alloc, node.clone()?) else {
+        return Err(AllocError);
+    };
+    let mut is_first_child = true;
+    for event in root.preorder_with_tokens() {
+        let Ok(event) = event else {
+            return Err(AllocError);
         };
-        let Some((_offset, child)) = node.child_ref(place) else {
-            text.push(']')?;
-            continue;
-        };
-        if place > 0 {
-            text.push(' ')?;
-        }
-        open.push((node, place.saturating_add(1)))?;
-        match child {
-            NodeOrToken::Node(inner) => {
-                push_opening(text, inner)?;
-                open.push((inner, 0))?;
+        match event {
+            WalkEvent::Enter(element) => {
+                if !is_first_child {
+                    text.push(' ')?;
+                }
+                is_first_child = push_beginning(alloc, text, &element)?;
             }
-            NodeOrToken::Token(token) => push_token(alloc, text, token)?,
+            WalkEvent::Leave(NodeOrToken::Node(_)) => {
+                text.push(']')?;
+                is_first_child = false;
+            }
+            WalkEvent::Leave(NodeOrToken::Token(_)) => {}
         }
     }
     Ok(())
 }
 
-fn push_opening(text: &mut String, node: &GreenNode) -> Result<(), AllocError> {
-    push_kind(text, node.kind())?;
-    text.push('[')
+/// Writes a token, or the kind of a node and its bracket, and says whether it is a node.
+fn push_beginning(
+    alloc: Global,
+    text: &mut String,
+    element: &SyntaxElement,
+) -> Result<bool, AllocError> {
+    match element {
+        NodeOrToken::Node(node) => {
+            push_kind(text, node.kind())?;
+            text.push('[')?;
+            Ok(true)
+        }
+        NodeOrToken::Token(token) => {
+            push_token(alloc, text, token.green())?;
+            Ok(false)
+        }
+    }
 }
 
 fn push_token(alloc: Global, text: &mut String, token: &GreenToken) -> Result<(), AllocError> {
