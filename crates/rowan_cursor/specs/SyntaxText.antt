@@ -1,7 +1,7 @@
 -- Texts of nodes, and slices of them.
---     A slice is a node, as a cursor, and a range of the root's text within that of the node. Its text is the root's text
---     cut at the range. It is read in chunks: for each token of the node whose range meets that of the slice, the ends of
---     both included, the bytes that both have.
+--     A slice is a node, as a cursor, and a range of the root's text within that of the node. Its
+--     text is the root's text cut at the range. It is read in chunks: for each token of the node
+--     whose range meets that of the slice, the ends of both included, the bytes that both have.
 --     So a token that is empty or only touches the slice gives an empty chunk.
 -- Offsets into a slice are bytes from its start.
 use Rattle.std.specs.Prelude.{◌≡◌, ℕ, ◌+◌, ◌-◌, ◌<◌, ◌≤◌, Bool, ◌&&◌, ◌==◌, nat_le, if◌then◌else◌, List, [], ◌∷◌, ◌++◌, map, length, drop, slice_range, encode_utf8, unwrap_or, Option, Some, None}

@@ -2,10 +2,10 @@
 ghost use Rattle.std.specs.Prelude.{◌≡◌, ◌≤◌, ◌∷◌, ◌↔◌, [], true, false, IsTrue, IfOk, IfSome, MatchOption, Some, length, string_bytes};
 ghost use Rattle.std.specs.Fmt.{DisplaysOnOk};
 ghost use Rattle.std.specs.Str.{IsCharBoundary};
-ghost use Rattle.rowan_cursor.specs.Chunks.{leaves_left, IsTokenInside, MayCut, IsWalk, chunks_left, slice_of, IsByteIn};
+ghost use Rattle.rowan_cursor.specs.Chunks.{leaves_left, IsTokenInside, MayCut, IsWalk, chunks_left, slice_of, IsSliceOf, IsByteIn};
 ghost use Rattle.rowan_cursor.specs.Folds.{FoldsUntilErr, VisitsUntilErr, VisitsAll};
 ghost use Rattle.rowan_cursor.specs.SyntaxText.{meets, common_part, chunks, slice_text, part_of, CanCut, IsTextSlice, ReadsChar, same_text};
-ghost use Rattle.rowan_cursor.specs.TableView.{path_at, IsNodeIn};
+ghost use Rattle.rowan_cursor.specs.TableView.{path_at};
 
 use super::Table;
 use rowan_green::text::{TextRange, TextSize};
@@ -45,8 +45,7 @@ fn part_in(text: &str, at: TextSize, range: TextRange) -> Option<&str>
 impl Table {
     /// A walk over the chunks of a slice of a node's text.
     pub(crate) fn chunk_walk(&self, node: usize, range: TextRange) -> ChunkWalk
-        requires node { IsNodeIn self.now node }
-        requires slice { IsTextSlice (slice_of self.now node range) }
+        requires { IsSliceOf self.now node range }
         ensures walk { IsWalk self.now result }
         ensures chunks { chunks_left self.now result ≡ chunks (slice_of self.now node range) }
     {
@@ -103,8 +102,7 @@ impl Table {
         init: T,
         mut f: F,
     ) -> Result<T, E>
-        requires node { IsNodeIn self.now node }
-        requires slice { IsTextSlice (slice_of self.now node range) }
+        requires slice { IsSliceOf self.now node range }
         requires callable { F.IsAlwaysCallable f }
         ensures { (last : F) × FoldsUntilErr F.FnMut f init
             (chunks (slice_of self.now node range)) result last }
@@ -127,8 +125,7 @@ impl Table {
         range: TextRange,
         mut f: F,
     ) -> Result<(), E>
-        requires node { IsNodeIn self.now node }
-        requires slice { IsTextSlice (slice_of self.now node range) }
+        requires slice { IsSliceOf self.now node range }
         requires callable { F.IsAlwaysCallable f }
         ensures { (last : F) × VisitsUntilErr F.FnMut f
             (chunks (slice_of self.now node range)) result last }
@@ -145,8 +142,7 @@ impl Table {
 
     /// Calls a closure at each chunk of a slice.
     pub(crate) fn visit_chunks<F: FnMut(&str)>(&self, node: usize, range: TextRange, mut f: F)
-        requires node { IsNodeIn self.now node }
-        requires slice { IsTextSlice (slice_of self.now node range) }
+        requires slice { IsSliceOf self.now node range }
         requires callable { F.IsAlwaysCallable f }
         ensures { (last : F) × VisitsAll F.FnMut f (chunks (slice_of self.now node range)) last }
     {
@@ -158,8 +154,7 @@ impl Table {
 
     /// The text of a slice.
     pub(crate) fn copied_chunks(&self, node: usize, range: TextRange) -> Result<String, AllocError>
-        requires node { IsNodeIn self.now node }
-        requires slice { IsTextSlice (slice_of self.now node range) }
+        requires { IsSliceOf self.now node range }
         ensures { IfOk result (λ text. string_bytes text
             ≡ slice_text (slice_of self.now node range)) }
     {
@@ -178,8 +173,7 @@ impl Table {
         range: TextRange,
         f: &mut fmt::Formatter<W>,
     ) -> fmt::Result
-        requires node { IsNodeIn self.now node }
-        requires slice { IsTextSlice (slice_of self.now node range) }
+        requires { IsSliceOf self.now node range }
         ensures { DisplaysOnOk W.write_str_gives f.old result
             (Some (slice_text (slice_of self.now node range))) f.new }
     {
@@ -197,8 +191,7 @@ impl Table {
         range: TextRange,
         f: &mut fmt::Formatter<W>,
     ) -> fmt::Result
-        requires node { IsNodeIn self.now node }
-        requires slice { IsTextSlice (slice_of self.now node range) }
+        requires { IsSliceOf self.now node range }
     {
         let mut walk = self.chunk_walk(node, range);
         f.write_char('"')?;
@@ -222,12 +215,11 @@ impl Table {
         start: TextSize,
         end: TextSize,
     ) -> TextRange
-        requires node { IsNodeIn self.now node }
-        requires slice { IsTextSlice (slice_of self.now node range) }
+        requires slice { IsSliceOf self.now node range }
         requires part { CanCut (slice_of self.now node range) start end }
         ensures part { slice_of self.now node result
             ≡ part_of (slice_of self.now node range) start end }
-        ensures slice { IsTextSlice (slice_of self.now node result) }
+        ensures slice { IsSliceOf self.now node result }
     {
         let first = TextRange::at(range.start(), start).end();
         let last = TextRange::at(range.start(), end).end();
@@ -236,8 +228,7 @@ impl Table {
 
     /// Whether this is the text of a slice.
     pub(crate) fn has_text(&self, node: usize, range: TextRange, text: &str) -> bool
-        requires node { IsNodeIn self.now node }
-        requires slice { IsTextSlice (slice_of self.now node range) }
+        requires { IsSliceOf self.now node range }
         ensures { IsTrue result ↔ (slice_text (slice_of self.now node range) ≡ text.now) }
     {
         let mut walk = self.chunk_walk(node, range);
@@ -260,10 +251,8 @@ impl Table {
         other_node: usize,
         other_range: TextRange,
     ) -> bool
-        requires node { IsNodeIn self.now node }
-        requires slice { IsTextSlice (slice_of self.now node range) }
-        requires other_node { IsNodeIn other.now other_node }
-        requires other_slice { IsTextSlice (slice_of other.now other_node other_range) }
+        requires slice { IsSliceOf self.now node range }
+        requires other_slice { IsSliceOf other.now other_node other_range }
         ensures { result
             ≡ same_text (slice_of self.now node range) (slice_of other.now other_node other_range) }
     {
@@ -298,8 +287,7 @@ impl Table {
 
     // The chunk with the byte at an offset of a slice, and the place of the byte in it.
     fn chunk_at(&self, node: usize, range: TextRange, offset: TextSize) -> Option<(&str, usize)>
-        requires node { IsNodeIn self.now node }
-        requires slice { IsTextSlice (slice_of self.now node range) }
+        requires { IsSliceOf self.now node range }
         ensures { let text = slice_text (slice_of self.now node range) in
             MatchOption result (length text ≤ offset)
             (λ found. IsByteIn text offset found.0.now found.1) }
@@ -317,8 +305,7 @@ impl Table {
 
     /// Whether an offset of a slice is within its length and not inside a character.
     pub(crate) fn is_border(&self, node: usize, range: TextRange, offset: TextSize) -> bool
-        requires node { IsNodeIn self.now node }
-        requires slice { IsTextSlice (slice_of self.now node range) }
+        requires { IsSliceOf self.now node range }
         ensures { let text = slice_text (slice_of self.now node range) in
             IsTrue result ↔ IsCharBoundary text offset }
     {
@@ -330,8 +317,7 @@ impl Table {
 
     /// The character that begins at an offset of a slice.
     pub(crate) fn char_at(&self, node: usize, range: TextRange, offset: TextSize) -> Option<char>
-        requires node { IsNodeIn self.now node }
-        requires slice { IsTextSlice (slice_of self.now node range) }
+        requires { IsSliceOf self.now node range }
         ensures { let text = slice_text (slice_of self.now node range) in
             ReadsChar text offset result }
     {
