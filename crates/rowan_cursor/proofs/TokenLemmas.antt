@@ -172,7 +172,7 @@ pub back_no_child : (root : NodeTerm) (p s : Path) → ◌≡◌ {A = Option Pat
 back_no_child root p s h b = record { same = λ g. b.same g ∙ sym (no_child-until_child root p h g) }
 
 -- Nothing behind an element is below it, nor before it.
-after-outside : (g : Lists) (t : Option Term) (p : Path) → filter (begins p) (after g t p) ≡ []
+pub after-outside : (g : Lists) (t : Option Term) (p : Path) → filter (begins p) (after g t p) ≡ []
 after-outside g None p = refl
 after-outside g (Some t) [] = refl
 after-outside g (Some t) (i ∷ p) =
@@ -195,7 +195,7 @@ first_inside-after g t p = find-first (begins p) (after g t p) ∙ ap first_at (
 pub last_inside-before : (g : Lists) (t : Option Term) (p : Path) → last_inside p (before g t p) ≡ None
 last_inside-before g t p = find-last (begins p) (before g t p) ∙ ap last_at (before-outside g t p)
 
-all_below : (p : Path) (qs : List Path) → filter (begins p) (map (λ q. p ++ q) qs) ≡ map (λ q. p ++ q) qs
+pub all_below : (p : Path) (qs : List Path) → filter (begins p) (map (λ q. p ++ q) qs) ≡ map (λ q. p ++ q) qs
 all_below p [] = refl
 all_below p (q ∷ qs) = cond-true (begins p (p ++ q)) ((p ++ q) ∷ filter (begins p) (map (λ q. p ++ q) qs)) (filter (begins p) (map (λ q. p ++ q) qs)) (begins-own p q) ∙ ap (λ us. (p ++ q) ∷ us) (all_below p qs)
 
@@ -232,7 +232,7 @@ entered_elements : (t : Option Term) → is_node t ≡ true → of_some element_
 entered_elements None h = absurd (true≢false (sym h))
 entered_elements (Some t) h = element_list-term t
 
-found_token : (t : Option Term) (c : Term) → t ≡ Some c → is_node t ≡ false → of_some leaf_list t ≡ [] ∷ []
+pub found_token : (t : Option Term) (c : Term) → t ≡ Some c → is_node t ≡ false → of_some leaf_list t ≡ [] ∷ []
 found_token None c e h = absurd cc
 found_token (Some (Node n)) c e h = absurd (true≢false h)
 found_token (Some (Token t)) c e h = refl

@@ -1,15 +1,17 @@
 //! Laws of cursors, each as the contract of a function that does nothing.
-ghost use Rattle.std.specs.Prelude.{◌≡◌, ℕ, ◌<◌, false, List, [], ◌∷◌, ◌++◌, ◌↔◌, IsTrue, Some, None};
+ghost use Rattle.std.specs.Prelude.{◌≡◌, ℕ, ◌<◌, false, List, [], ◌∷◌, ◌++◌, ◌↔◌, IsTrue, Some, None, length};
+ghost use Rattle.std.specs.List.{concat};
 ghost use Rattle.rowan_green.specs.declared.utility_types.NodeOrToken.TheVariants.{Node};
 ghost use Rattle.rowan_green.specs.Path.{Path, offset};
 ghost use Rattle.rowan_green.specs.Span.{Span};
 ghost use Rattle.rowan_green.specs.Term.{Term};
-ghost use Rattle.rowan_cursor.specs.Cursor.{Cursor, term_at, text_range};
+ghost use Rattle.rowan_cursor.specs.Cursor.{Cursor, term_at, text_at, text_range};
 ghost use Rattle.rowan_cursor.specs.Equal.{same_place, start_of};
 ghost use Rattle.rowan_cursor.specs.Preorder.{preorder_with_tokens, preorder, descendants_with_tokens, descendants, entered_by};
 ghost use Rattle.rowan_cursor.specs.PreorderRuns.{WalkCall, given, still_to_come, LeavesAll};
 ghost use Rattle.rowan_cursor.specs.Moves.{Element, place_of, cursor_at};
 ghost use Rattle.rowan_cursor.specs.Search.{LiesIn, IsCovering, FindsChild, IsLeafOver, tokens_at};
+ghost use Rattle.rowan_cursor.specs.SyntaxText.{TextSlice, IsTextSlice, chunks, slice_len, slice_text, token_texts};
 
 /// Two cursors are equal exactly if the same stands there, and its text starts at the same offset.
 pub fn cursors_are_equal_by_value_and_start()
@@ -56,4 +58,21 @@ pub fn one_token_has_the_bytes_on_both_sides()
         → ((text_range t).start < x) × (x < (text_range t).end) }
     ensures one { (c : Cursor) (q : Path) (x : ℕ) → IsLeafOver c.root x c.path q
         → offset (Node c.root) q < x → tokens_at x c ≡ cursor_at c.root q ∷ [] }
+{}
+
+/// The text of an element is the texts of its tokens, one after the other.
+pub fn text_is_that_of_the_tokens()
+    ensures { (c : Cursor) → concat (token_texts (term_at c)) ≡ text_at c }
+{}
+
+/// The chunks of a slice, one after the other, are its text.
+pub fn chunks_joined_are_the_text()
+    ensures { (s : TextSlice) (t : Term) → term_at s.node ≡ Some t → IsTextSlice s
+        → concat (chunks s) ≡ slice_text s }
+{}
+
+/// A slice has as many bytes as its range.
+pub fn a_slice_is_as_long_as_its_range()
+    ensures { (s : TextSlice) (t : Term) → term_at s.node ≡ Some t → IsTextSlice s
+        → length (slice_text s) ≡ slice_len s }
 {}

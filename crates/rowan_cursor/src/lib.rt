@@ -4,4 +4,5 @@
 
 pub mod cursor;
 pub mod laws;
+pub mod syntax_text;
 mod table;

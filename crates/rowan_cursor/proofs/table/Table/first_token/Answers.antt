@@ -15,6 +15,6 @@ pub returns : goal.returns
 returns c =
     let es = c.args.self.now.entries.items in
     record {
-      path = c.token_from.ensures.path ∙ first_leaf-pass (root_node es) (entry_path es c.args.number);
-      token = c.token_from.ensures.token;
+      path = c.token_from.ensures.found.path ∙ first_leaf-pass (root_node es) (entry_path es c.args.number);
+      token = c.token_from.ensures.found.token;
     }

@@ -8,8 +8,8 @@ pub returns-in-Some : goal.returns-in-Some
 returns-in-Some c =
     let es = c.args.self.now.entries.items in
     record {
-      path = c.token_from.ensures.path ∙ ap (first_inside []) (c.in-Some.ensures.next.same leaf_list) ∙ next_leaf-pass (root_node es) (entry_path es c.args.number);
-      token = c.token_from.ensures.token;
+      path = c.token_from.ensures.found.path ∙ ap (first_inside []) (c.in-Some.ensures.next.same leaf_list) ∙ next_leaf-pass (root_node es) (entry_path es c.args.number);
+      token = c.token_from.ensures.found.token;
     }
 
 pub returns-in-None : goal.returns-in-None

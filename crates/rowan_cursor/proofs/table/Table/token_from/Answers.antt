@@ -1,7 +1,11 @@
-use Rattle.std.proofs.Common.{◌≡◌, true, false, length, sym, ◌∙◌, ap, arith}
+use Rattle.std.proofs.Common.{◌≡◌, true, false, length, filter, sym, ◌∙◌, ap, arith}
+use Rattle.std.specs.Prelude.{Some}
+use Rattle.rowan_green.specs.declared.utility_types.NodeOrToken.TheVariants.{Node}
+use Rattle.rowan_green.specs.Path.{begins}
 use Rattle.rowan_cursor.specs.Moves.{is_node_at}
-use Rattle.rowan_cursor.specs.Pass.{leaf_list, element_list, first_inside}
+use Rattle.rowan_cursor.specs.Pass.{leaf_list, element_list, first_inside, since_child}
 use Rattle.rowan_cursor.specs.Table.{root_node, entry_path}
+use Rattle.rowan_cursor.proofs.ChunkLemmas.{nothing_inside}
 use Rattle.rowan_cursor.proofs.TokenLemmas.{since-node, since-fewer, token-first, stands_at}
 use Rattle.rowan_cursor.proofs.table.Table.token_from.Goals as goal
 
@@ -20,10 +24,11 @@ loop-number-preserved c =
       c.in-Some.ensures.found.within,
       c.in-Some.ensures.found.inside,
       ap (first_inside (entry_path es c.args.top)) (c.in-Some.ensures.next.same leaf_list ∙ sym (since-node (root_node es) here node)) ∙ c.loop-number.invariant.2,
+      ap (filter (begins (entry_path es c.args.top))) (c.in-Some.ensures.next.same leaf_list ∙ sym (since-node (root_node es) here node)) ∙ c.loop-number.invariant.3,
     )
 
-pub returns-in-None : goal.returns-in-None
-returns-in-None c =
+pub returns-in-None-clause-found : goal.returns-in-None-clause-found
+returns-in-None-clause-found c =
     let es = c.args.self.now.entries.items in
     let here = entry_path es c.loop-number.number in
     let node : is_node_at (root_node es) here ≡ true = sym c.is_node.ensures ∙ c.loop-number-test.true in
@@ -32,8 +37,16 @@ returns-in-None c =
       token = tt;
     }
 
-pub returns : goal.returns
-returns c =
+pub returns-in-None-clause-left : goal.returns-in-None-clause-left
+returns-in-None-clause-left c =
+    let es = c.args.self.now.entries.items in
+    let here = entry_path es c.loop-number.number in
+    let node : is_node_at (root_node es) here ≡ true = sym c.is_node.ensures ∙ c.loop-number-test.true in
+    let top = entry_path es c.args.top in
+    sym (nothing_inside top (since_child leaf_list (Some (Node (root_node es))) here 0) c.in-None.ensures.end) ∙ ap (filter (begins top)) (sym (since-node (root_node es) here node)) ∙ c.loop-number.invariant.3
+
+pub returns-clause-found : goal.returns-clause-found
+returns-clause-found c =
     let es = c.args.self.now.entries.items in
     let here = entry_path es c.loop-number.number in
     let there = stands_at es c.args.self.now.complete c.loop-number.number c.loop-number.invariant.0 in
@@ -45,3 +58,17 @@ returns c =
         is = token;
       };
     }
+
+pub returns-clause-inside : goal.returns-clause-inside
+returns-clause-inside c =
+    record {
+      place = record {
+        top_within = c.requires.top_within;
+        within = c.loop-number.invariant.0;
+        inside = c.loop-number.invariant.1;
+      };
+      token = sym c.is_node.ensures ∙ c.loop-number-test.false;
+    }
+
+pub returns-clause-left : goal.returns-clause-left
+returns-clause-left c = c.loop-number.invariant.3

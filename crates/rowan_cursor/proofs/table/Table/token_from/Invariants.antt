@@ -1,4 +1,4 @@
-use Rattle.std.proofs.Common.{◌≡◌, ◌<◌, true, Some, length}
+use Rattle.std.proofs.Common.{◌≡◌, ◌<◌, true, Some, length, filter}
 use Rattle.rowan_green.specs.declared.utility_types.NodeOrToken.TheVariants.{Node}
 use Rattle.rowan_green.specs.Path.{begins}
 use Rattle.rowan_cursor.specs.Pass.{leaf_list, element_list, since, first_inside}
@@ -13,6 +13,8 @@ invariant-loop-number l =
     × (begins (entry_path es l.top) (entry_path es l.number) ≡ true)
     × (first_inside (entry_path es l.top) (since leaf_list (Some (Node (root_node es))) (entry_path es l.number))
     ≡ first_inside (entry_path es l.top) (since leaf_list (Some (Node (root_node es))) (entry_path es l.start)))
+    × (filter (begins (entry_path es l.top)) (since leaf_list (Some (Node (root_node es))) (entry_path es l.number))
+    ≡ filter (begins (entry_path es l.top)) (since leaf_list (Some (Node (root_node es))) (entry_path es l.start)))
 
 -- the elements that are left
 abbrev pub decreases-loop-number : goal.decreases-loop-number

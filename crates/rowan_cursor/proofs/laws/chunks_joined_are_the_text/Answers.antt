@@ -1,0 +1,5 @@
+use Rattle.rowan_cursor.proofs.SliceLemmas.{chunks-joined}
+use Rattle.rowan_cursor.proofs.laws.chunks_joined_are_the_text.Goals as goal
+
+pub returns : goal.returns
+returns c = chunks-joined

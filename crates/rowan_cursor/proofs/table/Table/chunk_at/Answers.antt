@@ -1,0 +1,45 @@
+use Rattle.std.proofs.Common.{◌<◌, ◌≤◌, ◌++◌, length, sym, ◌∙◌, ap, arith, rules, length-append, append_assoc}
+use Rattle.std.proofs.lemmas.List.{append-nil}
+use Rattle.std.specs.List.{concat}
+use Rattle.rowan_cursor.specs.Chunks.{slice_of, chunks_left}
+use Rattle.rowan_cursor.proofs.SliceLemmas.{chunks-joined}
+use Rattle.rowan_cursor.proofs.TokenLemmas.{stands_at}
+use Rattle.rowan_cursor.proofs.table.Table.chunk_at.Goals as goal
+
+pub returns-then-place-chunk : goal.returns-then-place-chunk
+returns-then-place-chunk c =
+    let table = c.args.self.now in
+    let there = stands_at table.entries.items table.complete c.args.node c.requires.node.within in
+    let before = c.loop-chunk.invariant.1 in
+    let here : c.loop-chunk.place < length c.in-Some.chunk.now = search rules in
+    record {
+      before = before.0;
+      after = concat (chunks_left table c.next_chunk.new.walk);
+      parts = sym (chunks-joined (slice_of table c.args.node c.args.range) there.0 there.1 c.requires.slice) ∙ sym before.1 ∙ ap (λ cs. before.0 ++ concat cs) c.in-Some.ensures.next;
+      at = before.2;
+      within = here;
+    }
+
+pub loop-chunk-preserved : goal.loop-chunk-preserved
+loop-chunk-preserved c =
+    let table = c.args.self.now in
+    let before = c.loop-chunk.invariant.1 in
+    let chunk = c.in-Some.chunk.now in
+    let past : length chunk ≤ c.loop-chunk.place = search rules in (
+      c.in-Some.ensures.walk,
+      (
+        before.0 ++ chunk,
+        append_assoc before.0 chunk (concat (chunks_left table c.next_chunk.new.walk)) ∙ sym (ap (λ cs. before.0 ++ concat cs) c.in-Some.ensures.next) ∙ before.1,
+        omega (arith, before.2, length-append before.0 chunk, past),
+      ),
+    )
+
+pub returns : goal.returns
+returns c =
+    let table = c.args.self.now in
+    let there = stands_at table.entries.items table.complete c.args.node c.requires.node.within in
+    let before = c.loop-chunk.invariant.1 in
+    let text =
+    sym (chunks-joined (slice_of table c.args.node c.args.range) there.0 there.1 c.requires.slice) ∙ sym before.1
+    ∙ ap (λ cs. before.0 ++ concat cs) c.in_default.ensures.next ∙ append-nil before.0 in
+    omega (arith, ap length text, before.2)

@@ -1,0 +1,15 @@
+use Rattle.std.proofs.Common.{◌≡◌, ℕ, ◌+◌, List, ◌++◌, length}
+use Rattle.std.specs.List.{concat}
+use Rattle.rowan_cursor.specs.Chunks.{IsWalk, chunks_left, slice_of}
+use Rattle.rowan_cursor.specs.SyntaxText.{chunks}
+use Rattle.rowan_cursor.proofs.table.Table.chunk_at.Given as goal
+
+-- the byte is as far from what is left as its place says
+abbrev pub invariant-loop-chunk : goal.invariant-loop-chunk
+invariant-loop-chunk l =
+    let table = l.self in
+    IsWalk table l.walk
+    × ((before : List ℕ) × (before ++ concat (chunks_left table l.walk) ≡ concat (chunks (slice_of table l.node l.fn.range))) × (length before + l.place ≡ l.fn.offset))
+
+abbrev pub decreases-loop-chunk : goal.decreases-loop-chunk
+decreases-loop-chunk l = length (chunks_left l.self l.walk)

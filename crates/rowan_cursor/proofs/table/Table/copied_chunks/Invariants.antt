@@ -1,0 +1,14 @@
+use Rattle.std.proofs.Common.{◌≡◌, ◌++◌, length, string_bytes}
+use Rattle.std.specs.List.{concat}
+use Rattle.rowan_cursor.specs.Chunks.{IsWalk, chunks_left, slice_of}
+use Rattle.rowan_cursor.specs.SyntaxText.{chunks}
+use Rattle.rowan_cursor.proofs.table.Table.copied_chunks.Given as goal
+
+-- what was copied, and the chunks that are left
+abbrev pub invariant-loop-chunk : goal.invariant-loop-chunk
+invariant-loop-chunk l =
+    let table = l.self in
+    IsWalk table l.walk × (string_bytes l.text ++ concat (chunks_left table l.walk) ≡ concat (chunks (slice_of table l.node l.fn.range)))
+
+abbrev pub decreases-loop-chunk : goal.decreases-loop-chunk
+decreases-loop-chunk l = length (chunks_left l.self l.walk)

@@ -1,0 +1,17 @@
+use Rattle.std.proofs.Common.{◌≡◌, ℕ, List, ◌++◌, length}
+use Rattle.std.specs.List.{concat}
+use denote.Text.{Utf8}
+use denote.Shadow.{shadow}
+use Rattle.rowan_cursor.specs.Chunks.{IsWalk, chunks_left, slice_of}
+use Rattle.rowan_cursor.specs.SyntaxText.{chunks}
+use Rattle.rowan_cursor.proofs.table.Table.has_text.Given as goal
+
+-- both texts begin alike
+abbrev pub invariant-loop-chunk : goal.invariant-loop-chunk
+invariant-loop-chunk l =
+    let table = l.self in
+    shadow (Utf8 l.rest) × IsWalk table l.walk
+    × ((before : List ℕ) × (before ++ concat (chunks_left table l.walk) ≡ concat (chunks (slice_of table l.node l.fn.range))) × (l.text ≡ before ++ l.rest))
+
+abbrev pub decreases-loop-chunk : goal.decreases-loop-chunk
+decreases-loop-chunk l = length (chunks_left l.self l.walk)

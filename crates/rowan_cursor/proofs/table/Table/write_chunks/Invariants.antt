@@ -1,0 +1,17 @@
+use Rattle.std.proofs.Common.{◌≡◌, ℕ, List, ◌++◌, length}
+use Rattle.std.specs.Fmt.{HasWritten, IsPlainFormatter}
+use Rattle.std.specs.List.{concat}
+use Rattle.rowan_cursor.specs.Chunks.{IsWalk, chunks_left, slice_of}
+use Rattle.rowan_cursor.specs.SyntaxText.{chunks}
+use Rattle.rowan_cursor.proofs.table.Table.write_chunks.Given as goal
+
+-- what was written, and the chunks that are left
+abbrev pub invariant-loop-chunk : goal.invariant-loop-chunk
+invariant-loop-chunk g l =
+    let table = l.self in
+    IsWalk table l.walk
+    × ((written : List ℕ) × (written ++ concat (chunks_left table l.walk) ≡ concat (chunks (slice_of table l.node l.fn.range)))
+    × (IsPlainFormatter l.fn.f → HasWritten g.W.Write.write_str_gives l.fn.f written l.f))
+
+abbrev pub decreases-loop-chunk : goal.decreases-loop-chunk
+decreases-loop-chunk g l = length (chunks_left l.self l.walk)

@@ -1,0 +1,68 @@
+-- Walks over the texts of the tokens inside an element of a table.
+use Rattle.std.specs.Prelude.{◌≡◌, false, ℕ, ◌+◌, ◌-◌, ◌<◌, ◌≤◌, List, [], ◌++◌, map, filter, length, Option, Some, None, IfSome}
+use Rattle.std.specs.List.{concat}
+use Rattle.std.specs.Str.{IsCharBoundary}
+use Rattle.rowan_green.specs.declared.utility_types.NodeOrToken.TheVariants.{Node}
+use Rattle.rowan_green.specs.Fits.{byte_limit}
+use Rattle.rowan_green.specs.Span.{Span}
+use Rattle.rowan_green.specs.Term.{NodeTerm}
+use Rattle.rowan_green.specs.Path.{Path, subterm, text_of, begins}
+use Rattle.rowan_cursor.specs.declared.table.Table.{Table}
+use Rattle.rowan_cursor.specs.declared.table.chunks.ChunkWalk.{ChunkWalk}
+use Rattle.rowan_cursor.specs.Pass.{since, leaf_list}
+use Rattle.rowan_cursor.specs.SyntaxText.{TextSlice, cut_chunks, IsTextSlice}
+use Rattle.rowan_cursor.specs.TablePass.{StandsInside}
+use Rattle.rowan_cursor.specs.TableView.{root_of, path_at, cursor_of, stands_for_node, IsWithin, IsNodeIn}
+
+-- the texts at some paths
+abbrev pub texts_at : NodeTerm → List Path → List (List ℕ)
+texts_at root paths = map (λ q. text_of (subterm (Node root) q)) paths
+
+-- the leaves inside the element with the number top, from another element on
+abbrev pub leaves_left : Table → ℕ → Option ℕ → List Path
+leaves_left table top None = []
+leaves_left table top (Some n) =
+    filter (begins (path_at table top))
+    (since leaf_list (Some (Node (root_of table))) (path_at table n))
+
+-- the texts of these leaves
+abbrev pub texts_left : Table → ℕ → Option ℕ → List (List ℕ)
+texts_left table top next = texts_at (root_of table) (leaves_left table top next)
+
+-- a token has this number, and is inside the element with the number top
+pub record IsTokenInside (table : Table) (top n : ℕ) : Type 0 where
+  pub place : StandsInside table top n
+  pub token : stands_for_node table n ≡ false
+
+-- in a text that starts at an offset, another offset is no place inside a character
+pub record MayCut (text : List ℕ) (at offset : ℕ) : Type 0 where
+  pub border : at < offset → offset ≤ at + length text → IsCharBoundary text (offset - at)
+
+-- a walk has come to a token inside its node, or to the end, and knows where what is left starts
+pub record IsWalk (table : Table) (walk : ChunkWalk) : Type 0 where
+  pub within : IsWithin table walk.node
+  pub token : IfSome walk.next (IsTokenInside table walk.node)
+  pub limit : walk.at + length (concat (texts_left table walk.node walk.next)) ≤ byte_limit
+  pub start_cut : MayCut (concat (texts_left table walk.node walk.next)) walk.at walk.range.start
+  pub end_cut : MayCut (concat (texts_left table walk.node walk.next)) walk.at walk.range.end
+
+-- the chunks that are still to come
+abbrev pub chunks_left : Table → ChunkWalk → List (List ℕ)
+chunks_left table walk = cut_chunks walk.range walk.at (texts_left table walk.node walk.next)
+
+-- a range of the text of the node with this number, as a slice
+abbrev pub slice_of : Table → ℕ → Span → TextSlice
+slice_of table n range = record { node = cursor_of table n; range = range }
+
+-- a slice of the text of the node with this number
+pub record IsSliceOf (table : Table) (n : ℕ) (range : Span) : Type 0 where
+  pub node : IsNodeIn table n
+  pub slice : IsTextSlice (slice_of table n range)
+
+-- the byte at an offset of a text stands at a place of one of its chunks
+pub record IsByteIn (text : List ℕ) (offset : ℕ) (chunk : List ℕ) (place : ℕ) : Type 0 where
+  pub before : List ℕ
+  pub after : List ℕ
+  pub parts : text ≡ before ++ (chunk ++ after)
+  pub at : length before + place ≡ offset
+  pub within : place < length chunk

@@ -1,0 +1,198 @@
+//! Texts of nodes, and slices of them. A text is read in chunks, which the tree lends: one for each token that it meets.
+mod range;
+
+ghost use Rattle.std.specs.Prelude.{◌≡◌, ◌↔◌, ◌≤◌, IfOk, IfErr, IsTrue, length, string_bytes};
+ghost use Rattle.std.specs.Str.{IsCharBoundary};
+ghost use Rattle.rowan_cursor.specs.TableView.{IsNodeIn, cursor_of};
+ghost use Rattle.rowan_cursor.specs.Folds.{FoldsUntilErr, VisitsUntilErr, VisitsAll};
+ghost use Rattle.rowan_cursor.specs.SyntaxText.{slice_text, slice_len, chunks, whole_text, part_of, first_of, last_of, CanCut, ReadsChar};
+
+use crate::table::Table;
+pub use range::SyntaxTextRange;
+use rowan_green::fault::Fault;
+use rowan_green::text::{TextRange, TextSize};
+use std::alloc::AllocError;
+use std::fmt;
+use std::marker::Model;
+use std::rc::Rc;
+
+/// The text of a node, or a slice of it. A clone shares the tree. Offsets into it are bytes from its start.
+#[derive(Drop)]
+pub struct SyntaxText {
+    table: Rc<Table>,
+    node: usize,
+    range: TextRange,
+}
+
+impl Model for SyntaxText {
+    ghost use Rattle.rowan_cursor.specs.SyntaxText.{TextSlice};
+    ghost use Rattle.rowan_cursor.specs.TextCode.{coded_slice};
+
+    ghost Value = { TextSlice };
+
+    ghost coded = { coded_slice };
+
+    ghost use Rattle.rowan_cursor.specs.Chunks.{slice_of, IsSliceOf};
+
+    ghost view = { λ t. slice_of t.table.value t.node t.range };
+
+    ghost invariant = { λ t. IsSliceOf t.table.value t.node t.range };
+}
+
+impl SyntaxText {
+    // The text of the node with a number.
+    pub(crate) fn new(table: &Rc<Table>, node: usize) -> Result<SyntaxText, Fault>
+        requires { IsNodeIn table.now.value node }
+        ensures ok { IfOk result (λ t. t
+            ≡ whole_text (cursor_of table.now.value node)) }
+        ensures err { IfErr result (λ e. e ≡ Fault.Memory) }
+    {
+        let range = table.text_range(node);
+        let table = table.clone()?;
+        Ok(SyntaxText { table, node, range })
+    }
+
+    /// The number of bytes.
+    pub fn len(&self) -> TextSize
+        ensures { result ≡ slice_len self.now }
+    {
+        self.range.len()
+    }
+
+    /// Whether there are no bytes.
+    pub fn is_empty(&self) -> bool
+        ensures { IsTrue result ↔ (self.now.range.start ≡ self.now.range.end) }
+    {
+        self.range.is_empty()
+    }
+
+    /// Whether an offset is at most the length and not inside a character. Takes no memory.
+    pub fn is_border(&self, offset: TextSize) -> bool
+        ensures { IsTrue result ↔ IsCharBoundary (slice_text self.now) offset }
+    {
+        self.table.is_border(self.node, self.range, offset)
+    }
+
+    /// The character that begins at an offset: none past the end or inside a character. Takes no memory.
+    pub fn char_at(&self, offset: TextSize) -> Option<char>
+        ensures { ReadsChar (slice_text self.now) offset result }
+    {
+        self.table.char_at(self.node, self.range, offset)
+    }
+
+    /// Whether this is the text. Takes no memory.
+    pub fn eq_str(&self, text: &str) -> bool
+        ensures { IsTrue result ↔ (slice_text self.now ≡ text.now) }
+    {
+        self.table.has_text(self.node, self.range, text)
+    }
+
+    /// The part in a range, whose ends are counted in bytes from the start of the text. They are in order, at most the length,
+    /// and not inside a character, of which `is_border` tells. Refused only for want of memory.
+    pub fn slice<R: SyntaxTextRange>(&self, range: R) -> Result<SyntaxText, Fault>
+    where
+        R: Drop,
+        requires { CanCut self.now (first_of (R.first range)) (last_of self.now (R.last range)) }
+        ensures ok { IfOk result (λ text. text
+            ≡ part_of self.now (first_of (R.first range)) (last_of self.now (R.last range))) }
+        ensures err { IfErr result (λ e. e ≡ Fault.Memory) }
+    {
+        let start = range.start().unwrap_or(TextSize::from(0));
+        let end = range.end().unwrap_or(self.len());
+        let part = self.table.part_range(self.node, self.range, start, end);
+        let table = self.table.clone()?;
+        Ok(SyntaxText {
+            table,
+            node: self.node,
+            range: part,
+        })
+    }
+
+    /// What a closure makes of a first value and the chunks in their order: each call takes the value so far and the next
+    /// chunk. The first `Err` that the closure answers ends it. Takes no memory of its own.
+    pub fn try_fold_chunks<T, E, F: FnMut(T, &str) -> Result<T, E>>(
+        &self,
+        init: T,
+        f: F,
+    ) -> Result<T, E>
+        requires { F.IsAlwaysCallable f }
+        ensures { (last : F) × FoldsUntilErr F.FnMut f init (chunks self.now) result last }
+    {
+        self.table.fold_chunks(self.node, self.range, init, f)
+    }
+
+    /// Calls a closure at each chunk, in their order, up to the first `Err` that it answers. Takes no memory of its own.
+    pub fn try_for_each_chunk<E, F: FnMut(&str) -> Result<(), E>>(&self, f: F) -> Result<(), E>
+        requires { F.IsAlwaysCallable f }
+        ensures { (last : F) × VisitsUntilErr F.FnMut f (chunks self.now) result last }
+    {
+        self.table.try_visit_chunks(self.node, self.range, f)
+    }
+
+    /// Calls a closure at each chunk, in their order. Takes no memory of its own.
+    pub fn for_each_chunk<F: FnMut(&str)>(&self, f: F)
+        requires { F.IsAlwaysCallable f }
+        ensures { (last : F) × VisitsAll F.FnMut f (chunks self.now) last }
+    {
+        self.table.visit_chunks(self.node, self.range, f)
+    }
+
+    /// The text as a string of its own. Refused only for want of memory.
+    pub fn to_text(&self) -> Result<String, Fault>
+        ensures ok { IfOk result (λ text. string_bytes text ≡ slice_text self.now) }
+        ensures err { IfErr result (λ e. e ≡ Fault.Memory) }
+    {
+        Ok(self.table.copied_chunks(self.node, self.range)?)
+    }
+}
+
+impl Clone for SyntaxText {
+    ghost is_clone = { λ text copy. copy ≡ text };
+
+    fn clone(&self) -> Result<SyntaxText, AllocError> {
+        let table = self.table.clone()?;
+        Ok(SyntaxText {
+            table,
+            node: self.node,
+            range: self.range,
+        })
+    }
+}
+
+impl PartialEq for SyntaxText {
+    ghost use Rattle.std.specs.Cmp.{partial_equiv_from_equiv};
+    ghost use Rattle.rowan_cursor.specs.SyntaxText.{same_text, same_text-laws};
+
+    ghost eq = { same_text };
+
+    ghost laws = { partial_equiv_from_equiv same_text-laws };
+
+    fn eq(&self, other: &SyntaxText) -> bool {
+        let table = &other.table;
+        self.table
+            .has_text_of(self.node, self.range, table, other.node, other.range)
+    }
+}
+
+impl Eq for SyntaxText {
+    ghost use Rattle.rowan_cursor.specs.SyntaxText.{same_text-laws};
+
+    ghost laws = { same_text-laws };
+}
+
+impl fmt::Display for SyntaxText {
+    ghost use Rattle.std.specs.Prelude.{Some};
+    ghost use Rattle.rowan_cursor.specs.SyntaxText.{slice_text};
+
+    ghost output = { λ text. Some (slice_text text) };
+
+    fn fmt<W: fmt::Write>(&self, f: &mut fmt::Formatter<W>) -> fmt::Result {
+        self.table.write_chunks(self.node, self.range, f)
+    }
+}
+
+impl fmt::Debug for SyntaxText {
+    fn fmt<W: fmt::Write>(&self, f: &mut fmt::Formatter<W>) -> fmt::Result {
+        self.table.quote_chunks(self.node, self.range, f)
+    }
+}
