@@ -16,7 +16,8 @@ use Rattle.rowan_green.proofs.Paths.{offset-empty}
 use Rattle.rowan_cursor.specs.Cursor.{term_at, text_at}
 use Rattle.rowan_cursor.specs.Equal.{start_of}
 use Rattle.rowan_cursor.specs.SyntaxText.{TextSlice, slice_text, token_texts, meets, common_part, cut_chunks, chunks, IsBorder, IsTextSlice, part_of, CanCut}
-use Rattle.rowan_cursor.proofs.PathLemmas.{offset-join, offset-node_child, subterm_of-here}
+use Rattle.rowan_green.proofs.OffsetLemmas.{offset-join}
+use Rattle.rowan_cursor.proofs.PathLemmas.{offset-node_child, subterm_of-here}
 use Rattle.rowan_cursor.proofs.TextLemmas.{text-tokens}
 
 -- Two texts.
