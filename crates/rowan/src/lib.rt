@@ -17,8 +17,9 @@ pub use green::{
 };
 pub use node_cache::NodeCache;
 pub use rowan_api::api;
-pub use rowan_cursor::cursor;
+pub use rowan_cursor::{cursor, syntax_text};
 pub use rowan_green::{builder, fault, green, node_cache, steps, text, utility_types};
 pub use steps::Steps;
+pub use syntax_text::SyntaxText;
 pub use text::{TextLen, TextRange, TextSize};
 pub use utility_types::{Direction, NodeOrToken, TokenAtOffset, WalkEvent};

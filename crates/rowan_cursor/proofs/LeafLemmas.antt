@@ -12,7 +12,8 @@ use Rattle.rowan_green.specs.Term.{NodeTerm, node, Forest, empty, node_then, tok
 use Rattle.rowan_green.specs.Path.{Path, term_children, subterm_of, subterm, below_place, node_leaves, leaves_from, stands_before, begins}
 use Rattle.rowan_cursor.specs.Moves.{children_of, leaf_paths, first_at, first_leaf_path, last_leaf_path, next_leaf_path, prev_leaf_path}
 use Rattle.rowan_cursor.specs.Pass.{Lists, below_children, of_some, after, before, since, since_child, until, until_child, leaf_list, elements_from, node_elements, element_list}
-use Rattle.rowan_cursor.proofs.PathLemmas.{before_at_less, before_at_same, before_at_greater, begins-same, not-begins, subterm-child}
+use Rattle.rowan_green.proofs.OffsetLemmas.{before_at_less, before_at_same, before_at_greater}
+use Rattle.rowan_cursor.proofs.PathLemmas.{begins-same, not-begins, subterm-child}
 
 -- Steps.
 pub map_below : (p : Path) (i : ℕ) (qs : List Path) → map (λ q. p ++ q) (map (λ q. i ∷ q) qs) ≡ map (λ q. (p ++ i ∷ []) ++ q) qs

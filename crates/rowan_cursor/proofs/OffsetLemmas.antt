@@ -10,7 +10,8 @@ use Rattle.rowan_green.proofs.Paths.{offset-empty}
 use Rattle.rowan_cursor.specs.Moves.{leaf_paths}
 use Rattle.rowan_cursor.specs.Pass.{Lists, below_children, leaf_list}
 use Rattle.rowan_cursor.proofs.LeafLemmas.{leaf_list-node, leaves-below}
-use Rattle.rowan_cursor.proofs.PathLemmas.{offset-join, offset-node_child, subterm_of-append, subterm_of-here, child_start-next, node_len-children}
+use Rattle.rowan_green.proofs.OffsetLemmas.{offset-join}
+use Rattle.rowan_cursor.proofs.PathLemmas.{offset-node_child, subterm_of-append, subterm_of-here, child_start-next, node_len-children}
 
 -- the elements at these paths lie side by side, from one offset up to another
 abbrev pub Fill : Term → ℕ → List Path → ℕ → Type 0

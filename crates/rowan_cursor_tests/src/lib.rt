@@ -16,6 +16,8 @@ mod searches;
 #[cfg(test)]
 mod table;
 #[cfg(test)]
+mod texts;
+#[cfg(test)]
 mod twins;
 #[cfg(test)]
 mod walks;

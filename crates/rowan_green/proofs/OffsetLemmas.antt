@@ -25,7 +25,7 @@ before_at_greater j i q p h =
     ap (λ b. b || (nat_eq j i && stands_before q p)) (le-ltb j i (omega arith)) ∙ ap (λ b. b && stands_before q p) (ne_eqb j i (λ e. omega (arith, h, e)))
 
 -- The lengths of the leaves before a path, added up.
-abbrev lens_before : Path → List Leaf → ℕ
+abbrev pub lens_before : Path → List Leaf → ℕ
 lens_before p [] = 0
 lens_before p (l ∷ ls) = cond (stands_before l.0 p) (token_len l.1) 0 + lens_before p ls
 
@@ -88,7 +88,7 @@ none-before m i p (token_then t f) h =
     ap (λ b. cond b (token_len t) 0 + lens_before (i ∷ p) (leaves_from (m + 1) f)) (before_at_greater m i [] p h) ∙ omega (arith, none-before (m + 1) i p f (omega arith))
 
 -- the bytes before a path below one child, as an offset in that child
-abbrev offset_of : Option Term → Path → ℕ
+abbrev pub offset_of : Option Term → Path → ℕ
 offset_of None p = 0
 offset_of (Some t) p = lens_before p (leaves t)
 
@@ -108,13 +108,13 @@ lens_before-forest m (suc d) p (token_then t f) =
     let e : m + suc d ≡ (m + 1) + d = omega arith in
     ap (λ i. lens_before (i ∷ p) (leaves_from m (token_then t f))) e ∙ ap (λ b. cond b (token_len t) 0 + lens_before (((m + 1) + d) ∷ p) (leaves_from (m + 1) f)) (before_at_less m ((m + 1) + d) [] p (omega arith)) ∙ omega (arith, lens_before-forest (m + 1) d p f)
 
-lens_before-node : (n : NodeTerm) (i : ℕ) (p : Path) → lens_before (i ∷ p) (node_leaves n) ≡ child_start (node_children n) i + offset_of (slice_get (node_children n) i) p
+pub lens_before-node : (n : NodeTerm) (i : ℕ) (p : Path) → lens_before (i ∷ p) (node_leaves n) ≡ child_start (node_children n) i + offset_of (slice_get (node_children n) i) p
 lens_before-node (node k f) i p = let e : i ≡ 0 + i = omega arith in ap (λ j. lens_before (j ∷ p) (leaves_from 0 f)) e ∙ lens_before-forest 0 i p f
 
-offset-lens : (t : Term) (p : Path) → offset t p ≡ lens_before p (leaves t)
+pub offset-lens : (t : Term) (p : Path) → offset t p ≡ lens_before p (leaves t)
 offset-lens t p = sum-lens_before p (leaves t)
 
-offset_of-join : (t : Option Term) (p q : Path) (u : Term) → subterm_of t p ≡ Some u → offset_of t (p ++ q) ≡ offset_of t p + lens_before q (leaves u)
+pub offset_of-join : (t : Option Term) (p q : Path) (u : Term) → subterm_of t p ≡ Some u → offset_of t (p ++ q) ≡ offset_of t p + lens_before q (leaves u)
 offset_of-join None p q u h = absurd cc
 offset_of-join (Some t) [] q u h =
     let e : t ≡ u = cc in

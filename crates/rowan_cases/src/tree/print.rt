@@ -35,11 +35,11 @@ pub fn push_node(alloc: Global, text: &mut String, node: &GreenNode) -> Result<(
                 }
                 is_first_child = push_beginning(alloc, text, &element)?;
             }
-            WalkEvent::Leave(NodeOrToken::Node(_)) => {
+            WalkEvent::Leave(NodeOrToken::Node(_node)) => {
                 text.push(']')?;
                 is_first_child = false;
             }
-            WalkEvent::Leave(NodeOrToken::Token(_)) => {}
+            WalkEvent::Leave(NodeOrToken::Token(_token)) => {}
         }
     }
     Ok(())
