@@ -1,23 +1,20 @@
 -- Ranges of a text: of two texts that stand one behind the other, of a term's text, and of chunks.
-use Rattle.std.proofs.Common.{◌≡◌, ℕ, zero, suc, ◌+◌, ◌-◌, ◌<◌, ◌≤◌, Bool, true, false, cond, List, [], ◌∷◌, ◌++◌, length, take, drop, get_or, Option, Some, None, inl, inr, refl, sym, subst, ◌∙◌, ap, arith, length-append, append_assoc}
-use Rattle.std.specs.Prelude.{slice_get, slice_range, nat_le, ◌&&◌}
+use Rattle.std.proofs.Common.{◌≡◌, ℕ, zero, suc, ◌+◌, ◌-◌, ◌<◌, ◌≤◌, Bool, true, false, cond, List, [], ◌∷◌, ◌++◌, length, take, drop, get_or, Some, inl, inr, refl, sym, subst, ◌∙◌, ap, arith}
+use Rattle.std.specs.Prelude.{slice_range, nat_le, ◌&&◌}
 use Rattle.std.specs.List.{concat}
 use Rattle.std.proofs.lemmas.Bool.{cases_lt, leb-false, true≢false}
-use Rattle.std.proofs.lemmas.List.{append-nil, take_all, drop_all, length-drop, length-take-le, get_or-take, get_or-drop, take-append-le, drop-append-le}
+use Rattle.std.proofs.lemmas.List.{append-nil, take_all, drop_all, length-drop, length-take-le, get_or-take, get_or-drop, take-append-le, drop-append-le, take-append-drop}
 use Rattle.std.specs.Str.{IsCharBoundary}
 use Rattle.std.proofs.lemmas.Str.{IsCharBoundary-end}
 use Rattle.std.proofs.Math.Seq.{take-append-add, drop-append-add}
-use Rattle.rowan_green.specs.declared.utility_types.NodeOrToken.TheVariants.{Node, Token}
-use Rattle.rowan_green.specs.Search.{child_start}
+use Rattle.rowan_green.specs.declared.utility_types.NodeOrToken.TheVariants.{Node}
 use Rattle.rowan_green.specs.Span.{Span}
-use Rattle.rowan_green.specs.Term.{node, Forest, empty, node_then, token_then, Term, terms, term_text, node_text, forest_text}
-use Rattle.rowan_green.specs.Path.{Path, subterm_of, subterm, offset, text_of}
-use Rattle.rowan_green.proofs.Paths.{offset-empty}
+use Rattle.rowan_green.specs.Term.{Term, term_text, node_text}
+use Rattle.rowan_green.specs.Path.{Path, subterm, offset, range, text_of}
+use Rattle.rowan_green.proofs.OffsetLemmas.{text-cut, range-within}
 use Rattle.rowan_cursor.specs.Cursor.{term_at, text_at}
 use Rattle.rowan_cursor.specs.Equal.{start_of}
 use Rattle.rowan_cursor.specs.SyntaxText.{TextSlice, slice_text, token_texts, meets, common_part, cut_chunks, chunks, IsBorder, IsTextSlice, part_of, CanCut}
-use Rattle.rowan_green.proofs.OffsetLemmas.{offset-join}
-use Rattle.rowan_cursor.proofs.PathLemmas.{offset-node_child, subterm_of-here}
 use Rattle.rowan_cursor.proofs.TextLemmas.{text-tokens}
 
 -- Two texts.
@@ -70,55 +67,21 @@ pub record StandsIn (text : List ℕ) (at : ℕ) (part : List ℕ) : Type 0 wher
   pub parts : text ≡ before ++ (part ++ after)
   pub len : length before ≡ at
 
-behind : (xs ys : List ℕ) (at : ℕ) (part : List ℕ) → StandsIn ys at part → StandsIn (xs ++ ys) (length xs + at) part
-behind xs ys at part s =
+cut_out : (text : List ℕ) (a b : ℕ) → a ≤ length text → StandsIn text a (slice_range text a b)
+cut_out text a b within =
     record {
-      before = xs ++ s.before;
-      after = s.after;
-      parts = ap (λ us. xs ++ us) s.parts ∙ sym (append_assoc xs s.before (part ++ s.after));
-      len = omega (arith, length-append xs s.before, s.len);
+      before = take a text;
+      after = drop (b - a) (drop a text);
+      parts = sym (ap (λ us. take a text ++ us) (take-append-drop (b - a) (drop a text)) ∙ take-append-drop a text);
+      len = length-take-le a text within;
     }
-
-within : (text part inner : List ℕ) (at place : ℕ) → StandsIn text at part → StandsIn part place inner → StandsIn text (at + place) inner
-within text part inner at place s i =
-    record {
-      before = s.before ++ i.before;
-      after = i.after ++ s.after;
-      parts =
-          s.parts ∙ ap (λ us. s.before ++ (us ++ s.after)) i.parts
-          ∙ ap (λ us. s.before ++ us) (append_assoc i.before (inner ++ i.after) s.after ∙ ap (λ us. i.before ++ us) (append_assoc inner i.after s.after))
-          ∙ sym (append_assoc s.before i.before (inner ++ (i.after ++ s.after)));
-      len = omega (arith, length-append s.before i.before, s.len, i.len);
-    }
-
-child_stands : (f : Forest) (i : ℕ) (c : Term) → slice_get (terms f) i ≡ Some c → StandsIn (forest_text f) (child_start (terms f) i) (term_text c)
-child_stands empty i c e = absurd cc
-child_stands (node_then n f) zero c e =
-    let same : Node n ≡ c = cc in
-    record { before = []; after = forest_text f; parts = ap (λ t. term_text t ++ forest_text f) same; len = refl }
-child_stands (token_then t f) zero c e =
-    let same : Token t ≡ c = cc in
-    record { before = []; after = forest_text f; parts = ap (λ u. term_text u ++ forest_text f) same; len = refl }
-child_stands (node_then n f) (suc i) c e =
-    behind (node_text n) (forest_text f) (child_start (terms f) i) (term_text c) (child_stands f i c e)
-child_stands (token_then t f) (suc i) c e =
-    behind t.text (forest_text f) (child_start (terms f) i) (term_text c) (child_stands f i c e)
 
 -- the text of what stands at a path, behind the bytes of its offset
-pub stands_in : (t : Term) (p : Path) (u : Term) → subterm t p ≡ Some u → StandsIn (term_text t) (offset t p) (term_text u)
-stands_in t [] u e =
-    let same : t ≡ u = cc in
-    record { before = []; after = []; parts = ap term_text same ∙ sym (append-nil (term_text u)); len = sym (offset-empty t) }
-stands_in (Token t) (i ∷ p) u e = absurd cc
-stands_in (Node (node k f)) (i ∷ p) u e = at (slice_get (terms f) i) refl e (λ c h. stands_in c p u h)
-  where
-    at : (o : Option Term) → slice_get (terms f) i ≡ o → subterm_of o p ≡ Some u → ((c : Term) → subterm c p ≡ Some u → StandsIn (term_text c) (offset c p) (term_text u)) → StandsIn (forest_text f) (offset (Node (node k f)) (i ∷ p)) (term_text u)
-    at None h e below = absurd cc
-    at (Some c) h e below =
-        let child : offset (Node (node k f)) (i ∷ []) ≡ child_start (terms f) i = offset-node_child (Node (node k f)) [] i (node k f) refl ∙ omega (arith, offset-empty (Node (node k f))) in
-        let there : offset (Node (node k f)) (i ∷ p) ≡ child_start (terms f) i + offset c p = omega (arith, child, offset-join (Node (node k f)) (i ∷ []) p c (subterm_of-here (slice_get (terms f) i) ∙ h)) in
-        let s = within (forest_text f) (term_text c) (term_text u) (child_start (terms f) i) (offset c p) (child_stands f i c h) (below c e) in
-        record { before = s.before; after = s.after; parts = s.parts; len = s.len ∙ sym there }
+stands_in : (t : Term) (p : Path) (u : Term) → subterm t p ≡ Some u → StandsIn (term_text t) (offset t p) (term_text u)
+stands_in t p u e =
+    let place = range t p in
+    let within : place.start ≤ length (term_text t) = omega (arith, range-within t p u e) in
+    subst (StandsIn (term_text t) place.start) (sym (text-cut t p) ∙ ap text_of e) (cut_out (term_text t) place.start place.end within)
 
 -- a range of the text that lies in a part, as a range of that part
 pub range_in : (text part : List ℕ) (at a b : ℕ) → StandsIn text at part → at ≤ a → a ≤ b → b ≤ at + length part → slice_range text a b ≡ slice_range part (a - at) (b - at)

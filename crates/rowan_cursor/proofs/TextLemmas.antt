@@ -1,16 +1,16 @@
 -- The texts of the tokens of a term: they stand at its leaves, and one after the other they are its text.
 use Rattle.std.proofs.Common.{◌≡◌, ℕ, suc, ◌+◌, List, [], ◌∷◌, ◌++◌, map, Option, Some, None, refl, sym, ◌∙◌, ap, arith}
 use Rattle.std.specs.Prelude.{slice_get}
-use Rattle.std.specs.List.{concat}
-use Rattle.std.proofs.lemmas.List.{append-nil, map-append}
-use Rattle.std.proofs.lemmas.List.Folds.{concat-append}
+use Rattle.std.specs.List.{concat, flat_map}
+use Rattle.std.proofs.lemmas.List.{map-append}
 use Rattle.std.proofs.lemmas.Simd.{map-map}
 use Rattle.rowan_green.specs.declared.utility_types.NodeOrToken.TheVariants.{Node, Token}
-use Rattle.rowan_green.specs.Term.{NodeTerm, node, Forest, empty, node_then, token_then, Term, terms, node_text, forest_text}
-use Rattle.rowan_green.specs.Path.{Path, Leaf, subterm_of, subterm, text_of, below_place, node_leaves, leaves_from, leaves}
+use Rattle.rowan_green.specs.Term.{NodeTerm, node, Forest, empty, node_then, token_then, Term, terms}
+use Rattle.rowan_green.specs.Path.{Path, Leaf, subterm_of, subterm, text_of, below_place, node_leaves, leaves_from, leaves, tokens}
 use Rattle.rowan_cursor.specs.Pass.{leaf_list, of_some}
 use Rattle.rowan_cursor.specs.SyntaxText.{token_texts}
 use Rattle.rowan_cursor.specs.Chunks.{texts_at}
+use Rattle.rowan_green.proofs.LeafLaws.{text-tokens as joined_tokens}
 use Rattle.rowan_cursor.proofs.PathLemmas.{subterm_of-append}
 
 abbrev texts_of : List Leaf → List (List ℕ)
@@ -52,7 +52,7 @@ at_leaves (Token t) = refl
 
 at_some_leaves : (t : Option Term) → map (λ q. text_of (subterm_of t q)) (of_some leaf_list t) ≡ token_texts t
 at_some_leaves None = refl
-at_some_leaves (Some t) = map-map (λ q. text_of (subterm t q)) (λ l. l.0) (leaves t) ∙ at_leaves t
+at_some_leaves (Some t) = map-map (λ q. text_of (subterm t q)) (λ l. l.0) (leaves t) ∙ at_leaves t ∙ sym (map-map (λ u. u.text) (λ l. l.1) (leaves t))
 
 -- the texts at the leaves below a path
 pub texts_at-below : (root : NodeTerm) (p : Path) → texts_at root (map (λ q. p ++ q) (of_some leaf_list (subterm (Node root) p))) ≡ token_texts (subterm (Node root) p)
@@ -62,22 +62,11 @@ texts_at-below root p =
     ∙ map_same (λ q. text_of (subterm (Node root) (p ++ q))) (λ q. text_of (subterm_of u q)) (of_some leaf_list u) (λ q. ap text_of (subterm_of-append (Some (Node root)) p q))
     ∙ at_some_leaves u
 
-mutual
-  joined-node : (n : NodeTerm) → concat (texts_of (node_leaves n)) ≡ node_text n
-  joined-node (node k f) = joined-forest 0 f
-
-  joined-forest : (m : ℕ) (f : Forest) → concat (texts_of (leaves_from m f)) ≡ forest_text f
-  joined-forest m empty = refl
-  joined-forest m (node_then n f) =
-      let own = map (below_place m) (node_leaves n) in
-      ap concat (map-append (λ l. l.1.text) own (leaves_from (m + 1) f))
-      ∙ concat-append (texts_of own) (texts_of (leaves_from (m + 1) f))
-      ∙ ap (λ us. us ++ concat (texts_of (leaves_from (m + 1) f))) (ap concat (map-map (λ l. l.1.text) (below_place m) (node_leaves n)) ∙ joined-node n)
-      ∙ ap (λ us. node_text n ++ us) (joined-forest (m + 1) f)
-  joined-forest m (token_then t f) = ap (λ us. t.text ++ us) (joined-forest (m + 1) f)
+joined : {A : Type 0} (f : A → List ℕ) (xs : List A) → concat (map f xs) ≡ flat_map f xs
+joined f [] = refl
+joined f (x ∷ xs) = ap (λ us. f x ++ us) (joined f xs)
 
 -- the text of a term is the texts of its tokens, one after the other
 pub text-tokens : (t : Option Term) → concat (token_texts t) ≡ text_of t
 text-tokens None = refl
-text-tokens (Some (Node n)) = joined-node n
-text-tokens (Some (Token t)) = append-nil t.text
+text-tokens (Some t) = joined (λ u. u.text) (tokens t) ∙ sym (joined_tokens t)

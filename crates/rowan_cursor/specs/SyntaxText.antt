@@ -14,10 +14,11 @@ use Rattle.std.specs.Str.{IsCharBoundary}
 use Rattle.rowan_green.specs.declared.utility_types.NodeOrToken.TheVariants.{Node}
 use Rattle.rowan_green.specs.Span.{Span}
 use Rattle.rowan_green.specs.Term.{Term, node_text}
-use Rattle.rowan_green.specs.Path.{leaves, range}
+use Rattle.rowan_green.specs.Path.{tokens, range}
 use Rattle.rowan_cursor.specs.Cursor.{Cursor, term_at, text_at}
 use Rattle.rowan_cursor.specs.Equal.{start_of}
 
+-- a range of the text of a node
 pub record TextSlice : Type 0 where
   pub node : Cursor
   pub range : Span
@@ -26,10 +27,11 @@ pub record TextSlice : Type 0 where
 abbrev pub whole_text : Cursor → TextSlice
 whole_text c = record { node = c; range = range (Node c.root) c.path }
 
--- the text of a slice, and its length
+-- the text of a slice
 abbrev pub slice_text : TextSlice → List ℕ
 slice_text s = slice_range (node_text s.node.root) s.range.start s.range.end
 
+-- how many bytes a slice has
 abbrev pub slice_len : TextSlice → ℕ
 slice_len s = s.range.end - s.range.start
 
@@ -37,13 +39,14 @@ slice_len s = s.range.end - s.range.start
 abbrev pub same_text : TextSlice → TextSlice → Bool
 same_text s t = pointwise ◌==◌ (slice_text s) (slice_text t)
 
+-- to have the same text is an equivalence
 pub same_text-laws : IsEquivalence same_text
 same_text-laws = on_equiv slice_text (decided (pointwise ◌==◌) bytes_decides)
 
 -- the texts of the tokens of a term, in order
 abbrev pub token_texts : Option Term → List (List ℕ)
 token_texts None = []
-token_texts (Some t) = map (λ l. l.1.text) (leaves t)
+token_texts (Some t) = map (λ token. token.text) (tokens t)
 
 -- whether a text that starts at an offset meets a range, the ends of both included
 abbrev pub meets : Span → ℕ → List ℕ → Bool
@@ -60,6 +63,7 @@ cut_chunks range at (text ∷ texts) =
     (if meets range at text then common_part range at text ∷ [] else [])
     ++ cut_chunks range (at + length text) texts
 
+-- the chunks of a slice: for each token of its node that meets it, the bytes that both have
 abbrev pub chunks : TextSlice → List (List ℕ)
 chunks s = cut_chunks s.range (start_of s.node) (token_texts (term_at s.node))
 
@@ -83,10 +87,11 @@ part_of s start end =
       range = record { start = s.range.start + start; end = s.range.start + end };
     }
 
--- the ends of a range of a slice, where none is that of the slice
+-- where a range of a slice starts: at the start of the slice where it names none
 abbrev pub first_of : Option ℕ → ℕ
 first_of start = unwrap_or start 0
 
+-- where a range of a slice ends: at the end of the slice where it names none
 abbrev pub last_of : TextSlice → Option ℕ → ℕ
 last_of s end = unwrap_or end (slice_len s)
 
@@ -101,12 +106,6 @@ pub record CanCut (s : TextSlice) (start end : ℕ) : Type 0 where
 pub record HasChar (text : List ℕ) (i c : ℕ) : Type 0 where
   pub rest : List ℕ
   pub begins : drop i text ≡ encode_utf8 c ++ rest
-
--- the first byte of a text at which the character c begins, if there is one
-abbrev pub FindsChar : List ℕ → ℕ → Option ℕ → Type 0
-FindsChar text c found =
-    MatchOption found ((i : ℕ) → HasChar text i c → ⊥)
-    (λ i. HasChar text i c × ((j : ℕ) → j < i → HasChar text j c → ⊥))
 
 -- the character that begins at byte i of a text, if one does
 abbrev pub ReadsChar : List ℕ → ℕ → Option ℕ → Type 0

@@ -4,7 +4,7 @@ ghost use Rattle.std.specs.Fmt.{DisplaysOnOk};
 ghost use Rattle.std.specs.Str.{IsCharBoundary};
 ghost use Rattle.rowan_cursor.specs.Chunks.{leaves_left, IsTokenInside, MayCut, IsWalk, chunks_left, slice_of, IsSliceOf, IsByteIn};
 ghost use Rattle.rowan_cursor.specs.Folds.{FoldsUntilErr, VisitsUntilErr, VisitsAll};
-ghost use Rattle.rowan_cursor.specs.SyntaxText.{meets, common_part, chunks, slice_text, part_of, CanCut, IsTextSlice, ReadsChar, same_text};
+ghost use Rattle.rowan_cursor.specs.SyntaxText.{meets, common_part, chunks, slice_text, part_of, CanCut, ReadsChar, same_text};
 ghost use Rattle.rowan_cursor.specs.TableView.{path_at};
 
 use super::Table;
