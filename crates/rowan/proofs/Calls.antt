@@ -5,20 +5,20 @@ use Rattle.rowan_green.specs.declared.fault.Fault.{Fault}
 use Rattle.rowan_green.specs.declared.fault.Fault.TheVariants.{NothingOpen, CheckpointPast, CheckpointBefore, UnknownMark}
 use Rattle.rowan_green.specs.declared.green.SyntaxKind.{SyntaxKind}
 use Rattle.rowan_green.specs.Builder.{BuilderValue, FinishesNode, WrapsAt}
-use Rattle.rowan_green.specs.Stream.{asked_for}
+use Rattle.rowan_green.specs.Stream.{intern_all}
 use Rattle.rowan_green.specs.Word.{HasNoneOpen, WhyNotClosed, IsPast, IsBeforeOpening, WhyNotWrapped}
 use Rattle.rowan.specs.declared.script.calls.Call.{Call}
 use Rattle.rowan.specs.declared.script.calls.Call.TheVariants.{FinishNode, StartNodeAt}
 use Rattle.rowan.specs.declared.script.calls.Outcome.TheVariants.{Refused}
 use Rattle.rowan.specs.Outcome.{outcome_of}
 use Rattle.rowan.specs.Rewriting.{Accepts, WhyNotWrappedAt, WhyRefused, MarkPrecedes, Precedes}
-use Rattle.rowan.specs.Asked.{asked_if_accepted}
+use Rattle.rowan.specs.Requests.{requests_if_accepted}
 use Rattle.rowan.specs.Run.{Advances}
 
 -- the call is accepted, and the cache is asked for what it adds or closes
 AcceptsAsking : List ℕ → BuilderValue → Call → BuilderValue → Type 0
 AcceptsAsking marks old call new =
-    (accepts : Accepts marks old.word call new.word) × (new.cache ≡ asked_for old.cache (asked_if_accepted marks old.word call new.word accepts))
+    (accepts : Accepts marks old.word call new.word) × (new.cache ≡ intern_all old.cache (requests_if_accepted marks old.word call new.word accepts))
 
 advances : {A : Type 0} (marks : List ℕ) (old new : BuilderValue) (call : Call) (r : Result A Fault)
     → OnOk r (AcceptsAsking marks old call new)

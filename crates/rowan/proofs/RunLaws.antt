@@ -6,9 +6,9 @@ use Rattle.std.specs.List.{flat_map}
 use Rattle.rowan_green.specs.declared.fault.Fault.{Fault}
 use Rattle.rowan_green.specs.declared.utility_types.NodeOrToken.TheVariants.{Node as node_term, Token as token_term}
 use Rattle.rowan_green.specs.Builder.{BuilderValue}
-use Rattle.rowan_green.specs.Cache.{CacheValue, asked}
+use Rattle.rowan_green.specs.Cache.{CacheValue, intern}
 use Rattle.rowan_green.specs.Path.{tokens}
-use Rattle.rowan_green.specs.Stream.{asked_for, BuildsOn}
+use Rattle.rowan_green.specs.Stream.{intern_all, BuildsOn}
 use Rattle.rowan_green.specs.Term.{TokenTerm, NodeTerm, Term}
 use Rattle.rowan_green.specs.Word.{Symbol, Open, Leaf, Close, IsFinished, word_text, word_tokens}
 use Rattle.rowan_green.proofs.LeafLaws.{word_text-tokens, tokens-leaf, tokens-open, tokens-closes, tokens-wrap, tokens-finished}
@@ -18,7 +18,7 @@ use Rattle.rowan.specs.declared.script.calls.Call.TheVariants.{Token, StartNode,
 use Rattle.rowan.specs.declared.script.calls.Outcome.{Outcome}
 use Rattle.rowan.specs.declared.script.calls.Outcome.TheVariants.{Accepted, Marked, Refused}
 use Rattle.rowan.specs.Rewriting.{token_of, Accepts, Gives, with_mark, InTurn, Rewrites}
-use Rattle.rowan.specs.Asked.{asked_if_accepted, asked_by, asked_in_turn, added_tokens, accepted_tokens, accepted_text}
+use Rattle.rowan.specs.Requests.{requests_if_accepted, requests_of, requests_in_turn, added_tokens, accepted_tokens, accepted_text}
 use Rattle.rowan.specs.Run.{Run}
 use Rattle.rowan.proofs.Exact.{Closes-unique, Wraps-unique}
 
@@ -49,27 +49,27 @@ word-turns (call ∷ calls) (outcome ∷ outcomes) marks w w' v v' same run run'
 
 -- ---- what is asked of the cache
 
-asked-accepted : (marks : List ℕ) (w w' : List Symbol) (call : Call) (v v' : List Symbol) (a : Accepts marks w call v) (a' : Accepts marks w' call v') → w ≡ w' → asked_if_accepted marks w call v a ≡ asked_if_accepted marks w' call v' a'
-asked-accepted marks w w' (Token kind text) v v' a a' same = refl
-asked-accepted marks w w' (StartNode kind) v v' a a' same = refl
-asked-accepted marks w w' FinishNode v v' a a' same = ap (λ n. node_term n ∷ []) (Closes-unique w w' v v' a.0 a'.0 same a.1 a'.1)
-asked-accepted marks w w' Mark v v' a a' same = refl
-asked-accepted marks w w' (StartNodeAt mark kind) v v' a a' same = refl
-asked-accepted marks w w' (StartNodeAtCheckpoint c kind) v v' a a' same = refl
+intern-accepted : (marks : List ℕ) (w w' : List Symbol) (call : Call) (v v' : List Symbol) (a : Accepts marks w call v) (a' : Accepts marks w' call v') → w ≡ w' → requests_if_accepted marks w call v a ≡ requests_if_accepted marks w' call v' a'
+intern-accepted marks w w' (Token kind text) v v' a a' same = refl
+intern-accepted marks w w' (StartNode kind) v v' a a' same = refl
+intern-accepted marks w w' FinishNode v v' a a' same = ap (λ n. node_term n ∷ []) (Closes-unique w w' v v' a.0 a'.0 same a.1 a'.1)
+intern-accepted marks w w' Mark v v' a a' same = refl
+intern-accepted marks w w' (StartNodeAt mark kind) v v' a a' same = refl
+intern-accepted marks w w' (StartNodeAtCheckpoint c kind) v v' a a' same = refl
 
-asked-step : (marks : List ℕ) (w w' : List Symbol) (call : Call) (outcome : Outcome) (v v' : List Symbol) (g : Gives marks w call outcome v) (g' : Gives marks w' call outcome v') → w ≡ w' → asked_by marks w call outcome v g ≡ asked_by marks w' call outcome v' g'
-asked-step marks w w' call Accepted v v' g g' same = asked-accepted marks w w' call v v' g g' same
-asked-step marks w w' call (Marked c) v v' g g' same = refl
-asked-step marks w w' call (Refused fault) v v' g g' same = refl
+intern-step : (marks : List ℕ) (w w' : List Symbol) (call : Call) (outcome : Outcome) (v v' : List Symbol) (g : Gives marks w call outcome v) (g' : Gives marks w' call outcome v') → w ≡ w' → requests_of marks w call outcome v g ≡ requests_of marks w' call outcome v' g'
+intern-step marks w w' call Accepted v v' g g' same = intern-accepted marks w w' call v v' g g' same
+intern-step marks w w' call (Marked c) v v' g g' same = refl
+intern-step marks w w' call (Refused fault) v v' g g' same = refl
 
-pub asked-turns : (calls : List Call) (outcomes : List Outcome) (marks : List ℕ) (w w' v v' : List Symbol) (run : InTurn marks w calls outcomes v) (run' : InTurn marks w' calls outcomes v') → w ≡ w' → asked_in_turn marks w calls outcomes v run ≡ asked_in_turn marks w' calls outcomes v' run'
-asked-turns [] [] marks w w' v v' run run' same = refl
-asked-turns [] (outcome ∷ outcomes) marks w w' v v' run run' same = absurd run
-asked-turns (call ∷ calls) [] marks w w' v v' run run' same = absurd run
-asked-turns (call ∷ calls) (outcome ∷ outcomes) marks w w' v v' run run' same =
-    let rest = asked_in_turn (with_mark marks outcome) run.0 calls outcomes v run.2 in
-    ap (λ ts. ts ++ rest) (asked-step marks w w' call outcome run.0 run'.0 run.1.gives run'.1.gives same)
-    ∙ ap (λ ts. asked_by marks w' call outcome run'.0 run'.1.gives ++ ts) (asked-turns calls outcomes (with_mark marks outcome) run.0 run'.0 v v' run.2 run'.2 (word-step marks w w' call outcome run.0 run'.0 same run.1.gives run'.1.gives))
+pub intern-turns : (calls : List Call) (outcomes : List Outcome) (marks : List ℕ) (w w' v v' : List Symbol) (run : InTurn marks w calls outcomes v) (run' : InTurn marks w' calls outcomes v') → w ≡ w' → requests_in_turn marks w calls outcomes v run ≡ requests_in_turn marks w' calls outcomes v' run'
+intern-turns [] [] marks w w' v v' run run' same = refl
+intern-turns [] (outcome ∷ outcomes) marks w w' v v' run run' same = absurd run
+intern-turns (call ∷ calls) [] marks w w' v v' run run' same = absurd run
+intern-turns (call ∷ calls) (outcome ∷ outcomes) marks w w' v v' run run' same =
+    let rest = requests_in_turn (with_mark marks outcome) run.0 calls outcomes v run.2 in
+    ap (λ ts. ts ++ rest) (intern-step marks w w' call outcome run.0 run'.0 run.1.gives run'.1.gives same)
+    ∙ ap (λ ts. requests_of marks w' call outcome run'.0 run'.1.gives ++ ts) (intern-turns calls outcomes (with_mark marks outcome) run.0 run'.0 v v' run.2 run'.2 (word-step marks w w' call outcome run.0 run'.0 same run.1.gives run'.1.gives))
 
 -- ---- the tokens
 
@@ -128,9 +128,9 @@ text-rewritten w v calls outcomes r =
 
 -- the value of a builder that came to this word and asked its cache for these terms meanwhile
 abbrev arrived : CacheValue → List Symbol → List Term → BuilderValue
-arrived cache v ts = record { word = v; cache = asked_for cache ts }
+arrived cache v ts = record { word = v; cache = intern_all cache ts }
 
-builds-accepted : (marks : List ℕ) (old : BuilderValue) (call : Call) (v : List Symbol) (a : Accepts marks old.word call v) → BuildsOn old (arrived old.cache v (asked_if_accepted marks old.word call v a))
+builds-accepted : (marks : List ℕ) (old : BuilderValue) (call : Call) (v : List Symbol) (a : Accepts marks old.word call v) → BuildsOn old (arrived old.cache v (requests_if_accepted marks old.word call v a))
 builds-accepted marks old (Token kind text) v a =
     BuildsOn-adds {E = Fault} old (arrived old.cache v (token_term (token_of kind text) ∷ [])) (Ok tt) (token_of kind text) (ap (λ u. arrived old.cache u (token_term (token_of kind text) ∷ [])) a) tt
 builds-accepted marks old (StartNode kind) v a =
@@ -143,21 +143,21 @@ builds-accepted marks old (StartNodeAt mark kind) v a =
 builds-accepted marks old (StartNodeAtCheckpoint c kind) v a =
     BuildsOn-wraps {E = Fault} old (arrived old.cache v []) (Ok tt) c kind.0 (record { wraps = a; same_cache = refl }) tt
 
-builds-step : (marks : List ℕ) (old : BuilderValue) (call : Call) (outcome : Outcome) (v : List Symbol) (g : Gives marks old.word call outcome v) → BuildsOn old (arrived old.cache v (asked_by marks old.word call outcome v g))
+builds-step : (marks : List ℕ) (old : BuilderValue) (call : Call) (outcome : Outcome) (v : List Symbol) (g : Gives marks old.word call outcome v) → BuildsOn old (arrived old.cache v (requests_of marks old.word call outcome v g))
 builds-step marks old call Accepted v g = builds-accepted marks old call v g
 builds-step marks old call (Marked c) v g = BuildsOn-same old (arrived old.cache v []) (ap (λ u. arrived old.cache u []) g.2)
 builds-step marks old call (Refused fault) v g = BuildsOn-same old (arrived old.cache v []) (ap (λ u. arrived old.cache u []) g.1)
 
-builds-turns : (calls : List Call) (outcomes : List Outcome) (marks : List ℕ) (old : BuilderValue) (v : List Symbol) (run : InTurn marks old.word calls outcomes v) → BuildsOn old (arrived old.cache v (asked_in_turn marks old.word calls outcomes v run))
+builds-turns : (calls : List Call) (outcomes : List Outcome) (marks : List ℕ) (old : BuilderValue) (v : List Symbol) (run : InTurn marks old.word calls outcomes v) → BuildsOn old (arrived old.cache v (requests_in_turn marks old.word calls outcomes v run))
 builds-turns [] [] marks old v run = BuildsOn-same old (arrived old.cache v []) (ap (λ u. arrived old.cache u []) run)
 builds-turns [] (outcome ∷ outcomes) marks old v run = absurd run
 builds-turns (call ∷ calls) [] marks old v run = absurd run
 builds-turns (call ∷ calls) (outcome ∷ outcomes) marks old v run =
-    let here = asked_by marks old.word call outcome run.0 run.1.gives in
+    let here = requests_of marks old.word call outcome run.0 run.1.gives in
     let next = arrived old.cache run.0 here in
-    let rest = asked_in_turn (with_mark marks outcome) run.0 calls outcomes v run.2 in
+    let rest = requests_in_turn (with_mark marks outcome) run.0 calls outcomes v run.2 in
     let whole = BuildsOn-trans old next (arrived next.cache v rest) (builds-step marks old call outcome run.0 run.1.gives) (builds-turns calls outcomes (with_mark marks outcome) next v run.2) in
-    subst (λ cache. BuildsOn old (record { word = v; cache = cache })) (sym (fold-append asked old.cache here rest)) whole
+    subst (λ cache. BuildsOn old (record { word = v; cache = cache })) (sym (fold-append intern old.cache here rest)) whole
 
 -- a run is calls of the builder
 pub builds-run : (old new : BuilderValue) (calls : List Call) (outcomes : List Outcome) → Run old calls outcomes new → BuildsOn old new

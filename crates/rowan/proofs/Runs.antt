@@ -3,15 +3,15 @@ use Rattle.std.proofs.Common.{◌≡◌, ◌+◌, ◌<◌, List, [], ◌∷◌, 
 use Rattle.std.proofs.lemmas.Grind.{fold-append}
 use Rattle.std.proofs.lemmas.List.{append-nil, take_more}
 use Rattle.rowan_green.specs.Builder.{BuilderValue}
-use Rattle.rowan_green.specs.Cache.{asked}
-use Rattle.rowan_green.specs.Stream.{asked_for}
+use Rattle.rowan_green.specs.Cache.{intern}
+use Rattle.rowan_green.specs.Stream.{intern_all}
 use Rattle.rowan_green.specs.Term.{Term}
 use Rattle.rowan_green.specs.Word.{Symbol}
 use Rattle.rowan.specs.declared.script.calls.Call.{Call}
 use Rattle.rowan.specs.declared.script.calls.Outcome.{Outcome}
 use Rattle.rowan.specs.declared.script.calls.Outcome.TheVariants.{Accepted, Marked, Refused}
 use Rattle.rowan.specs.Rewriting.{Performs, with_mark, InTurn}
-use Rattle.rowan.specs.Asked.{asked_by, asked_in_turn, stream}
+use Rattle.rowan.specs.Requests.{requests_of, requests_in_turn, stream}
 use Rattle.rowan.specs.Run.{Advances, Run}
 
 -- ---- marks
@@ -40,23 +40,23 @@ with_marks-more before after outcomes more outcome so_far e one =
 -- calls that go from w to u in turn, and ask the cache for these terms
 Asks : List ℕ → List Symbol → List Call → List Outcome → List Symbol → List Term → Type 0
 Asks marks w calls outcomes u ts =
-    (turns : InTurn marks w calls outcomes u) × (asked_in_turn marks w calls outcomes u turns ≡ ts)
+    (turns : InTurn marks w calls outcomes u) × (requests_in_turn marks w calls outcomes u turns ≡ ts)
 
 -- one more call behind calls in turn, with what all of them ask for
 InTurn-append : (calls : List Call) (outcomes : List Outcome) (marks : List ℕ) (w v u : List Symbol) (call : Call) (outcome : Outcome)
     (turns : InTurn marks w calls outcomes v)
     (step : Performs (with_marks marks outcomes) v call outcome u)
-    → Asks marks w (calls ++ call ∷ []) (outcomes ++ outcome ∷ []) u (asked_in_turn marks w calls outcomes v turns ++ asked_by (with_marks marks outcomes) v call outcome u step.gives)
+    → Asks marks w (calls ++ call ∷ []) (outcomes ++ outcome ∷ []) u (requests_in_turn marks w calls outcomes v turns ++ requests_of (with_marks marks outcomes) v call outcome u step.gives)
 unfolding Asks
 InTurn-append [] [] marks w v u call outcome turns step =
-    subst (λ x. Asks marks x (call ∷ []) (outcome ∷ []) u (asked_by marks v call outcome u step.gives)) turns ((u, step, refl), append-nil (asked_by marks v call outcome u step.gives))
+    subst (λ x. Asks marks x (call ∷ []) (outcome ∷ []) u (requests_of marks v call outcome u step.gives)) turns ((u, step, refl), append-nil (requests_of marks v call outcome u step.gives))
 InTurn-append [] (o ∷ outcomes) marks w v u call outcome turns step = absurd turns
 InTurn-append (x ∷ calls) [] marks w v u call outcome turns step = absurd turns
 InTurn-append (x ∷ calls) (o ∷ outcomes) marks w v u call outcome turns step =
-    let here = asked_by marks w x o turns.0 turns.1.gives in
-    let rest = asked_in_turn (with_mark marks o) turns.0 calls outcomes v turns.2 in
+    let here = requests_of marks w x o turns.0 turns.1.gives in
+    let rest = requests_in_turn (with_mark marks o) turns.0 calls outcomes v turns.2 in
     let more = InTurn-append calls outcomes (with_mark marks o) turns.0 v u call outcome turns.2 step in
-    ((turns.0, turns.1, more.0), ap (λ ts. here ++ ts) more.1 ∙ sym (append_assoc here rest (asked_by (with_marks marks (o ∷ outcomes)) v call outcome u step.gives)))
+    ((turns.0, turns.1, more.0), ap (λ ts. here ++ ts) more.1 ∙ sym (append_assoc here rest (requests_of (with_marks marks (o ∷ outcomes)) v call outcome u step.gives)))
 
 Run-append : (calls : List Call) (outcomes : List Outcome) (old new last : BuilderValue) (call : Call) (outcome : Outcome)
     → Run old calls outcomes new
@@ -65,11 +65,11 @@ Run-append : (calls : List Call) (outcomes : List Outcome) (old new last : Build
 unfolding Asks
 Run-append calls outcomes old new last call outcome run one =
     let before = stream run.words in
-    let here = asked_by (with_marks [] outcomes) new.word call outcome last.word one.performs.gives in
+    let here = requests_of (with_marks [] outcomes) new.word call outcome last.word one.performs.gives in
     let more = InTurn-append calls outcomes [] old.word new.word last.word call outcome run.words.in_turn one.performs in
     record {
       words = record { in_turn = more.0 };
-      interns = one.interns ∙ ap (λ cache. asked_for cache here) run.interns ∙ sym (fold-append asked old.cache before here) ∙ ap (asked_for old.cache) (sym more.1);
+      interns = one.interns ∙ ap (λ cache. intern_all cache here) run.interns ∙ sym (fold-append intern old.cache before here) ∙ ap (intern_all old.cache) (sym more.1);
     }
 
 -- the run of the first calls goes on by the next of them

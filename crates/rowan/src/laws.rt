@@ -3,14 +3,14 @@ ghost use Rattle.std.specs.Prelude.{◌≡◌, List, [], ◌++◌};
 ghost use Rattle.rowan_green.specs.Builder.{BuilderValue};
 ghost use Rattle.rowan_green.specs.Cache.{first_seen};
 ghost use Rattle.rowan_green.specs.Path.{tokens};
-ghost use Rattle.rowan_green.specs.Stream.{asked_for, BuildsOn};
+ghost use Rattle.rowan_green.specs.Stream.{intern_all, BuildsOn};
 ghost use Rattle.rowan_green.specs.Term.{NodeTerm};
 ghost use Rattle.rowan_green.specs.Word.{Symbol, IsFinished, word_text, word_tokens};
 ghost use Rattle.rowan_green.specs.declared.utility_types.NodeOrToken.TheVariants.{Node};
 ghost use Rattle.rowan.specs.declared.script.calls.Call.{Call};
 ghost use Rattle.rowan.specs.declared.script.calls.Outcome.{Outcome};
 ghost use Rattle.rowan.specs.Rewriting.{Rewrites};
-ghost use Rattle.rowan.specs.Asked.{stream, accepted_tokens, accepted_text};
+ghost use Rattle.rowan.specs.Requests.{stream, accepted_tokens, accepted_text};
 ghost use Rattle.rowan.specs.Run.{Run};
 
 pub use rowan_cursor::laws as cursor;
@@ -20,8 +20,8 @@ pub use rowan_green::laws as green;
 /// as each cache does, it keeps what is first seen of these followed by the stream, and a cache that kept nothing what is first
 /// seen of the stream.
 pub fn cache_keeps_the_stream()
-    ensures asked { (old new : BuilderValue) (calls : List Call) (outcomes : List Outcome)
-        (run : Run old calls outcomes new) → new.cache ≡ asked_for old.cache (stream run.words) }
+    ensures cache { (old new : BuilderValue) (calls : List Call) (outcomes : List Outcome)
+        (run : Run old calls outcomes new) → new.cache ≡ intern_all old.cache (stream run.words) }
     ensures first { (old new : BuilderValue) (calls : List Call) (outcomes : List Outcome)
         (run : Run old calls outcomes new)
         → first_seen old.cache.limit old.cache.seen ≡ old.cache.seen
@@ -40,7 +40,7 @@ pub fn word_is_independent_of_the_cache()
         → Run old calls outcomes new
         → Run old' calls outcomes new'
         → new.word ≡ new'.word }
-    ensures asked { (old old' new new' : BuilderValue) (calls : List Call) (outcomes : List Outcome)
+    ensures cache { (old old' new new' : BuilderValue) (calls : List Call) (outcomes : List Outcome)
         (run : Run old calls outcomes new) (run' : Run old' calls outcomes new')
         → old.word ≡ old'.word
         → stream run.words ≡ stream run'.words }

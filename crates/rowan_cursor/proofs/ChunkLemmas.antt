@@ -14,7 +14,7 @@ use Rattle.rowan_green.specs.Term.{NodeTerm, TokenTerm, Term}
 use Rattle.rowan_green.specs.Path.{Path, subterm, offset, len_of, text_of, begins}
 use Rattle.rowan_cursor.specs.declared.table.Table.{Table}
 use Rattle.rowan_cursor.specs.declared.table.chunks.ChunkWalk.{ChunkWalk}
-use Rattle.rowan_cursor.specs.Chunks.{texts_at, leaves_left, texts_left, IsTokenInside, MayCut, IsWalk, slice_of}
+use Rattle.rowan_cursor.specs.Chunks.{texts_at, remaining_leaves, remaining_texts, IsTokenInside, MayCut, IsWalk, slice_of}
 use Rattle.rowan_cursor.specs.Moves.{children_of, is_node, is_node_at, first_at}
 use Rattle.rowan_cursor.specs.Pass.{of_some, after, since, since_child, leaf_list, first_inside}
 use Rattle.rowan_cursor.specs.SyntaxText.{token_texts, meets, common_part, cut_chunks, IsBorder, IsTextSlice}
@@ -56,13 +56,13 @@ token-left root top p c e h inside =
     ∙ ap (λ us. p ∷ filter (begins top) us) (sym none)
 
 -- the text of a token is the first of what is left at it
-pub texts_left-token : (table : Table) (top n : ℕ) (next : Option ℕ) (t : TokenTerm) → leaves_left table top (Some n) ≡ path_at table n ∷ leaves_left table top next → subterm (Node (root_of table)) (path_at table n) ≡ Some (Token t) → texts_left table top (Some n) ≡ t.text ∷ texts_left table top next
-texts_left-token table top n next t left at =
-    ap (texts_at (root_of table)) left ∙ ap (λ u. text_of u ∷ texts_left table top next) at
+pub remaining_texts-token : (table : Table) (top n : ℕ) (next : Option ℕ) (t : TokenTerm) → remaining_leaves table top (Some n) ≡ path_at table n ∷ remaining_leaves table top next → subterm (Node (root_of table)) (path_at table n) ≡ Some (Token t) → remaining_texts table top (Some n) ≡ t.text ∷ remaining_texts table top next
+remaining_texts-token table top n next t left at =
+    ap (texts_at (root_of table)) left ∙ ap (λ u. text_of u ∷ remaining_texts table top next) at
 
-pub texts_left-step : (table : Table) (top n : ℕ) (here next : Option ℕ) (t : TokenTerm) (text : List ℕ) → here ≡ Some n → leaves_left table top (Some n) ≡ path_at table n ∷ leaves_left table top next → subterm (Node (root_of table)) (path_at table n) ≡ Some (Token t) → text ≡ t.text → texts_left table top here ≡ text ∷ texts_left table top next
-texts_left-step table top n here next t text is left at same =
-    ap (texts_left table top) is ∙ texts_left-token table top n next t left at ∙ ap (λ u. u ∷ texts_left table top next) (sym same)
+pub remaining_texts-step : (table : Table) (top n : ℕ) (here next : Option ℕ) (t : TokenTerm) (text : List ℕ) → here ≡ Some n → remaining_leaves table top (Some n) ≡ path_at table n ∷ remaining_leaves table top next → subterm (Node (root_of table)) (path_at table n) ≡ Some (Token t) → text ≡ t.text → remaining_texts table top here ≡ text ∷ remaining_texts table top next
+remaining_texts-step table top n here next t text is left at same =
+    ap (remaining_texts table top) is ∙ remaining_texts-token table top n next t left at ∙ ap (λ u. u ∷ remaining_texts table top next) (sym same)
 
 -- Chunks that are left.
 pub chunks-skip : (range : Span) (at : ℕ) (text : List ℕ) (texts : List (List ℕ)) → meets range at text ≡ false → cut_chunks range at (text ∷ texts) ≡ cut_chunks range (at + length text) texts
@@ -104,17 +104,17 @@ len-text : (t : Option Term) → length (text_of t) ≡ len_of t
 len-text None = refl
 len-text (Some t) = refl
 
-pub texts_left-start : (table : Table) (top : ℕ) (next : Option ℕ) → leaves_left table top next ≡ leaves_left table top (Some top) → texts_left table top next ≡ token_texts (subterm (Node (root_of table)) (path_at table top))
-texts_left-start table top next left =
+pub remaining_texts-start : (table : Table) (top : ℕ) (next : Option ℕ) → remaining_leaves table top next ≡ remaining_leaves table top (Some top) → remaining_texts table top next ≡ token_texts (subterm (Node (root_of table)) (path_at table top))
+remaining_texts-start table top next left =
     ap (texts_at (root_of table)) (left ∙ inside-own (root_of table) (path_at table top)) ∙ texts_at-below (root_of table) (path_at table top)
 
-pub walk_start : (table : Table) → (walk : ChunkWalk) → IsWithin table walk.node → IsTextSlice (slice_of table walk.node walk.range) → IfSome walk.next (IsTokenInside table walk.node) → leaves_left table walk.node walk.next ≡ leaves_left table walk.node (Some walk.node) → walk.at ≡ offset (Node (root_of table)) (path_at table walk.node) → IsWalk table walk
+pub walk_start : (table : Table) → (walk : ChunkWalk) → IsWithin table walk.node → IsTextSlice (slice_of table walk.node walk.range) → IfSome walk.next (IsTokenInside table walk.node) → remaining_leaves table walk.node walk.next ≡ remaining_leaves table walk.node (Some walk.node) → walk.at ≡ offset (Node (root_of table)) (path_at table walk.node) → IsWalk table walk
 walk_start table walk within slice token left at =
     let e = slice_get-some table.entries.items walk.node within in
     let entry = is_entry table.entries.items table.complete walk.node e.0 e.1 in
     let u = subterm (Node (root_of table)) (path_at table walk.node) in
-    let text : concat (texts_left table walk.node walk.next) ≡ text_of u = ap concat (texts_left-start table walk.node walk.next left) ∙ text-tokens u in
-    let cut : (o : ℕ) → IsBorder (text_of u) (o - offset (Node (root_of table)) (path_at table walk.node)) → MayCut (concat (texts_left table walk.node walk.next)) walk.at o =
+    let text : concat (remaining_texts table walk.node walk.next) ≡ text_of u = ap concat (remaining_texts-start table walk.node walk.next left) ∙ text-tokens u in
+    let cut : (o : ℕ) → IsBorder (text_of u) (o - offset (Node (root_of table)) (path_at table walk.node)) → MayCut (concat (remaining_texts table walk.node walk.next)) walk.at o =
     λ o b. record { border = λ l h. subst (λ v. IsCharBoundary v (o - walk.at)) (sym text) (subst (λ a. IsBorder (text_of u) (o - a)) (sym at) b (omega arith)) } in
     record {
       within = within;
@@ -125,10 +125,10 @@ walk_start table walk within slice token left at =
     }
 
 -- A step of a walk.
-pub walk_step : (table : Table) (walk : ChunkWalk) (next : Option ℕ) (at : ℕ) (text : List ℕ) → IsWalk table walk → texts_left table walk.node walk.next ≡ text ∷ texts_left table walk.node next → IfSome next (IsTokenInside table walk.node) → at ≡ walk.at + length text → IsWalk table (record walk { next = next; at = at })
+pub walk_step : (table : Table) (walk : ChunkWalk) (next : Option ℕ) (at : ℕ) (text : List ℕ) → IsWalk table walk → remaining_texts table walk.node walk.next ≡ text ∷ remaining_texts table walk.node next → IfSome next (IsTokenInside table walk.node) → at ≡ walk.at + length text → IsWalk table (record walk { next = next; at = at })
 walk_step table walk next at text w left token there =
-    let rest = concat (texts_left table walk.node next) in
-    let cut : (o : ℕ) → MayCut (concat (texts_left table walk.node walk.next)) walk.at o → MayCut rest at o =
+    let rest = concat (remaining_texts table walk.node next) in
+    let cut : (o : ℕ) → MayCut (concat (remaining_texts table walk.node walk.next)) walk.at o → MayCut rest at o =
     λ o m. subst (λ a. MayCut rest a o) (sym there) (cut-back text rest walk.at o (subst (λ ts. MayCut (concat ts) walk.at o) left m)) in
     record {
       within = w.within;
@@ -138,11 +138,11 @@ walk_step table walk next at text w left token there =
       end_cut = cut walk.range.end w.end_cut;
     }
 
-pub cut_here : (table : Table) (o : ℕ) (walk : ChunkWalk) (text : List ℕ) (texts : List (List ℕ)) → MayCut (concat (texts_left table walk.node walk.next)) walk.at o → texts_left table walk.node walk.next ≡ text ∷ texts → MayCut text walk.at o
+pub cut_here : (table : Table) (o : ℕ) (walk : ChunkWalk) (text : List ℕ) (texts : List (List ℕ)) → MayCut (concat (remaining_texts table walk.node walk.next)) walk.at o → remaining_texts table walk.node walk.next ≡ text ∷ texts → MayCut text walk.at o
 cut_here table o walk text texts m left =
     cut-front text (concat texts) walk.at o (subst (λ ts. MayCut (concat ts) walk.at o) left m)
 
-pub fits_here : (table : Table) (walk : ChunkWalk) (text : List ℕ) (texts : List (List ℕ)) → IsWalk table walk → texts_left table walk.node walk.next ≡ text ∷ texts → walk.at + length text ≤ byte_limit
+pub fits_here : (table : Table) (walk : ChunkWalk) (text : List ℕ) (texts : List (List ℕ)) → IsWalk table walk → remaining_texts table walk.node walk.next ≡ text ∷ texts → walk.at + length text ≤ byte_limit
 fits_here table walk text texts w left =
     omega (arith, w.limit, ap (λ ts. length (concat ts)) left, length-append text (concat texts))
 

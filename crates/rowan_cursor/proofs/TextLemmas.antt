@@ -6,14 +6,14 @@ use Rattle.std.proofs.lemmas.List.{map-append}
 use Rattle.std.proofs.lemmas.Simd.{map-map}
 use Rattle.rowan_green.specs.declared.utility_types.NodeOrToken.TheVariants.{Node, Token}
 use Rattle.rowan_green.specs.Term.{NodeTerm, node, Forest, empty, node_then, token_then, Term, terms}
-use Rattle.rowan_green.specs.Path.{Path, Leaf, subterm_of, subterm, text_of, below_place, node_leaves, leaves_from, leaves, tokens}
+use Rattle.rowan_green.specs.Path.{Path, LeafAt, subterm_of, subterm, text_of, below_place, node_leaves, leaves_from, leaves, tokens}
 use Rattle.rowan_cursor.specs.Pass.{leaf_list, of_some}
 use Rattle.rowan_cursor.specs.SyntaxText.{token_texts}
 use Rattle.rowan_cursor.specs.Chunks.{texts_at}
 use Rattle.rowan_green.proofs.LeafLaws.{text-tokens as joined_tokens}
 use Rattle.rowan_cursor.proofs.PathLemmas.{subterm_of-append}
 
-abbrev texts_of : List Leaf → List (List ℕ)
+abbrev texts_of : List LeafAt → List (List ℕ)
 texts_of ls = map (λ l. l.1.text) ls
 
 -- one function in place of another on a list

@@ -9,12 +9,12 @@ use Rattle.rowan_cursor.specs.declared.cursor.remainder.Remainder.TheVariants.{W
 use Rattle.rowan_cursor.specs.declared.cursor.traversal.Traversal.{Traversal}
 use Rattle.rowan_cursor.specs.declared.table.Table.{Table}
 use Rattle.rowan_cursor.specs.Cursor.{Cursor}
-use Rattle.rowan_cursor.specs.Events.{NextStays, event_of, events_left}
+use Rattle.rowan_cursor.specs.Events.{NextStays, event_of, remaining_events}
 use Rattle.rowan_cursor.specs.Moves.{Element, cursor_at, element_at, is_node_at, parent_path}
 use Rattle.rowan_cursor.specs.Preorder.{event_map, events_of_nodes, entered_by, descendant_paths, skip}
 use Rattle.rowan_cursor.specs.TablePass.{StandsInside}
 use Rattle.rowan_cursor.specs.TableView.{root_of, path_at, cursor_of, element_of, stands_for_node}
-use Rattle.rowan_cursor.specs.TraversalView.{root_of_traversal, path_events_left, node_path_events_left, traversal_events, traversal_node_events}
+use Rattle.rowan_cursor.specs.TraversalView.{root_of_traversal, remaining_path_events, remaining_node_path_events, traversal_events, traversal_node_events}
 use Rattle.rowan_cursor.specs.Walks.{rest_of}
 use Rattle.rowan_cursor.specs.Yields.{YieldsOrRefuses}
 use Rattle.rowan_cursor.proofs.TokenLemmas.{apart_paths, parent-inside}
@@ -23,7 +23,7 @@ use Rattle.rowan_cursor.proofs.EventLemmas.{whole, skip-start, skip-enter, skip-
 
 -- ---- a walk that is to enter its start
 
-pub start-entered : (t : Table) (start : ℕ) → entered_by (events_left t start (Some (Enter start))) ≡ descendant_paths (root_of t) (path_at t start)
+pub start-entered : (t : Table) (start : ℕ) → entered_by (remaining_events t start (Some (Enter start))) ≡ descendant_paths (root_of t) (path_at t start)
 start-entered t start =
     let root = root_of t in
     let top = path_at t start in
@@ -47,24 +47,24 @@ event-first f old new es fs event item tables first shown =
     ∙ ap (λ t. item ∷ map (event_map (f (root_of t.value))) fs) (sym tables)
 
 pub element_event-yields : (old new : Traversal) (event : WalkEvent ℕ) (rest : Remainder Traversal) (item : WalkEvent Element)
-    → rest ≡ Walk old → new.table ≡ old.table → path_events_left old ≡ event_of old.table.value event ∷ path_events_left new
+    → rest ≡ Walk old → new.table ≡ old.table → remaining_path_events old ≡ event_of old.table.value event ∷ remaining_path_events new
     → item ≡ event_map (element_of new.table.value) event
     → YieldsOrRefuses (rest_of traversal_events rest) (Some (Ok item)) (Ok (traversal_events new))
 element_event-yields old new event rest item e tables first shown =
-    rw e (traversal_events new, event-first element_at old new (path_events_left old) (path_events_left new) event item tables first shown, refl)
+    rw e (traversal_events new, event-first element_at old new (remaining_path_events old) (remaining_path_events new) event item tables first shown, refl)
 
 pub node_event-yields : (old new : Traversal) (event : WalkEvent ℕ) (rest : Remainder Traversal) (item : WalkEvent Cursor)
-    → rest ≡ Walk old → new.table ≡ old.table → node_path_events_left old ≡ event_of old.table.value event ∷ node_path_events_left new
+    → rest ≡ Walk old → new.table ≡ old.table → remaining_node_path_events old ≡ event_of old.table.value event ∷ remaining_node_path_events new
     → item ≡ event_map (cursor_of new.table.value) event
     → YieldsOrRefuses (rest_of traversal_node_events rest) (Some (Ok item)) (Ok (traversal_node_events new))
 node_event-yields old new event rest item e tables first shown =
-    rw e (traversal_node_events new, event-first cursor_at old new (node_path_events_left old) (node_path_events_left new) event item tables first shown, refl)
+    rw e (traversal_node_events new, event-first cursor_at old new (remaining_node_path_events old) (remaining_node_path_events new) event item tables first shown, refl)
 
 -- ---- skips
 
 -- before the start nothing is skipped
 skip-before : (t : Table) (start number : ℕ) (next : Option (WalkEvent ℕ)) (k : Path → Bool) → next ≡ Some (Enter number) → number ≡ start
-    → skip (kept k (events_left t start next)) ≡ kept k (events_left t start next)
+    → skip (kept k (remaining_events t start next)) ≡ kept k (remaining_events t start next)
 skip-before t start number next k e same =
     let f : next ≡ Some (Enter start) = e ∙ ap (λ n. Some (Enter n)) same in
     rw f (skip-start (root_of t) (path_at t start) k)
@@ -73,7 +73,7 @@ skip-before t start number next k e same =
 skip-to-parent : (t : Table) (start number parent : ℕ) (next : Option (WalkEvent ℕ)) (k : Path → Bool) → next ≡ Some (Enter number)
     → NextStays t start next → number ≢ start
     → Some (path_at t parent) ≡ parent_path (path_at t number) → k (path_at t parent) ≡ true
-    → skip (kept k (events_left t start next)) ≡ kept k (events_left t start (Some (Leave parent)))
+    → skip (kept k (remaining_events t start next)) ≡ kept k (remaining_events t start (Some (Leave parent)))
 skip-to-parent t start number parent next k e inside apart above own =
     let at : StandsInside t start number = subst (λ o. NextStays t start o) e inside in
     rw e (skip-enter (root_of t) (path_at t start) (path_at t number) (path_at t parent) k at.inside (apart_paths t.entries.items t.complete number start at.within at.top_within apart) above own)
@@ -91,29 +91,29 @@ shown f es fs h = sym (skip-map f es ∙ ap (map (event_map f)) h)
 
 pub skip_before-elements : (w : Traversal) (number : ℕ) → w.next ≡ Some (Enter number) → number ≡ w.start → traversal_events w ≡ skip (traversal_events w)
 skip_before-elements w number e same =
-    let all = all_kept (path_events_left w) in
-    shown (element_at (root_of_traversal w)) (path_events_left w) (path_events_left w) (ap skip (sym all) ∙ skip-before w.table.value w.start number w.next (λ p. true) e same ∙ all)
+    let all = all_kept (remaining_path_events w) in
+    shown (element_at (root_of_traversal w)) (remaining_path_events w) (remaining_path_events w) (ap skip (sym all) ∙ skip-before w.table.value w.start number w.next (λ p. true) e same ∙ all)
 
 pub skip_before-nodes : (w : Traversal) (number : ℕ) → w.next ≡ Some (Enter number) → number ≡ w.start → traversal_node_events w ≡ skip (traversal_node_events w)
 skip_before-nodes w number e same =
-    let nodes = events_of_nodes (root_of_traversal w) (path_events_left w) in
+    let nodes = events_of_nodes (root_of_traversal w) (remaining_path_events w) in
     shown (cursor_at (root_of_traversal w)) nodes nodes (skip-before w.table.value w.start number w.next (is_node_at (root_of_traversal w)) e same)
 
 pub skip_to_parent-elements : (w : Traversal) (number parent : ℕ) → w.next ≡ Some (Enter number) → number ≢ w.start
     → Some (path_at w.table.value parent) ≡ parent_path (path_at w.table.value number)
-    → map (event_map (element_at (root_of_traversal w))) (events_left w.table.value w.start (Some (Leave parent))) ≡ skip (traversal_events w)
+    → map (event_map (element_at (root_of_traversal w))) (remaining_events w.table.value w.start (Some (Leave parent))) ≡ skip (traversal_events w)
 skip_to_parent-elements w number parent e apart above =
-    let now = events_left w.table.value w.start (Some (Leave parent)) in
-    let skipped = ap skip (sym (all_kept (path_events_left w))) ∙ skip-to-parent w.table.value w.start number parent w.next (λ p. true) e w.inside apart above refl ∙ all_kept now in
-    shown (element_at (root_of_traversal w)) (path_events_left w) now skipped
+    let now = remaining_events w.table.value w.start (Some (Leave parent)) in
+    let skipped = ap skip (sym (all_kept (remaining_path_events w))) ∙ skip-to-parent w.table.value w.start number parent w.next (λ p. true) e w.inside apart above refl ∙ all_kept now in
+    shown (element_at (root_of_traversal w)) (remaining_path_events w) now skipped
 
 pub skip_to_parent-nodes : (w : Traversal) (number parent : ℕ) → w.next ≡ Some (Enter number) → number ≢ w.start
     → Some (path_at w.table.value parent) ≡ parent_path (path_at w.table.value number) → stands_for_node w.table.value parent ≡ true
-    → map (event_map (cursor_at (root_of_traversal w))) (events_of_nodes (root_of_traversal w) (events_left w.table.value w.start (Some (Leave parent)))) ≡ skip (traversal_node_events w)
+    → map (event_map (cursor_at (root_of_traversal w))) (events_of_nodes (root_of_traversal w) (remaining_events w.table.value w.start (Some (Leave parent)))) ≡ skip (traversal_node_events w)
 skip_to_parent-nodes w number parent e apart above own =
-    let now = events_left w.table.value w.start (Some (Leave parent)) in
+    let now = remaining_events w.table.value w.start (Some (Leave parent)) in
     let root = root_of_traversal w in
-    shown (cursor_at root) (events_of_nodes root (path_events_left w)) (events_of_nodes root now) (skip-to-parent w.table.value w.start number parent w.next (is_node_at root) e w.inside apart above own)
+    shown (cursor_at root) (events_of_nodes root (remaining_path_events w)) (events_of_nodes root now) (skip-to-parent w.table.value w.start number parent w.next (is_node_at root) e w.inside apart above own)
 
 -- the parent of what is inside, and not the start, is inside
 pub inside-above : (t : Table) (start number parent : ℕ) (next : Option (WalkEvent ℕ)) → next ≡ Some (Enter number)

@@ -19,15 +19,15 @@ abbrev pub texts_at : NodeTerm → List Path → List (List ℕ)
 texts_at root paths = map (λ q. text_of (subterm (Node root) q)) paths
 
 -- the leaves inside the element with the number top, from another element on
-abbrev pub leaves_left : Table → ℕ → Option ℕ → List Path
-leaves_left table top None = []
-leaves_left table top (Some n) =
+abbrev pub remaining_leaves : Table → ℕ → Option ℕ → List Path
+remaining_leaves table top None = []
+remaining_leaves table top (Some n) =
     filter (begins (path_at table top))
     (since leaf_list (Some (Node (root_of table))) (path_at table n))
 
 -- the texts of these leaves
-abbrev pub texts_left : Table → ℕ → Option ℕ → List (List ℕ)
-texts_left table top next = texts_at (root_of table) (leaves_left table top next)
+abbrev pub remaining_texts : Table → ℕ → Option ℕ → List (List ℕ)
+remaining_texts table top next = texts_at (root_of table) (remaining_leaves table top next)
 
 -- a token has this number, and is inside the element with the number top
 pub record IsTokenInside (table : Table) (top n : ℕ) : Type 0 where
@@ -42,13 +42,13 @@ pub record MayCut (text : List ℕ) (at offset : ℕ) : Type 0 where
 pub record IsWalk (table : Table) (walk : ChunkWalk) : Type 0 where
   pub within : IsWithin table walk.node
   pub token : IfSome walk.next (IsTokenInside table walk.node)
-  pub limit : walk.at + length (concat (texts_left table walk.node walk.next)) ≤ byte_limit
-  pub start_cut : MayCut (concat (texts_left table walk.node walk.next)) walk.at walk.range.start
-  pub end_cut : MayCut (concat (texts_left table walk.node walk.next)) walk.at walk.range.end
+  pub limit : walk.at + length (concat (remaining_texts table walk.node walk.next)) ≤ byte_limit
+  pub start_cut : MayCut (concat (remaining_texts table walk.node walk.next)) walk.at walk.range.start
+  pub end_cut : MayCut (concat (remaining_texts table walk.node walk.next)) walk.at walk.range.end
 
 -- the chunks that are still to come
-abbrev pub chunks_left : Table → ChunkWalk → List (List ℕ)
-chunks_left table walk = cut_chunks walk.range walk.at (texts_left table walk.node walk.next)
+abbrev pub remaining_chunks : Table → ChunkWalk → List (List ℕ)
+remaining_chunks table walk = cut_chunks walk.range walk.at (remaining_texts table walk.node walk.next)
 
 -- a range of the text of the node with this number, as a slice
 abbrev pub slice_of : Table → ℕ → Span → TextSlice

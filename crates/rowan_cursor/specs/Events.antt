@@ -41,9 +41,9 @@ abbrev pub event_of : Table → WalkEvent ℕ → WalkEvent Path
 event_of t e = event_map (path_at t) e
 
 -- the events from this one on, which is given by the number of its element
-abbrev pub events_left : Table → ℕ → Option (WalkEvent ℕ) → List (WalkEvent Path)
-events_left t start None = []
-events_left t start (Some e) = events_on (root_of t) (path_at t start) (event_of t e)
+abbrev pub remaining_events : Table → ℕ → Option (WalkEvent ℕ) → List (WalkEvent Path)
+remaining_events t start None = []
+remaining_events t start (Some e) = events_on (root_of t) (path_at t start) (event_of t e)
 
 -- the next event, where there is one, is of the start or of what is below it
 abbrev pub NextStays : Table → ℕ → Option (WalkEvent ℕ) → Type 0

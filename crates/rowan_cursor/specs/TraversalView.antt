@@ -7,7 +7,7 @@ use Rattle.rowan_cursor.specs.declared.cursor.remainder.Remainder.{Remainder}
 use Rattle.rowan_cursor.specs.declared.cursor.remainder.Remainder.TheVariants.{Walk, Refusal, Nothing}
 use Rattle.rowan_cursor.specs.declared.cursor.traversal.Traversal.{Traversal}
 use Rattle.rowan_cursor.specs.Cursor.{Cursor}
-use Rattle.rowan_cursor.specs.Events.{events_left, LeavesNoToken}
+use Rattle.rowan_cursor.specs.Events.{remaining_events, LeavesNoToken}
 use Rattle.rowan_cursor.specs.Moves.{Element, cursor_at, element_at, nodes_at}
 use Rattle.rowan_cursor.specs.Preorder.{event_map, events_of_nodes, entered_by}
 use Rattle.rowan_cursor.specs.TableView.{root_of}
@@ -16,16 +16,16 @@ abbrev pub root_of_traversal : Traversal → NodeTerm
 root_of_traversal t = root_of t.table.value
 
 -- the events that are left, by their paths
-abbrev pub path_events_left : Traversal → List (WalkEvent Path)
-path_events_left t = events_left t.table.value t.start t.next
+abbrev pub remaining_path_events : Traversal → List (WalkEvent Path)
+remaining_path_events t = remaining_events t.table.value t.start t.next
 
 -- of these, those of nodes
-abbrev pub node_path_events_left : Traversal → List (WalkEvent Path)
-node_path_events_left t = events_of_nodes (root_of_traversal t) (path_events_left t)
+abbrev pub remaining_node_path_events : Traversal → List (WalkEvent Path)
+remaining_node_path_events t = events_of_nodes (root_of_traversal t) (remaining_path_events t)
 
 -- the paths that are still to be entered
 abbrev pub paths_entered : Traversal → List Path
-paths_entered t = entered_by (path_events_left t)
+paths_entered t = entered_by (remaining_path_events t)
 
 -- of these, those of nodes
 abbrev pub node_paths_entered : Traversal → List Path
@@ -33,12 +33,12 @@ node_paths_entered t = nodes_at (root_of_traversal t) (paths_entered t)
 
 -- the events
 abbrev pub traversal_events : Traversal → List (WalkEvent Element)
-traversal_events t = map (event_map (element_at (root_of_traversal t))) (path_events_left t)
+traversal_events t = map (event_map (element_at (root_of_traversal t))) (remaining_path_events t)
 
 -- the events of nodes
 abbrev pub traversal_node_events : Traversal → List (WalkEvent Cursor)
 traversal_node_events t =
-    map (event_map (cursor_at (root_of_traversal t))) (node_path_events_left t)
+    map (event_map (cursor_at (root_of_traversal t))) (remaining_node_path_events t)
 
 -- the elements that are still to be entered
 abbrev pub traversal_elements : Traversal → List Element

@@ -43,7 +43,7 @@ pub(crate) struct Table {
 impl Table {
     ghost use Rattle.std.specs.Prelude.{◌≡◌, ◌+◌, ◌<◌, None, IfOk, IfSome, IfNone, Some, reverse, slice_get};
     ghost use Rattle.rowan_green.specs.Lent.{pointee};
-    ghost use Rattle.rowan_cursor.specs.Chunks.{IsTokenInside, leaves_left};
+    ghost use Rattle.rowan_cursor.specs.Chunks.{IsTokenInside, remaining_leaves};
     ghost use Rattle.rowan_cursor.specs.Cursor.{StandsAt, StandsAtToken, term_at, index, text_range};
     ghost use Rattle.rowan_cursor.specs.Equal.{start_of};
     ghost use Rattle.rowan_cursor.specs.Moves.{parent_path, first_at, first_node_at, first_leaf_path, last_leaf_path, next_leaf_path, prev_leaf_path};
@@ -433,7 +433,8 @@ impl Table {
         requires { StandsInside self.now top start }
         ensures found { LeadsToToken self.now result (first_token_from self.now top start) }
         ensures inside { IfSome result (IsTokenInside self.now top) }
-        ensures left { leaves_left self.now top result ≡ leaves_left self.now top (Some start) }
+        ensures left { remaining_leaves self.now top result
+            ≡ remaining_leaves self.now top (Some start) }
     {
         let mut number = start;
         while self.is_node(number) {

@@ -11,7 +11,7 @@ use Rattle.std.proofs.lemmas.List.Sums.{fold-append}
 use Rattle.std.proofs.lemmas.Map.Views.{list_any-from_Contains, Contains-from_any}
 use Rattle.rowan_green.specs.Term.{Term}
 use Rattle.rowan_green.specs.Same.{same_term, same_term-decides}
-use Rattle.rowan_green.specs.Cache.{CacheValue, asked, is_eligible, is_among, with_term, first_seen, Continues}
+use Rattle.rowan_green.specs.Cache.{CacheValue, intern, is_eligible, is_among, with_term, first_seen, Continues}
 
 -- ---- places in a list
 
@@ -180,12 +180,12 @@ first_seen-Contains limit ts t = (
 
 -- ---- a cache that was asked for a term
 
-pub asked-known : (cache : CacheValue) (place : ℕ) (t : Term) → slice_get cache.seen place ≡ Some t → cache ≡ asked cache t
-asked-known cache place t e =
+pub intern-known : (cache : CacheValue) (place : ℕ) (t : Term) → slice_get cache.seen place ≡ Some t → cache ≡ intern cache t
+intern-known cache place t e =
     ap (λ ts. record { limit = cache.limit; seen = ts }) (sym (with_term-known cache.limit cache.seen t (is_among-at cache.seen place t e)))
 
-pub asked-ineligible : (cache : CacheValue) (t : Term) → is_eligible cache.limit t ≡ false → cache ≡ asked cache t
-asked-ineligible cache t e = ap (λ ts. record { limit = cache.limit; seen = ts }) (sym (with_term-ineligible cache.limit cache.seen t e))
+pub intern-ineligible : (cache : CacheValue) (t : Term) → is_eligible cache.limit t ≡ false → cache ≡ intern cache t
+intern-ineligible cache t e = ap (λ ts. record { limit = cache.limit; seen = ts }) (sym (with_term-ineligible cache.limit cache.seen t e))
 
-pub asked-fresh : (cache : CacheValue) (t : Term) → is_eligible cache.limit t ≡ true → is_among cache.seen t ≡ false → record { limit = cache.limit; seen = cache.seen ++ t ∷ [] } ≡ asked cache t
-asked-fresh cache t fit fresh = ap (λ ts. record { limit = cache.limit; seen = ts }) (sym (with_term-fresh cache.limit cache.seen t fit fresh))
+pub intern-fresh : (cache : CacheValue) (t : Term) → is_eligible cache.limit t ≡ true → is_among cache.seen t ≡ false → record { limit = cache.limit; seen = cache.seen ++ t ∷ [] } ≡ intern cache t
+intern-fresh cache t fit fresh = ap (λ ts. record { limit = cache.limit; seen = ts }) (sym (with_term-fresh cache.limit cache.seen t fit fresh))

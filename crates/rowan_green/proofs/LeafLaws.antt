@@ -5,28 +5,28 @@ use Rattle.std.proofs.lemmas.Grind.{flat_map-append}
 use Rattle.std.proofs.lemmas.List.{append-nil, map-append}
 use Rattle.rowan_green.specs.declared.utility_types.NodeOrToken.TheVariants.{Node, Token}
 use Rattle.rowan_green.specs.Term.{TokenTerm, NodeTerm, node, Forest, empty, node_then, token_then, Term, term_text}
-use Rattle.rowan_green.specs.Path.{Leaf, below_place, node_leaves, leaves_from, tokens}
-use Rattle.rowan_green.specs.Word.{Symbol, Open, Leaf as LeafOf, Close, node_word, forest_word, Item, Bare, Whole, spelled, HasParts, whole_terms, HasTerms, IsFinished, Closes, Wraps, word_text, word_tokens}
+use Rattle.rowan_green.specs.Path.{LeafAt, below_place, node_leaves, leaves_from, tokens}
+use Rattle.rowan_green.specs.Word.{Symbol, Open, Leaf, Close, node_word, forest_word, Item, Bare, Whole, spelled, HasParts, whole_terms, HasTerms, IsFinished, Closes, Wraps, word_text, word_tokens}
 use Rattle.rowan_green.proofs.WeaveLemmas.{whole_terms-append, whole_terms-map, whole_terms-open}
 use Rattle.rowan_green.proofs.Words.{word_text-node}
 
 pub word_tokens-append : (v w : List Symbol) → word_tokens (v ++ w) ≡ word_tokens v ++ word_tokens w
 word_tokens-append [] w = refl
 word_tokens-append (Open k ∷ v) w = word_tokens-append v w
-word_tokens-append (LeafOf t ∷ v) w = ap (λ ts. t ∷ ts) (word_tokens-append v w)
+word_tokens-append (Leaf t ∷ v) w = ap (λ ts. t ∷ ts) (word_tokens-append v w)
 word_tokens-append (Close ∷ v) w = word_tokens-append v w
 
 -- the text of a word is the texts of its tokens
 pub word_text-tokens : (w : List Symbol) → word_text w ≡ flat_map (λ t. t.text) (word_tokens w)
 word_text-tokens [] = refl
 word_text-tokens (Open k ∷ w) = word_text-tokens w
-word_text-tokens (LeafOf t ∷ w) = ap (λ bs. t.text ++ bs) (word_text-tokens w)
+word_text-tokens (Leaf t ∷ w) = ap (λ bs. t.text ++ bs) (word_text-tokens w)
 word_text-tokens (Close ∷ w) = word_text-tokens w
 
-abbrev tokens_of : List Leaf → List TokenTerm
+abbrev tokens_of : List LeafAt → List TokenTerm
 tokens_of ls = map (λ l. l.1) ls
 
-tokens-below : (i : ℕ) (ls : List Leaf) → tokens_of (map (below_place i) ls) ≡ tokens_of ls
+tokens-below : (i : ℕ) (ls : List LeafAt) → tokens_of (map (below_place i) ls) ≡ tokens_of ls
 tokens-below i [] = refl
 tokens-below i (l ∷ ls) = ap (λ ts. l.1 ∷ ts) (tokens-below i ls)
 
@@ -70,8 +70,8 @@ tokens-finished w n h = word_tokens-terms w (Node n ∷ []) h ∙ append-nil (to
 
 -- ---- with each call of a builder
 
-pub tokens-leaf : (v w : List Symbol) (t : TokenTerm) → w ≡ v ++ LeafOf t ∷ [] → word_tokens w ≡ word_tokens v ++ t ∷ []
-tokens-leaf v w t e = ap word_tokens e ∙ word_tokens-append v (LeafOf t ∷ [])
+pub tokens-leaf : (v w : List Symbol) (t : TokenTerm) → w ≡ v ++ Leaf t ∷ [] → word_tokens w ≡ word_tokens v ++ t ∷ []
+tokens-leaf v w t e = ap word_tokens e ∙ word_tokens-append v (Leaf t ∷ [])
 
 pub tokens-open : (v w : List Symbol) (k : ℕ) → w ≡ v ++ Open k ∷ [] → word_tokens w ≡ word_tokens v
 tokens-open v w k e = ap word_tokens e ∙ word_tokens-append v (Open k ∷ []) ∙ append-nil (word_tokens v)

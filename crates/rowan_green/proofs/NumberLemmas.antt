@@ -7,7 +7,7 @@ use Rattle.std.proofs.lemmas.List.{length-map}
 use Rattle.rowan_green.specs.declared.node_cache.Interned.{Interned}
 use Rattle.rowan_green.specs.declared.utility_types.NodeOrToken.TheVariants.{Node, Token}
 use Rattle.rowan_green.specs.Term.{Term, forest, node_of}
-use Rattle.rowan_green.specs.Cache.{CacheValue, asked, is_eligible, is_eligible_forest, HasNumber, IsNumbered, AreNumbered, elements, all_have_numbers, ListsNumbers, gets_number, Continues}
+use Rattle.rowan_green.specs.Cache.{CacheValue, intern, is_eligible, is_eligible_forest, HasNumber, IsNumbered, AreNumbered, elements, all_have_numbers, ListsNumbers, gets_number, Continues}
 use Rattle.rowan_green.specs.Tables.{StandAt}
 use Rattle.rowan_green.proofs.CacheLemmas.{slice_get-grown, Continues-with_term}
 use Rattle.rowan_green.proofs.Terms.{terms-forest}
@@ -17,17 +17,17 @@ use Rattle.rowan_green.proofs.Terms.{terms-forest}
 slice_get-continues : (seen later : List Term) (n : ℕ) (t : Term) → Continues seen later → slice_get seen n ≡ Some t → slice_get later n ≡ Some t
 slice_get-continues seen later n t more e = rw more.goes_on (slice_get-grown seen more.more n t e)
 
-pub HasNumber-asked : (cache : CacheValue) (u t : Term) (number : Option ℕ) → HasNumber cache t number → HasNumber (asked cache u) t number
-HasNumber-asked cache u t None h = h
-HasNumber-asked cache u t (Some n) h =
-    (h.0, slice_get-continues cache.seen (asked cache u).seen n t (Continues-with_term cache.limit cache.seen u) h.1)
+pub HasNumber-intern : (cache : CacheValue) (u t : Term) (number : Option ℕ) → HasNumber cache t number → HasNumber (intern cache u) t number
+HasNumber-intern cache u t None h = h
+HasNumber-intern cache u t (Some n) h =
+    (h.0, slice_get-continues cache.seen (intern cache u).seen n t (Continues-with_term cache.limit cache.seen u) h.1)
 
-pub IsNumbered-asked : (cache : CacheValue) (u : Term) (i : Interned) → IsNumbered cache i → IsNumbered (asked cache u) i
-IsNumbered-asked cache u i h = record { numbered = HasNumber-asked cache u i.element i.number h.numbered }
+pub IsNumbered-intern : (cache : CacheValue) (u : Term) (i : Interned) → IsNumbered cache i → IsNumbered (intern cache u) i
+IsNumbered-intern cache u i h = record { numbered = HasNumber-intern cache u i.element i.number h.numbered }
 
-pub AreNumbered-asked : (cache : CacheValue) (u : Term) (is : List Interned) → AreNumbered cache is → AreNumbered (asked cache u) is
-AreNumbered-asked cache u [] h = tt
-AreNumbered-asked cache u (i ∷ is) h = (IsNumbered-asked cache u i h.0, AreNumbered-asked cache u is h.1)
+pub AreNumbered-intern : (cache : CacheValue) (u : Term) (is : List Interned) → AreNumbered cache is → AreNumbered (intern cache u) is
+AreNumbered-intern cache u [] h = tt
+AreNumbered-intern cache u (i ∷ is) h = (IsNumbered-intern cache u i h.0, AreNumbered-intern cache u is h.1)
 
 pub AreNumbered-push : (cache : CacheValue) (is : List Interned) (i : Interned) → AreNumbered cache is → IsNumbered cache i → AreNumbered cache (is ++ i ∷ [])
 AreNumbered-push cache [] i h n = (n, tt)

@@ -7,7 +7,7 @@ use Rattle.std.proofs.lemmas.List.{append-nil}
 use Rattle.std.proofs.lemmas.List.Sums.{sum_by-cons}
 use Rattle.rowan_green.specs.declared.utility_types.NodeOrToken.TheVariants.{Node, Token}
 use Rattle.rowan_green.specs.Term.{NodeTerm, node, Forest, empty, node_then, token_then, Term, terms, node_children, node_text, forest_text, term_text, term_len, token_len, joined_text}
-use Rattle.rowan_green.specs.Path.{Path, term_children, subterm_of, subterm, Leaf, below_place, node_leaves, leaves_from, leaves, stands_before, offset, len_of, text_of, range}
+use Rattle.rowan_green.specs.Path.{Path, term_children, subterm_of, subterm, LeafAt, below_place, node_leaves, leaves_from, leaves, stands_before, offset, len_of, text_of, range}
 use Rattle.rowan_green.specs.Search.{child_start}
 use Rattle.rowan_green.proofs.Paths.{offset-empty}
 use Rattle.rowan_green.proofs.Terms.{length-joined_text}
@@ -25,15 +25,15 @@ before_at_greater j i q p h =
     ap (λ b. b || (nat_eq j i && stands_before q p)) (le-ltb j i (omega arith)) ∙ ap (λ b. b && stands_before q p) (ne_eqb j i (λ e. omega (arith, h, e)))
 
 -- The lengths of the leaves before a path, added up.
-abbrev pub lens_before : Path → List Leaf → ℕ
+abbrev pub lens_before : Path → List LeafAt → ℕ
 lens_before p [] = 0
 lens_before p (l ∷ ls) = cond (stands_before l.0 p) (token_len l.1) 0 + lens_before p ls
 
-abbrev lens : List Leaf → ℕ
+abbrev lens : List LeafAt → ℕ
 lens [] = 0
 lens (l ∷ ls) = token_len l.1 + lens ls
 
-sum-lens_before : (p : Path) (ls : List Leaf) → sum_by (λ l. token_len l.1) (filter (λ l. stands_before l.0 p) ls) ≡ lens_before p ls
+sum-lens_before : (p : Path) (ls : List LeafAt) → sum_by (λ l. token_len l.1) (filter (λ l. stands_before l.0 p) ls) ≡ lens_before p ls
 sum-lens_before p [] = refl
 sum-lens_before p (l ∷ ls) = by (stands_before l.0 p) (sum-lens_before p ls)
   where
@@ -41,30 +41,30 @@ sum-lens_before p (l ∷ ls) = by (stands_before l.0 p) (sum-lens_before p ls)
     by true rest = sum_by-cons (λ l. token_len l.1) l (filter (λ l. stands_before l.0 p) ls) ∙ ap (λ n. token_len l.1 + n) rest
     by false rest = rest ∙ omega arith
 
-lens_before-append : (p : Path) (ks ls : List Leaf) → lens_before p (ks ++ ls) ≡ lens_before p ks + lens_before p ls
+lens_before-append : (p : Path) (ks ls : List LeafAt) → lens_before p (ks ++ ls) ≡ lens_before p ks + lens_before p ls
 lens_before-append p [] ls = omega arith
 lens_before-append p (k ∷ ks) ls = omega (arith, lens_before-append p ks ls)
 
-lens_before-less : (j i : ℕ) (p : Path) (ls : List Leaf) → j < i → lens_before (i ∷ p) (map (below_place j) ls) ≡ lens ls
+lens_before-less : (j i : ℕ) (p : Path) (ls : List LeafAt) → j < i → lens_before (i ∷ p) (map (below_place j) ls) ≡ lens ls
 lens_before-less j i p [] h = refl
 lens_before-less j i p (l ∷ ls) h =
     ap (λ b. cond b (token_len l.1) 0 + lens_before (i ∷ p) (map (below_place j) ls)) (before_at_less j i l.0 p h) ∙ ap (λ n. token_len l.1 + n) (lens_before-less j i p ls h)
 
-lens_before-same : (i : ℕ) (p : Path) (ls : List Leaf) → lens_before (i ∷ p) (map (below_place i) ls) ≡ lens_before p ls
+lens_before-same : (i : ℕ) (p : Path) (ls : List LeafAt) → lens_before (i ∷ p) (map (below_place i) ls) ≡ lens_before p ls
 lens_before-same i p [] = refl
 lens_before-same i p (l ∷ ls) =
     ap (λ b. cond b (token_len l.1) 0 + lens_before (i ∷ p) (map (below_place i) ls)) (before_at_same i l.0 p) ∙ ap (λ n. cond (stands_before l.0 p) (token_len l.1) 0 + n) (lens_before-same i p ls)
 
-lens_before-greater : (j i : ℕ) (p : Path) (ls : List Leaf) → i < j → lens_before (i ∷ p) (map (below_place j) ls) ≡ 0
+lens_before-greater : (j i : ℕ) (p : Path) (ls : List LeafAt) → i < j → lens_before (i ∷ p) (map (below_place j) ls) ≡ 0
 lens_before-greater j i p [] h = refl
 lens_before-greater j i p (l ∷ ls) h =
     ap (λ b. cond b (token_len l.1) 0 + lens_before (i ∷ p) (map (below_place j) ls)) (before_at_greater j i l.0 p h) ∙ ap (λ n. 0 + n) (lens_before-greater j i p ls h)
 
-lens-append : (ks ls : List Leaf) → lens (ks ++ ls) ≡ lens ks + lens ls
+lens-append : (ks ls : List LeafAt) → lens (ks ++ ls) ≡ lens ks + lens ls
 lens-append [] ls = omega arith
 lens-append (k ∷ ks) ls = omega (arith, lens-append ks ls)
 
-lens-below : (m : ℕ) (ls : List Leaf) → lens (map (below_place m) ls) ≡ lens ls
+lens-below : (m : ℕ) (ls : List LeafAt) → lens (map (below_place m) ls) ≡ lens ls
 lens-below m [] = refl
 lens-below m (l ∷ ls) = ap (λ n. token_len l.1 + n) (lens-below m ls)
 

@@ -9,9 +9,9 @@ use Rattle.std.specs.List.{flat_map}
 use Rattle.rowan_green.specs.declared.utility_types.NodeOrToken.TheVariants.{Node, Token}
 use Rattle.rowan_green.specs.Term.{TokenTerm, NodeTerm, Term, forest, node_of}
 use Rattle.rowan_green.specs.Word.{Symbol, Open, Leaf, Close, Bare, Whole, spelled, whole_terms, HasTerms, Closes, IsFinished}
-use Rattle.rowan_green.specs.Cache.{CacheValue, asked, with_term, first_seen}
+use Rattle.rowan_green.specs.Cache.{CacheValue, intern, with_term, first_seen}
 use Rattle.rowan_green.specs.Builder.{BuilderValue, adds, opens, FinishesNode, WrapsAt}
-use Rattle.rowan_green.specs.Stream.{forest_subterms, subterms, asked_for, AskedForWord, Grows, BuildsOn}
+use Rattle.rowan_green.specs.Stream.{forest_subterms, subterms, intern_all, InternsWord, Grows, BuildsOn}
 use Rattle.rowan_green.proofs.CacheLemmas.{Continues-with_term, Continues-trans}
 use Rattle.rowan_green.proofs.WeaveLemmas.{whole_terms-append, whole_terms-map, whole_terms-open, spelled-close}
 use Rattle.rowan_green.proofs.Words.{parts-unique, parts-more}
@@ -68,30 +68,30 @@ module _ (v : List Symbol) (n : NodeTerm) (w : List Symbol) (c : Closes v n w) w
 abbrev with_seen : ℕ → List Term → CacheValue
 with_seen limit ts = record { limit = limit; seen = ts }
 
-asked_for-one : (cache : CacheValue) (ts us : List Term) (t : Term) → us ≡ ts ++ t ∷ [] → asked_for cache us ≡ asked (asked_for cache ts) t
-asked_for-one cache ts us t e = ap (asked_for cache) e ∙ fold-append asked cache ts (t ∷ [])
+intern_all-one : (cache : CacheValue) (ts us : List Term) (t : Term) → us ≡ ts ++ t ∷ [] → intern_all cache us ≡ intern (intern_all cache ts) t
+intern_all-one cache ts us t e = ap (intern_all cache) e ∙ fold-append intern cache ts (t ∷ [])
 
-pub AskedForWord-starts : (cache : CacheValue) (b : BuilderValue) → b.word ≡ [] → b.cache ≡ cache → AskedForWord cache b
-AskedForWord-starts cache b e f = record { terms = []; stand = record { items = []; parts = record { spells = e }; terms = refl }; asked = f }
+pub InternsWord-starts : (cache : CacheValue) (b : BuilderValue) → b.word ≡ [] → b.cache ≡ cache → InternsWord cache b
+InternsWord-starts cache b e f = record { terms = []; stand = record { items = []; parts = record { spells = e }; terms = refl }; interns = f }
 
-pub AskedForWord-adds : (cache : CacheValue) (old new : BuilderValue) (t : TokenTerm) → AskedForWord cache old → new ≡ adds old t → AskedForWord cache new
-AskedForWord-adds cache old new t h e = record {
+pub InternsWord-adds : (cache : CacheValue) (old new : BuilderValue) (t : TokenTerm) → InternsWord cache old → new ≡ adds old t → InternsWord cache new
+InternsWord-adds cache old new t h e = record {
   terms = h.terms ++ Token t ∷ [];
   stand = HasTerms-leaf old.word new.word h.terms t h.stand (ap (λ b. b.word) e);
-  asked =
-      ap (λ b. b.cache) e ∙ ap (λ c. asked c (Token t)) h.asked
-      ∙ sym (asked_for-one cache (flat_map subterms h.terms) (flat_map subterms (h.terms ++ Token t ∷ [])) (Token t) (flat_map-append subterms h.terms (Token t ∷ [])));
+  interns =
+      ap (λ b. b.cache) e ∙ ap (λ c. intern c (Token t)) h.interns
+      ∙ sym (intern_all-one cache (flat_map subterms h.terms) (flat_map subterms (h.terms ++ Token t ∷ [])) (Token t) (flat_map-append subterms h.terms (Token t ∷ [])));
 }
 
-pub AskedForWord-opens : (cache : CacheValue) (old new : BuilderValue) (k : ℕ) → AskedForWord cache old → new ≡ opens old k → AskedForWord cache new
-AskedForWord-opens cache old new k h e = record {
+pub InternsWord-opens : (cache : CacheValue) (old new : BuilderValue) (k : ℕ) → InternsWord cache old → new ≡ opens old k → InternsWord cache new
+InternsWord-opens cache old new k h e = record {
   terms = h.terms;
   stand = HasTerms-open old.word new.word h.terms k h.stand (ap (λ b. b.word) e);
-  asked = ap (λ b. b.cache) e ∙ h.asked;
+  interns = ap (λ b. b.cache) e ∙ h.interns;
 }
 
-pub AskedForWord-finishes : (cache : CacheValue) (old new : BuilderValue) → AskedForWord cache old → FinishesNode old new → AskedForWord cache new
-AskedForWord-finishes cache old new h f =
+pub InternsWord-finishes : (cache : CacheValue) (old new : BuilderValue) → InternsWord cache old → FinishesNode old new → InternsWord cache new
+InternsWord-finishes cache old new h f =
     let c = f.closes in
     let outer = whole_terms c.before in
     let same : h.terms ≡ outer ++ c.children = HasTerms-unique old.word h.terms (outer ++ c.children) h.stand (HasTerms-before old.word f.node new.word c) in
@@ -104,20 +104,20 @@ AskedForWord-finishes cache old new h f =
     record {
       terms = outer ++ node ∷ [];
       stand = HasTerms-behind old.word f.node new.word c;
-      asked = f.interns ∙ ap (λ d. asked d node) h.asked ∙ sym (asked_for-one cache (flat_map subterms h.terms) (flat_map subterms (outer ++ node ∷ [])) node behind);
+      interns = f.interns ∙ ap (λ d. intern d node) h.interns ∙ sym (intern_all-one cache (flat_map subterms h.terms) (flat_map subterms (outer ++ node ∷ [])) node behind);
     }
 
 -- the cache of a finished tree
-pub AskedForWord-finished : (cache : CacheValue) (b : BuilderValue) (n : NodeTerm) → AskedForWord cache b → IsFinished b.word n → b.cache ≡ asked_for cache (subterms (Node n))
-AskedForWord-finished cache b n h f = h.asked ∙ ap (λ ts. asked_for cache (flat_map subterms ts)) (HasTerms-unique b.word h.terms (Node n ∷ []) h.stand f) ∙ ap (asked_for cache) (append-nil (subterms (Node n)))
+pub InternsWord-finished : (cache : CacheValue) (b : BuilderValue) (n : NodeTerm) → InternsWord cache b → IsFinished b.word n → b.cache ≡ intern_all cache (subterms (Node n))
+InternsWord-finished cache b n h f = h.interns ∙ ap (λ ts. intern_all cache (flat_map subterms ts)) (HasTerms-unique b.word h.terms (Node n ∷ []) h.stand f) ∙ ap (intern_all cache) (append-nil (subterms (Node n)))
 
 -- ---- a cache that grows
 
 pub Grows-same : (c d : CacheValue) → d ≡ c → Grows c d
 Grows-same c d e = record { same_limit = ap (λ x. x.limit) e; continues = record { more = []; goes_on = ap (λ x. x.seen) e ∙ sym (append-nil c.seen) } }
 
-pub Grows-asked : (c d : CacheValue) (t : Term) → d ≡ asked c t → Grows c d
-Grows-asked c d t e =
+pub Grows-intern : (c d : CacheValue) (t : Term) → d ≡ intern c t → Grows c d
+Grows-intern c d t e =
     let more = Continues-with_term c.limit c.seen t in
     record { same_limit = ap (λ x. x.limit) e; continues = record { more = more.more; goes_on = ap (λ x. x.seen) e ∙ more.goes_on } }
 
@@ -129,21 +129,21 @@ Grows-trans c d e h g = record {
 
 -- ---- first seen
 
-asked_for-fold : (cache : CacheValue) (ts : List Term) → asked_for cache ts ≡ with_seen cache.limit (fold (with_term cache.limit) cache.seen ts)
-asked_for-fold cache [] = refl
-asked_for-fold cache (t ∷ ts) = asked_for-fold (asked cache t) ts
+intern_all-fold : (cache : CacheValue) (ts : List Term) → intern_all cache ts ≡ with_seen cache.limit (fold (with_term cache.limit) cache.seen ts)
+intern_all-fold cache [] = refl
+intern_all-fold cache (t ∷ ts) = intern_all-fold (intern cache t) ts
 
 -- what a cache has after it was asked for terms is first seen in what it had with the terms behind it
-pub asked_for-first_seen : (cache : CacheValue) (ts : List Term) → first_seen cache.limit cache.seen ≡ cache.seen → asked_for cache ts ≡ with_seen cache.limit (first_seen cache.limit (cache.seen ++ ts))
-asked_for-first_seen cache ts own =
-    asked_for-fold cache ts
+pub intern_all-first_seen : (cache : CacheValue) (ts : List Term) → first_seen cache.limit cache.seen ≡ cache.seen → intern_all cache ts ≡ with_seen cache.limit (first_seen cache.limit (cache.seen ++ ts))
+intern_all-first_seen cache ts own =
+    intern_all-fold cache ts
     ∙ ap (λ us. with_seen cache.limit (fold (with_term cache.limit) us ts)) (sym own)
     ∙ ap (with_seen cache.limit) (sym (fold-append (with_term cache.limit) [] cache.seen ts))
 
 -- ---- what each call does
 
-AskedForWord-wraps : (cache : CacheValue) (old new : BuilderValue) (c k : ℕ) → AskedForWord cache old → WrapsAt old c k new → AskedForWord cache new
-AskedForWord-wraps cache old new c k h f =
+InternsWord-wraps : (cache : CacheValue) (old new : BuilderValue) (c k : ℕ) → InternsWord cache old → WrapsAt old c k new → InternsWord cache new
+InternsWord-wraps cache old new c k h f =
     let w = f.wraps in
     let around : HasTerms old.word (whole_terms w.before ++ w.after) = record {
       items = w.before ++ map Whole w.after;
@@ -159,28 +159,28 @@ AskedForWord-wraps cache old new c k h f =
             whole_terms-open w.before k w.after
             ∙ HasTerms-unique old.word (whole_terms w.before ++ w.after) h.terms around h.stand;
       };
-      asked = f.same_cache ∙ h.asked;
+      interns = f.same_cache ∙ h.interns;
     }
 
 pub BuildsOn-same : (old new : BuilderValue) → new ≡ old → BuildsOn old new
-BuildsOn-same old new e = record { keeps = λ c h. subst (AskedForWord c) (sym e) h; grows = Grows-same old.cache new.cache (ap (λ b. b.cache) e) }
+BuildsOn-same old new e = record { keeps = λ c h. subst (InternsWord c) (sym e) h; grows = Grows-same old.cache new.cache (ap (λ b. b.cache) e) }
 
 pub BuildsOn-trans : (a b c : BuilderValue) → BuildsOn a b → BuildsOn b c → BuildsOn a c
 BuildsOn-trans a b c h g = record { keeps = λ d k. g.keeps d (h.keeps d k); grows = Grows-trans a.cache b.cache c.cache h.grows g.grows }
 
 module _ {E : Type 0} (old new : BuilderValue) where
   pub BuildsOn-adds : (r : Result (Unit {0}) E) (t : TokenTerm) → OnOk r (new ≡ adds old t) → OnErr r (new ≡ old) → BuildsOn old new
-  BuildsOn-adds (Ok x) t ok err = record { keeps = λ c h. AskedForWord-adds c old new t h ok; grows = Grows-asked old.cache new.cache (Token t) (ap (λ b. b.cache) ok) }
+  BuildsOn-adds (Ok x) t ok err = record { keeps = λ c h. InternsWord-adds c old new t h ok; grows = Grows-intern old.cache new.cache (Token t) (ap (λ b. b.cache) ok) }
   BuildsOn-adds (Err e) t ok err = BuildsOn-same old new err
 
   pub BuildsOn-opens : (r : Result (Unit {0}) E) (k : ℕ) → OnOk r (new ≡ opens old k) → OnErr r (new ≡ old) → BuildsOn old new
-  BuildsOn-opens (Ok x) k ok err = record { keeps = λ c h. AskedForWord-opens c old new k h ok; grows = Grows-same old.cache new.cache (ap (λ b. b.cache) ok) }
+  BuildsOn-opens (Ok x) k ok err = record { keeps = λ c h. InternsWord-opens c old new k h ok; grows = Grows-same old.cache new.cache (ap (λ b. b.cache) ok) }
   BuildsOn-opens (Err e) k ok err = BuildsOn-same old new err
 
   pub BuildsOn-finishes : (r : Result (Unit {0}) E) → OnOk r (FinishesNode old new) → OnErr r (new ≡ old) → BuildsOn old new
-  BuildsOn-finishes (Ok x) ok err = record { keeps = λ c h. AskedForWord-finishes c old new h ok; grows = Grows-asked old.cache new.cache (Node ok.node) ok.interns }
+  BuildsOn-finishes (Ok x) ok err = record { keeps = λ c h. InternsWord-finishes c old new h ok; grows = Grows-intern old.cache new.cache (Node ok.node) ok.interns }
   BuildsOn-finishes (Err e) ok err = BuildsOn-same old new err
 
   pub BuildsOn-wraps : (r : Result (Unit {0}) E) (c k : ℕ) → OnOk r (WrapsAt old c k new) → OnErr r (new ≡ old) → BuildsOn old new
-  BuildsOn-wraps (Ok x) c k ok err = record { keeps = λ d h. AskedForWord-wraps d old new c k h ok; grows = Grows-same old.cache new.cache ok.same_cache }
+  BuildsOn-wraps (Ok x) c k ok err = record { keeps = λ d h. InternsWord-wraps d old new c k h ok; grows = Grows-same old.cache new.cache ok.same_cache }
   BuildsOn-wraps (Err e) c k ok err = BuildsOn-same old new err

@@ -4,7 +4,7 @@ use Rattle.std.proofs.lemmas.List.{take-append-drop}
 use Rattle.rowan_green.specs.declared.builder.owning.OpenNode.{OpenNode}
 use Rattle.rowan_green.specs.Term.{Term}
 use Rattle.rowan_green.specs.Word.{Symbol, Item, Bare, Whole, spelled, whole_terms, count, HasCount, Wraps, IsPast, IsBeforeOpening}
-use Rattle.rowan_green.specs.Weave.{weave, AreInOrder, last_place}
+use Rattle.rowan_green.specs.Weave.{weave, AreInOrder, place_of_innermost}
 use Rattle.rowan_green.proofs.WeaveLemmas.{whole_terms-append, whole_terms-map, whole_terms-weave, weave-append, weave-open, AreInOrder-ends, AreInOrder-grow, last_parts}
 use Rattle.rowan_green.proofs.Words.{parts-unique, not_wholes}
 
@@ -22,13 +22,13 @@ pub HasCount-weave : (os : List OpenNode) (ts : List Term) (w : List Symbol) (n 
 HasCount-weave os ts w n e same = record { items = weave 0 os ts; parts = record { spells = sym e }; counted = count-weave 0 os ts ∙ sym same }
 
 -- a place that is not before the last open node is not before any
-pub AreInOrder-last : (at : ℕ) (os : List OpenNode) (end p : ℕ) → AreInOrder at os end → last_place at os ≤ p → AreInOrder at os p
+pub AreInOrder-last : (at : ℕ) (os : List OpenNode) (end p : ℕ) → AreInOrder at os end → place_of_innermost at os ≤ p → AreInOrder at os p
 AreInOrder-last at [] end p h le = le
 AreInOrder-last at (o ∷ os) end p h le = (h.0, AreInOrder-last o.first_child os end p h.1 le)
 
-pub last_place-ends : (at : ℕ) (os : List OpenNode) (end : ℕ) → AreInOrder at os end → last_place at os ≤ end
-last_place-ends at [] end h = h
-last_place-ends at (o ∷ os) end h = last_place-ends o.first_child os end h.1
+pub place_of_innermost-ends : (at : ℕ) (os : List OpenNode) (end : ℕ) → AreInOrder at os end → place_of_innermost at os ≤ end
+place_of_innermost-ends at [] end h = h
+place_of_innermost-ends at (o ∷ os) end h = place_of_innermost-ends o.first_child os end h.1
 
 -- the items before the innermost opening, where there is one
 record Innermost (at : ℕ) (os : List OpenNode) (ts : List Term) : Type 0 where
@@ -36,7 +36,7 @@ record Innermost (at : ℕ) (os : List OpenNode) (ts : List Term) : Type 0 where
   kind : ℕ
   after : List Term
   parts : weave at os ts ≡ before ++ Bare kind ∷ map Whole after
-  place : at + count before ≡ last_place at os
+  place : at + count before ≡ place_of_innermost at os
 
 innermost : (at : ℕ) (o : OpenNode) (os : List OpenNode) (ts : List Term) → AreInOrder at (o ∷ os) (at + length ts) → Innermost at (o ∷ os) ts
 innermost at o [] ts h =
@@ -80,13 +80,13 @@ pub not_IsPast : (os : List OpenNode) (ts : List Term) (w : List Symbol) (c : �
 not_IsPast os ts w c e le h =
     omega (arith, ap count (parts-unique w h.items (weave 0 os ts) h.parts (record { spells = sym e })), count-weave 0 os ts, h.past)
 
-pub IsBeforeOpening-weave : (os : List OpenNode) (ts : List Term) (w : List Symbol) (c : ℕ) → spelled (weave 0 os ts) ≡ w → AreInOrder 0 os (length ts) → c < last_place 0 os → IsBeforeOpening w c
+pub IsBeforeOpening-weave : (os : List OpenNode) (ts : List Term) (w : List Symbol) (c : ℕ) → spelled (weave 0 os ts) ≡ w → AreInOrder 0 os (length ts) → c < place_of_innermost 0 os → IsBeforeOpening w c
 IsBeforeOpening-weave [] ts w c e h below = absurd (omega arith)
 IsBeforeOpening-weave (o ∷ os) ts w c e h below =
     let r = innermost 0 o os ts (AreInOrder-grow 0 (o ∷ os) (length ts) (0 + length ts) h (omega arith)) in
     record { before = r.before; kind = r.kind; after = r.after; parts = record { spells = sym e ∙ ap spelled r.parts }; below = omega (arith, r.place) }
 
-pub not_IsBeforeOpening : (os : List OpenNode) (ts : List Term) (w : List Symbol) (c : ℕ) → spelled (weave 0 os ts) ≡ w → AreInOrder 0 os (length ts) → last_place 0 os ≤ c → IsBeforeOpening w c → ⊥
+pub not_IsBeforeOpening : (os : List OpenNode) (ts : List Term) (w : List Symbol) (c : ℕ) → spelled (weave 0 os ts) ≡ w → AreInOrder 0 os (length ts) → place_of_innermost 0 os ≤ c → IsBeforeOpening w c → ⊥
 not_IsBeforeOpening [] ts w c e h le b =
     not_wholes b.before b.kind b.after ts (parts-unique w (b.before ++ Bare b.kind ∷ map Whole b.after) (map Whole ts) b.parts (record { spells = sym e }))
 not_IsBeforeOpening (o ∷ os) ts w c e h le b =
@@ -95,7 +95,7 @@ not_IsBeforeOpening (o ∷ os) ts w c e h le b =
     omega (arith, same_place b.before r.before b.kind r.kind b.after r.after same, r.place, b.below)
 
 -- a node opened at a place within the elements, behind the innermost opening
-pub Wraps-weave : (os : List OpenNode) (ts : List Term) (o : OpenNode) (v w : List Symbol) → spelled (weave 0 os ts) ≡ v → spelled (weave 0 (os ++ o ∷ []) ts) ≡ w → AreInOrder 0 os (length ts) → last_place 0 os ≤ o.first_child → o.first_child ≤ length ts → Wraps v o.first_child o.kind.0 w
+pub Wraps-weave : (os : List OpenNode) (ts : List Term) (o : OpenNode) (v w : List Symbol) → spelled (weave 0 os ts) ≡ v → spelled (weave 0 (os ++ o ∷ []) ts) ≡ w → AreInOrder 0 os (length ts) → place_of_innermost 0 os ≤ o.first_child → o.first_child ≤ length ts → Wraps v o.first_child o.kind.0 w
 Wraps-weave os ts o v w e f h low high =
     let p = o.first_child in
     let here = AreInOrder-last 0 os (length ts) p h low in
@@ -109,9 +109,9 @@ Wraps-weave os ts o v w e f h low high =
       opened = record { spells = sym f ∙ ap spelled (weave-open 0 os o ts here (omega (arith, high)) ∙ ap (λ d. weave 0 os (take d ts) ++ Bare o.kind.0 ∷ map Whole (drop d ts)) p-is) };
     }
 
-last_place-append : (at : ℕ) (os : List OpenNode) (o : OpenNode) → last_place at (os ++ o ∷ []) ≡ o.first_child
-last_place-append at [] o = refl
-last_place-append at (p ∷ os) o = last_place-append p.first_child os o
+place_of_innermost-append : (at : ℕ) (os : List OpenNode) (o : OpenNode) → place_of_innermost at (os ++ o ∷ []) ≡ o.first_child
+place_of_innermost-append at [] o = refl
+place_of_innermost-append at (p ∷ os) o = place_of_innermost-append p.first_child os o
 
-pub last_place-last : (os : List OpenNode) (o : OpenNode) → slice_get os (length os - 1) ≡ Some o → o.first_child ≡ last_place 0 os
-last_place-last os o e = sym (ap (λ ps. last_place 0 ps) (last_parts os o e) ∙ last_place-append 0 (take (length os - 1) os) o)
+pub place_of_innermost-last : (os : List OpenNode) (o : OpenNode) → slice_get os (length os - 1) ≡ Some o → o.first_child ≡ place_of_innermost 0 os
+place_of_innermost-last os o e = sym (ap (λ ps. place_of_innermost 0 ps) (last_parts os o e) ∙ place_of_innermost-append 0 (take (length os - 1) os) o)

@@ -4,7 +4,7 @@ use Rattle.std.specs.Prelude.{◌≡◌, ℕ, List, [], ◌∷◌, ◌++◌}
 use Rattle.rowan_green.specs.declared.utility_types.NodeOrToken.TheVariants.{Node, Token}
 use Rattle.rowan_green.specs.Term.{TokenTerm, NodeTerm}
 use Rattle.rowan_green.specs.Word.{Symbol, Open, Leaf, Closes, Wraps}
-use Rattle.rowan_green.specs.Cache.{CacheValue, asked}
+use Rattle.rowan_green.specs.Cache.{CacheValue, intern}
 
 pub record BuilderValue : Type 0 where
   pub word : List Symbol
@@ -16,7 +16,7 @@ new_builder cache = record { word = []; cache = cache }
 
 -- a leaf at the word's end
 abbrev pub adds : BuilderValue → TokenTerm → BuilderValue
-adds b t = record { word = b.word ++ Leaf t ∷ []; cache = asked b.cache (Token t) }
+adds b t = record { word = b.word ++ Leaf t ∷ []; cache = intern b.cache (Token t) }
 
 -- an opening at the word's end
 abbrev pub opens : BuilderValue → ℕ → BuilderValue
@@ -26,7 +26,7 @@ opens b k = record { word = b.word ++ Open k ∷ []; cache = b.cache }
 pub record FinishesNode (old new : BuilderValue) : Type 0 where
   pub node : NodeTerm
   pub closes : Closes old.word node new.word
-  pub interns : new.cache ≡ asked old.cache (Node node)
+  pub interns : new.cache ≡ intern old.cache (Node node)
 
 -- an opening at the checkpoint
 pub record WrapsAt (old : BuilderValue) (c k : ℕ) (new : BuilderValue) : Type 0 where

@@ -62,9 +62,9 @@ pub record CacheValue : Type 0 where
 abbrev pub empty_cache : ℕ → CacheValue
 empty_cache limit = record { limit = limit; seen = [] }
 
--- the cache after it was asked for a term
-abbrev pub asked : CacheValue → Term → CacheValue
-asked cache t = record { limit = cache.limit; seen = with_term cache.limit cache.seen t }
+-- the cache after a term was interned: looked up, and kept where it is eligible and new
+abbrev pub intern : CacheValue → Term → CacheValue
+intern cache t = record { limit = cache.limit; seen = with_term cache.limit cache.seen t }
 
 -- the number of a term in a cache: its place, or none where it is not eligible
 abbrev pub HasNumber : CacheValue → Term → Option ℕ → Type 0

@@ -35,21 +35,21 @@ loan_of b = b.home.ghost_name
 
 -- ---- a builder that `finish` hands back
 
-abbrev pub returned : {H : Type 0} → Unfinished H BuilderValue → BuilderValue
-returned u = u.inner
+abbrev pub unfinished_value : {H : Type 0} → Unfinished H BuilderValue → BuilderValue
+unfinished_value u = u.inner
 
 abbrev pub fault_of : {H : Type 0} → Unfinished H BuilderValue → Fault
 fault_of u = u.fault
 
-abbrev pub returned_loan : {H : Type 0} → Unfinished H BuilderValue → GName
-returned_loan u = u.home.ghost_name
+abbrev pub unfinished_loan : {H : Type 0} → Unfinished H BuilderValue → GName
+unfinished_loan u = u.home.ghost_name
 
 -- ---- what the lent cache ends as
 
 abbrev pub loan_if_refused : {H A : Type 0}
     → Result A (Unfinished H BuilderValue) → maybe.Option GName
 loan_if_refused (Ok x) = maybe.none
-loan_if_refused (Err u) = maybe.some (returned_loan u)
+loan_if_refused (Err u) = maybe.some (unfinished_loan u)
 
 -- After success the lent cache has what the builder's cache had. After a refusal the loan goes on.
 abbrev pub LeavesCacheUnlessRefused : {A : Type 0} → GreenNodeBuilder CacheValue BuilderValue

@@ -5,7 +5,7 @@ use Rattle.std.specs.List.{flat_map}
 use Rattle.rowan_green.specs.declared.utility_types.NodeOrToken.TheVariants.{Node, Token}
 use Rattle.rowan_green.specs.Term.{NodeTerm, node, Forest, empty, node_then, token_then, Term}
 use Rattle.rowan_green.specs.Word.{HasTerms}
-use Rattle.rowan_green.specs.Cache.{CacheValue, asked, Continues}
+use Rattle.rowan_green.specs.Cache.{CacheValue, intern, Continues}
 use Rattle.rowan_green.specs.Builder.{BuilderValue}
 
 abbrev mutual
@@ -22,15 +22,15 @@ abbrev pub subterms : Term → List Term
 subterms (Node n) = node_subterms n
 subterms (Token t) = Token t ∷ []
 
--- the cache after it was asked for these terms in turn
-abbrev pub asked_for : CacheValue → List Term → CacheValue
-asked_for cache ts = fold asked cache ts
+-- the cache after these terms were interned in turn
+abbrev pub intern_all : CacheValue → List Term → CacheValue
+intern_all cache ts = fold intern cache ts
 
 -- the cache is the earlier one, asked for the subterms of the word's whole terms
-pub record AskedForWord (earlier : CacheValue) (b : BuilderValue) : Type 0 where
+pub record InternsWord (earlier : CacheValue) (b : BuilderValue) : Type 0 where
   pub terms : List Term
   pub stand : HasTerms b.word terms
-  pub asked : b.cache ≡ asked_for earlier (flat_map subterms terms)
+  pub interns : b.cache ≡ intern_all earlier (flat_map subterms terms)
 
 -- the later cache has the limit and the terms of the earlier one, and may have more behind them
 pub record Grows (earlier later : CacheValue) : Type 0 where
@@ -39,5 +39,5 @@ pub record Grows (earlier later : CacheValue) : Type 0 where
 
 -- Calls took the builder from the old value to the new one: its cache grew, and was asked for the subterms that ended meanwhile.
 pub record BuildsOn (old new : BuilderValue) : Type 0 where
-  pub keeps : (earlier : CacheValue) → AskedForWord earlier old → AskedForWord earlier new
+  pub keeps : (earlier : CacheValue) → InternsWord earlier old → InternsWord earlier new
   pub grows : Grows old.cache new.cache

@@ -17,6 +17,6 @@ AreInOrder at [] end = at ≤ end
 AreInOrder at (o ∷ os) end = (at ≤ o.first_child) × AreInOrder o.first_child os end
 
 -- the place of the last of the open nodes, or `at`
-abbrev pub last_place : ℕ → List OpenNode → ℕ
-last_place at [] = at
-last_place at (o ∷ os) = last_place o.first_child os
+abbrev pub place_of_innermost : ℕ → List OpenNode → ℕ
+place_of_innermost at [] = at
+place_of_innermost at (o ∷ os) = place_of_innermost o.first_child os

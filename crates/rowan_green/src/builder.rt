@@ -9,7 +9,7 @@ ghost use Rattle.rowan_green.specs.Builder.{new_builder, adds, opens, FinishesNo
 ghost use Rattle.rowan_green.specs.Cache.{empty_cache, first_seen};
 ghost use Rattle.rowan_green.specs.Fits.{byte_limit};
 ghost use Rattle.rowan_green.specs.Term.{node_text};
-ghost use Rattle.rowan_green.specs.Loan.{value_of, word_of, cache_of, text_so_far, if_accepted, loan_of, returned, fault_of, returned_loan, LeavesCacheUnlessRefused, KeepsLoan, LeavesCacheOfRun};
+ghost use Rattle.rowan_green.specs.Loan.{value_of, word_of, cache_of, text_so_far, if_accepted, loan_of, unfinished_value, fault_of, unfinished_loan, LeavesCacheUnlessRefused, KeepsLoan, LeavesCacheOfRun};
 ghost use Rattle.rowan_green.specs.Stream.{BuildsOn};
 ghost use Rattle.rowan_green.specs.Word.{WhyNoToken, HasNoneOpen, WhyNotClosed, HasCount, IsPast, IsBeforeOpening, WhyNotWrapped, IsFinished, WhyUnfinished};
 
@@ -105,7 +105,7 @@ impl<'cache> GreenNodeBuilder<'cache, OwnCache> {
         ensures ok { IfOk result (IsFinished (word_of self.entry)) }
         ensures text { IfOk result (λ tree. node_text tree ≡ text_so_far self.entry) }
         ensures err { IfErr result (λ u. WhyUnfinished (word_of self.entry) (fault_of u)) }
-        ensures unchanged { IfErr result (λ u. returned u ≡ value_of self.entry) }
+        ensures unchanged { IfErr result (λ u. unfinished_value u ≡ value_of self.entry) }
     {
         let GreenNodeBuilder { home, inner } = self;
         match inner.finish() {
@@ -141,7 +141,7 @@ impl<'cache> GreenNodeBuilder<'cache> {
     pub fn finish(self) -> Result<GreenNode, Unfinished<'cache>>
         // the cache that was lent
         ensures* rests { sem 𝓛 (LeavesCacheUnlessRefused self.entry result) }
-        ensures loan { IfErr result (λ u. returned_loan u ≡ loan_of self.entry) }
+        ensures loan { IfErr result (λ u. unfinished_loan u ≡ loan_of self.entry) }
 
         // the tree
         ensures ok { IfOk result (IsFinished (word_of self.entry)) }
@@ -149,7 +149,7 @@ impl<'cache> GreenNodeBuilder<'cache> {
 
         // a refusal
         ensures err { IfErr result (λ u. WhyUnfinished (word_of self.entry) (fault_of u)) }
-        ensures unchanged { IfErr result (λ u. returned u ≡ value_of self.entry) }
+        ensures unchanged { IfErr result (λ u. unfinished_value u ≡ value_of self.entry) }
     {
         let GreenNodeBuilder { home, inner } = self;
         match inner.finish() {
@@ -322,8 +322,8 @@ impl<'cache, H: CacheHome> Unfinished<'cache, H> {
 
     /// The builder, with the word and the cache that it had before `finish`.
     pub fn into_builder(self) -> GreenNodeBuilder<'cache, H>
-        ensures loan { loan_of result ≡ returned_loan self.entry }
-        ensures value { value_of result ≡ returned self.entry }
+        ensures loan { loan_of result ≡ unfinished_loan self.entry }
+        ensures value { value_of result ≡ unfinished_value self.entry }
     {
         let Unfinished {
             home,
@@ -342,7 +342,7 @@ impl<H: CacheHome> From<Unfinished<'_, H>> for Fault {
 
     fn from(unfinished: Unfinished<'_, H>) -> Fault
         ensures fault { result ≡ fault_of unfinished.entry }
-        ensures cache { H.receives unfinished.exit.0.now (returned unfinished.entry).cache }
+        ensures cache { H.receives unfinished.exit.0.now (unfinished_value unfinished.entry).cache }
     {
         unfinished.fault
     }

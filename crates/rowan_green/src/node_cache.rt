@@ -5,7 +5,7 @@ ghost use Rattle.rowan_green.specs.declared.utility_types.NodeOrToken.TheVariant
 ghost use Rattle.rowan_green.specs.Term.{token_of, node_of};
 ghost use Rattle.rowan_green.specs.Fits.{byte_limit, AreWithin, WhyNoNode};
 ghost use Rattle.rowan_green.specs.Word.{WhyNoToken};
-ghost use Rattle.rowan_green.specs.Cache.{empty_cache, first_seen, count_tokens, count_nodes, asked, IsNumbered, AreNumbered, elements, ListsNumbers, gets_number};
+ghost use Rattle.rowan_green.specs.Cache.{empty_cache, first_seen, count_tokens, count_nodes, intern, IsNumbered, AreNumbered, elements, ListsNumbers, gets_number};
 ghost use Rattle.rowan_green.specs.Tables.{PutsNumber, SameNumbers, number_of_token, number_of_node};
 
 use crate::fault::Fault;
@@ -120,7 +120,7 @@ impl NodeCache {
         ensures too_long { byte_limit < length text.now → result ≡ Err Fault.TextTooLong }
 
         // What the cache keeps.
-        ensures kept { OnOk result (self.new ≡ asked self.old (Token (token_of kind.0 text.now))) }
+        ensures kept { OnOk result (self.new ≡ intern self.old (Token (token_of kind.0 text.now))) }
         ensures unchanged { OnErr result (self.new ≡ self.old) }
     {
         if let Some(number) = token_number(&self.tokens, kind.0, text) {
@@ -157,7 +157,7 @@ impl NodeCache {
 
         // What the cache keeps.
         ensures kept { let node = node_of kind.0 (elements children.now) in
-            OnOk result (self.new ≡ asked self.old (Node node)) }
+            OnOk result (self.new ≡ intern self.old (Node node)) }
         ensures unchanged { OnErr result (self.new ≡ self.old) }
     {
         if !write_numbers(&mut self.numbers, self.limit, children)? {

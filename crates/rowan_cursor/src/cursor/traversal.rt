@@ -28,7 +28,7 @@ impl Traversal {
     ghost use Rattle.rowan_cursor.specs.Events.{LeavesNoToken, event_of};
     ghost use Rattle.rowan_cursor.specs.Preorder.{preorder, preorder_with_tokens, descendants, descendants_with_tokens, event_map, skip};
     ghost use Rattle.rowan_cursor.specs.TableView.{cursor_of, element_of, path_at, stands_for_node, IsWithin, IsNodeIn};
-    ghost use Rattle.rowan_cursor.specs.TraversalView.{path_events_left, node_path_events_left, paths_entered, node_paths_entered, traversal_events, traversal_node_events, traversal_elements, traversal_nodes, HasLeftTokens};
+    ghost use Rattle.rowan_cursor.specs.TraversalView.{remaining_path_events, remaining_node_path_events, paths_entered, node_paths_entered, traversal_events, traversal_node_events, traversal_elements, traversal_nodes, HasLeftTokens};
     ghost use Rattle.rowan_cursor.specs.Walks.{rest_of};
 
     // The whole walk from a node. Refused where the table cannot be shared once more.
@@ -60,9 +60,9 @@ impl Traversal {
 
     // The next event.
     fn next_event(&mut self) -> Option<WalkEvent<usize>>
-        ensures none { IfNone result (path_events_left self.old ≡ []) }
-        ensures some { IfSome result (λ e. path_events_left self.old
-            ≡ event_of self.old.table.value e ∷ path_events_left self.new) }
+        ensures none { IfNone result (remaining_path_events self.old ≡ []) }
+        ensures some { IfSome result (λ e. remaining_path_events self.old
+            ≡ event_of self.old.table.value e ∷ remaining_path_events self.new) }
         ensures within { IfSome result (λ e. IsWithin self.old.table.value (event_value e)) }
 
         // after the event of a node no token is still to be left
@@ -78,9 +78,9 @@ impl Traversal {
 
     // The next event of a node.
     fn next_node_event(&mut self) -> Option<WalkEvent<usize>>
-        ensures none { IfNone result (node_path_events_left self.old ≡ []) }
-        ensures some { IfSome result (λ e. node_path_events_left self.old
-            ≡ event_of self.old.table.value e ∷ node_path_events_left self.new) }
+        ensures none { IfNone result (remaining_node_path_events self.old ≡ []) }
+        ensures some { IfSome result (λ e. remaining_node_path_events self.old
+            ≡ event_of self.old.table.value e ∷ remaining_node_path_events self.new) }
         ensures node { IfSome result (λ e. IsNodeIn self.old.table.value (event_value e)) }
 
         // no token is still to be left after it

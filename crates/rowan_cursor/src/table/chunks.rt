@@ -2,7 +2,7 @@
 ghost use Rattle.std.specs.Prelude.{◌≡◌, ◌≤◌, ◌∷◌, ◌↔◌, [], true, false, IsTrue, IfOk, IfSome, MatchOption, Some, length, string_bytes};
 ghost use Rattle.std.specs.Fmt.{DisplaysOnOk};
 ghost use Rattle.std.specs.Str.{IsCharBoundary};
-ghost use Rattle.rowan_cursor.specs.Chunks.{leaves_left, IsTokenInside, MayCut, IsWalk, chunks_left, slice_of, IsSliceOf, IsByteIn};
+ghost use Rattle.rowan_cursor.specs.Chunks.{remaining_leaves, IsTokenInside, MayCut, IsWalk, remaining_chunks, slice_of, IsSliceOf, IsByteIn};
 ghost use Rattle.rowan_cursor.specs.Folds.{FoldsUntilErr, VisitsUntilErr, VisitsAll};
 ghost use Rattle.rowan_cursor.specs.SyntaxText.{meets, common_part, chunks, slice_text, part_of, CanCut, ReadsChar, same_text};
 ghost use Rattle.rowan_cursor.specs.TableView.{path_at};
@@ -47,7 +47,7 @@ impl Table {
     pub(crate) fn chunk_walk(&self, node: usize, range: TextRange) -> ChunkWalk
         requires { IsSliceOf self.now node range }
         ensures walk { IsWalk self.now result }
-        ensures chunks { chunks_left self.now result ≡ chunks (slice_of self.now node range) }
+        ensures chunks { remaining_chunks self.now result ≡ chunks (slice_of self.now node range) }
     {
         ChunkWalk {
             node,
@@ -60,8 +60,8 @@ impl Table {
     // The next token behind one, inside the element at `top`.
     fn next_inside(&self, number: usize, top: usize) -> Option<usize>
         requires { IsTokenInside self.now top number }
-        ensures left { leaves_left self.now top (Some number)
-            ≡ path_at self.now number ∷ leaves_left self.now top result }
+        ensures left { remaining_leaves self.now top (Some number)
+            ≡ path_at self.now number ∷ remaining_leaves self.now top result }
         ensures token { IfSome result (IsTokenInside self.now top) }
     {
         match self.step_on(number, top) {
@@ -74,8 +74,9 @@ impl Table {
     pub(crate) fn next_chunk(&self, walk: &mut ChunkWalk) -> Option<&str>
         requires { IsWalk self.now walk.old }
         ensures walk { IsWalk self.now walk.new }
-        ensures next { MatchOption result (chunks_left self.now walk.old ≡ [])
-            (λ chunk. chunks_left self.now walk.old ≡ chunk.now ∷ chunks_left self.now walk.new) }
+        ensures next { MatchOption result (remaining_chunks self.now walk.old ≡ [])
+            (λ chunk. remaining_chunks self.now walk.old
+            ≡ chunk.now ∷ remaining_chunks self.now walk.new) }
     {
         while let Some(number) = walk.next {
             let at = walk.at;

@@ -1,7 +1,7 @@
 //! From event to event of a walk: an element is entered before what is below it, and left after.
 ghost use Rattle.std.specs.Prelude.{◌≡◌, ◌∷◌, true, Some};
 ghost use Rattle.rowan_green.specs.WalkEvent.{event_value};
-ghost use Rattle.rowan_cursor.specs.Events.{NextStays, LeavesNoToken, behind_path, event_of, events_left};
+ghost use Rattle.rowan_cursor.specs.Events.{NextStays, LeavesNoToken, behind_path, event_of, remaining_events};
 ghost use Rattle.rowan_cursor.specs.TablePass.{StandsInside};
 ghost use Rattle.rowan_cursor.specs.TableView.{root_of, path_at, stands_for_node};
 
@@ -16,8 +16,8 @@ impl Table {
         start: usize,
     ) -> Option<WalkEvent<usize>>
         requires { StandsInside self.now start (event_value event) }
-        ensures next { events_left self.now start (Some event)
-            ≡ event_of self.now event ∷ events_left self.now start result }
+        ensures next { remaining_events self.now start (Some event)
+            ≡ event_of self.now event ∷ remaining_events self.now start result }
         ensures inside { NextStays self.now start result }
         ensures node { stands_for_node self.now (event_value event) ≡ true
             → LeavesNoToken self.now result }
@@ -34,7 +34,7 @@ impl Table {
     // The event that comes after an element was left.
     fn event_behind(&self, number: usize, start: usize) -> Option<WalkEvent<usize>>
         requires { StandsInside self.now start number }
-        ensures next { events_left self.now start result
+        ensures next { remaining_events self.now start result
             ≡ behind_path (root_of self.now) (path_at self.now start) (path_at self.now number) }
         ensures inside { NextStays self.now start result }
         ensures node { LeavesNoToken self.now result }

@@ -3,7 +3,7 @@ ghost use Rattle.std.specs.Prelude.{◌≡◌, ◌<◌, length, IfOk, IfErr, OnO
 ghost use Rattle.rowan_green.specs.declared.utility_types.NodeOrToken.TheVariants.{Node, Token};
 ghost use Rattle.rowan_green.specs.Builder.{new_builder, adds, opens, FinishesNode, WrapsAt};
 ghost use Rattle.rowan_green.specs.Fits.{byte_limit};
-ghost use Rattle.rowan_green.specs.Weave.{last_place};
+ghost use Rattle.rowan_green.specs.Weave.{place_of_innermost};
 ghost use Rattle.rowan_green.specs.Word.{WhyNoToken, HasNoneOpen, WhyNotClosed, HasCount, IsPast, IsBeforeOpening, WhyNotWrapped, IsFinished, WhyUnfinished, word_text};
 ghost use Rattle.rowan_green.specs.Term.{node_text};
 
@@ -188,7 +188,7 @@ impl OwningBuilder {
 
 // The place of the innermost open node, or 0.
 fn innermost_place(parents: &[OpenNode]) -> usize
-    ensures { result ≡ last_place 0 parents.now }
+    ensures { result ≡ place_of_innermost 0 parents.now }
 {
     match parents.last() {
         Some(open) => open.first_child,

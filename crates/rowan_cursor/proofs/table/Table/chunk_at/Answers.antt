@@ -1,7 +1,7 @@
 use Rattle.std.proofs.Common.{◌<◌, ◌≤◌, ◌++◌, length, sym, ◌∙◌, ap, arith, rules, length-append, append_assoc}
 use Rattle.std.proofs.lemmas.List.{append-nil}
 use Rattle.std.specs.List.{concat}
-use Rattle.rowan_cursor.specs.Chunks.{slice_of, chunks_left}
+use Rattle.rowan_cursor.specs.Chunks.{slice_of, remaining_chunks}
 use Rattle.rowan_cursor.proofs.SliceLemmas.{chunks-joined}
 use Rattle.rowan_cursor.proofs.TokenLemmas.{stands_at}
 use Rattle.rowan_cursor.proofs.table.Table.chunk_at.Goals as goal
@@ -14,7 +14,7 @@ returns-then-place-chunk c =
     let here : c.loop-chunk.place < length c.in-Some.chunk.now = search rules in
     record {
       before = before.0;
-      after = concat (chunks_left table c.next_chunk.new.walk);
+      after = concat (remaining_chunks table c.next_chunk.new.walk);
       parts = sym (chunks-joined (slice_of table c.args.node c.args.range) there.0 there.1 c.requires.slice) ∙ sym before.1 ∙ ap (λ cs. before.0 ++ concat cs) c.in-Some.ensures.next;
       at = before.2;
       within = here;
@@ -29,7 +29,7 @@ loop-chunk-preserved c =
       c.in-Some.ensures.walk,
       (
         before.0 ++ chunk,
-        append_assoc before.0 chunk (concat (chunks_left table c.next_chunk.new.walk)) ∙ sym (ap (λ cs. before.0 ++ concat cs) c.in-Some.ensures.next) ∙ before.1,
+        append_assoc before.0 chunk (concat (remaining_chunks table c.next_chunk.new.walk)) ∙ sym (ap (λ cs. before.0 ++ concat cs) c.in-Some.ensures.next) ∙ before.1,
         omega (arith, before.2, length-append before.0 chunk, past),
       ),
     )

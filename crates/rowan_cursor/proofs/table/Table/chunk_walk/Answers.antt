@@ -1,11 +1,11 @@
 use Rattle.std.proofs.Common.{◌∙◌, ap}
 use Rattle.rowan_cursor.specs.declared.table.chunks.ChunkWalk.{ChunkWalk}
 use Rattle.rowan_cursor.specs.SyntaxText.{cut_chunks}
-use Rattle.rowan_cursor.specs.Chunks.{texts_left}
+use Rattle.rowan_cursor.specs.Chunks.{remaining_texts}
 use Rattle.rowan_cursor.specs.Equal.{start_of}
 use Rattle.rowan_cursor.specs.TableView.{cursor_of}
 use Rattle.rowan_cursor.specs.TableView.{path_at}
-use Rattle.rowan_cursor.proofs.ChunkLemmas.{walk_start, texts_left-start}
+use Rattle.rowan_cursor.proofs.ChunkLemmas.{walk_start, remaining_texts-start}
 use Rattle.rowan_cursor.proofs.PathLemmas.{begins-self}
 use Rattle.rowan_cursor.proofs.table.Table.chunk_walk.Goals as goal
 
@@ -26,5 +26,5 @@ returns-clause-walk c =
 pub returns-clause-chunks : goal.returns-clause-chunks
 returns-clause-chunks c =
     let table = c.args.self.now in
-    ap (λ a. cut_chunks c.args.range a (texts_left table c.args.node c.token_from.result)) (c.start.ensures.offset ∙ ap (λ r. r.start) c.text_range.ensures)
-    ∙ ap (cut_chunks c.args.range (start_of (cursor_of table c.args.node))) (texts_left-start table c.args.node c.token_from.result c.token_from.ensures.left)
+    ap (λ a. cut_chunks c.args.range a (remaining_texts table c.args.node c.token_from.result)) (c.start.ensures.offset ∙ ap (λ r. r.start) c.text_range.ensures)
+    ∙ ap (cut_chunks c.args.range (start_of (cursor_of table c.args.node))) (remaining_texts-start table c.args.node c.token_from.result c.token_from.ensures.left)

@@ -1,6 +1,6 @@
 use Rattle.std.proofs.Common.{◌≡◌, ◌++◌, length, string_bytes}
 use Rattle.std.specs.List.{concat}
-use Rattle.rowan_cursor.specs.Chunks.{IsWalk, chunks_left, slice_of}
+use Rattle.rowan_cursor.specs.Chunks.{IsWalk, remaining_chunks, slice_of}
 use Rattle.rowan_cursor.specs.SyntaxText.{chunks}
 use Rattle.rowan_cursor.proofs.table.Table.copied_chunks.Given as goal
 
@@ -8,7 +8,7 @@ use Rattle.rowan_cursor.proofs.table.Table.copied_chunks.Given as goal
 abbrev pub invariant-loop-chunk : goal.invariant-loop-chunk
 invariant-loop-chunk l =
     let table = l.self in
-    IsWalk table l.walk × (string_bytes l.text ++ concat (chunks_left table l.walk) ≡ concat (chunks (slice_of table l.node l.fn.range)))
+    IsWalk table l.walk × (string_bytes l.text ++ concat (remaining_chunks table l.walk) ≡ concat (chunks (slice_of table l.node l.fn.range)))
 
 abbrev pub decreases-loop-chunk : goal.decreases-loop-chunk
-decreases-loop-chunk l = length (chunks_left l.self l.walk)
+decreases-loop-chunk l = length (remaining_chunks l.self l.walk)

@@ -1,5 +1,5 @@
 use Rattle.std.proofs.Common.{length}
-use Rattle.rowan_cursor.specs.Chunks.{IsWalk, chunks_left, slice_of}
+use Rattle.rowan_cursor.specs.Chunks.{IsWalk, remaining_chunks, slice_of}
 use Rattle.rowan_cursor.specs.Folds.{FoldsUntilErr}
 use Rattle.rowan_cursor.specs.SyntaxText.{chunks}
 use Rattle.rowan_cursor.proofs.table.Table.fold_chunks.Given as goal
@@ -10,7 +10,7 @@ invariant-loop-chunk g l =
     let table = l.self in
     goal.F-IsAlwaysCallable g l.f
     × IsWalk table l.walk
-    × ((r : _) (last : _) → FoldsUntilErr g.F.FnMut l.f l.total (chunks_left table l.walk) r last → FoldsUntilErr g.F.FnMut l.fn.f l.fn.init (chunks (slice_of table l.node l.fn.range)) r last)
+    × ((r : _) (last : _) → FoldsUntilErr g.F.FnMut l.f l.total (remaining_chunks table l.walk) r last → FoldsUntilErr g.F.FnMut l.fn.f l.fn.init (chunks (slice_of table l.node l.fn.range)) r last)
 
 abbrev pub decreases-loop-chunk : goal.decreases-loop-chunk
-decreases-loop-chunk g l = length (chunks_left l.self l.walk)
+decreases-loop-chunk g l = length (remaining_chunks l.self l.walk)

@@ -3,7 +3,7 @@ use Rattle.std.proofs.lemmas.Bool.{false≢true}
 use Rattle.std.proofs.lemmas.Bool.Decides.{Decides-eqb}
 use Rattle.std.proofs.lemmas.List.{append_cancel_left}
 use Rattle.std.specs.List.{concat}
-use Rattle.rowan_cursor.specs.Chunks.{slice_of, chunks_left}
+use Rattle.rowan_cursor.specs.Chunks.{slice_of, remaining_chunks}
 use Rattle.rowan_cursor.specs.SyntaxText.{slice_text}
 use Rattle.rowan_cursor.proofs.SliceLemmas.{chunks-joined, empty_text}
 use Rattle.rowan_cursor.proofs.TokenLemmas.{stands_at}
@@ -19,7 +19,7 @@ loop-chunk-preserved c =
       c.in-Some.ensures.walk,
       (
         before.0 ++ chunk,
-        append_assoc before.0 chunk (concat (chunks_left table c.next_chunk.new.walk)) ∙ sym (ap (λ cs. before.0 ++ concat cs) c.in-Some.ensures.next) ∙ before.1,
+        append_assoc before.0 chunk (concat (remaining_chunks table c.next_chunk.new.walk)) ∙ sym (ap (λ cs. before.0 ++ concat cs) c.in-Some.ensures.next) ∙ before.1,
         before.2 ∙ ap (λ us. before.0 ++ us) (strip.1.1 ∙ ap (λ us. chunk ++ us) (sym strip.2)) ∙ sym (append_assoc before.0 chunk c.in-Some-strip_prefix.after.now),
       ),
     )
@@ -30,7 +30,7 @@ returns-in-None c =
     let there = stands_at table.entries.items table.complete c.args.node c.requires.node.within in
     let before = c.loop-chunk.invariant.2 in
     let chunk = c.in-Some.chunk.now in
-    let later = concat (chunks_left table c.next_chunk.new.walk) in
+    let later = concat (remaining_chunks table c.next_chunk.new.walk) in
     let joined = chunks-joined (slice_of table c.args.node c.args.range) there.0 there.1 c.requires.slice in (
       (λ h. absurd (false≢true h)),
       (λ e. absurd (c.in-None.ensures.cases later (append_cancel_left before.0 c.loop-chunk.rest.now (chunk ++ later) (sym before.2 ∙ sym e ∙ sym joined ∙ sym before.1 ∙ ap (λ cs. before.0 ++ concat cs) c.in-Some.ensures.next)))),

@@ -1,7 +1,7 @@
 use Rattle.std.proofs.Common.{◌≡◌, ◌≢◌, ◌<◌, ◌++◌, length, sym, ◌∙◌, ap, arith, rules, append_assoc, length-append}
 use Rattle.std.proofs.lemmas.List.{append-nil, append_cancel_left}
 use Rattle.std.specs.List.{concat}
-use Rattle.rowan_cursor.specs.Chunks.{slice_of, chunks_left}
+use Rattle.rowan_cursor.specs.Chunks.{slice_of, remaining_chunks}
 use Rattle.rowan_cursor.proofs.SliceLemmas.{chunks-joined, slice_text-len}
 use Rattle.rowan_cursor.proofs.SameLemmas.{same, differ, fronts, longer, all_alike}
 use Rattle.rowan_cursor.proofs.TokenLemmas.{stands_at}
@@ -23,8 +23,8 @@ returns-in-None c =
     let here = stands_at c.args.self.now.entries.items c.args.self.now.complete c.args.node c.requires.slice.node.within in
     let there = stands_at c.args.other.now.entries.items c.args.other.now.complete c.args.other_node c.requires.other_slice.node.within in
     let before = c.loop-mine.invariant.1 in
-    let left = concat (chunks_left c.args.self.now c.next_chunk.new.walk) in
-    let theirs = concat (chunks_left c.args.other.now c.loop-mine.other_walk) in
+    let left = concat (remaining_chunks c.args.self.now c.next_chunk.new.walk) in
+    let theirs = concat (remaining_chunks c.args.other.now c.loop-mine.other_walk) in
     let some : 0 < length c.loop-mine.mine.now = search rules in
     let none : length c.loop-mine.theirs.now ≡ 0 = search rules in
     differ s t (λ e. longer before.0 (c.loop-mine.mine.now ++ left) (c.loop-mine.theirs.now ++ theirs)
@@ -39,8 +39,8 @@ returns-then-ne-2 c =
     let here = stands_at c.args.self.now.entries.items c.args.self.now.complete c.args.node c.requires.slice.node.within in
     let there = stands_at c.args.other.now.entries.items c.args.other.now.complete c.args.other_node c.requires.other_slice.node.within in
     let before = c.loop-mine.invariant.1 in
-    let left = concat (chunks_left c.args.self.now c.next_chunk.new.walk) in
-    let theirs = concat (chunks_left c.args.other.now c.loop-mine.other_walk) in
+    let left = concat (remaining_chunks c.args.self.now c.next_chunk.new.walk) in
+    let theirs = concat (remaining_chunks c.args.other.now c.loop-mine.other_walk) in
     let mine = c.split_at.result in
     let others = c.split_at-in-loop-mine.result in
     let apart : mine.0.now ≢ others.0.now = search rules in
@@ -52,8 +52,8 @@ returns-then-ne-2 c =
 pub loop-mine-preserved : goal.loop-mine-preserved
 loop-mine-preserved c =
     let before = c.loop-mine.invariant.1 in
-    let left = concat (chunks_left c.args.self.now c.next_chunk.new.walk) in
-    let theirs = concat (chunks_left c.args.other.now c.loop-mine.other_walk) in
+    let left = concat (remaining_chunks c.args.self.now c.next_chunk.new.walk) in
+    let theirs = concat (remaining_chunks c.args.other.now c.loop-mine.other_walk) in
     let mine = c.split_at.result in
     let others = c.split_at-in-loop-mine.result in
     let alike : mine.0.now ≡ others.0.now = search rules in (
@@ -73,7 +73,7 @@ returns c =
     let here = stands_at c.args.self.now.entries.items c.args.self.now.complete c.args.node c.requires.slice.node.within in
     let there = stands_at c.args.other.now.entries.items c.args.other.now.complete c.args.other_node c.requires.other_slice.node.within in
     let before = c.loop-chunk.invariant.2 in
-    let theirs = concat (chunks_left c.args.other.now c.loop-chunk.other_walk) in
+    let theirs = concat (remaining_chunks c.args.other.now c.loop-chunk.other_walk) in
     let len : c.len.result ≡ c.len-2.result = search rules in
     same s t (all_alike before.0 (c.loop-chunk.theirs.now ++ theirs) _ _
     (sym (chunks-joined s here.0 here.1 c.requires.slice.slice) ∙ sym before.1 ∙ ap (λ cs. before.0 ++ concat cs) c.in_default.ensures.next ∙ append-nil before.0)

@@ -1,6 +1,6 @@
 use Rattle.std.proofs.Common.{◌≡◌, ℕ, ◌+◌, List, ◌++◌, length}
 use Rattle.std.specs.List.{concat}
-use Rattle.rowan_cursor.specs.Chunks.{IsWalk, chunks_left, slice_of}
+use Rattle.rowan_cursor.specs.Chunks.{IsWalk, remaining_chunks, slice_of}
 use Rattle.rowan_cursor.specs.SyntaxText.{chunks}
 use Rattle.rowan_cursor.proofs.table.Table.has_text_of.Given as goal
 
@@ -10,20 +10,20 @@ invariant-loop-chunk l =
     let table = l.self in
     let others = l.other in
     IsWalk table l.walk × IsWalk others l.other_walk
-    × ((before : List ℕ) × (before ++ concat (chunks_left table l.walk) ≡ concat (chunks (slice_of table l.node l.fn.range)))
-    × (before ++ (l.theirs ++ concat (chunks_left others l.other_walk)) ≡ concat (chunks (slice_of others l.other_node l.fn.other_range))))
+    × ((before : List ℕ) × (before ++ concat (remaining_chunks table l.walk) ≡ concat (chunks (slice_of table l.node l.fn.range)))
+    × (before ++ (l.theirs ++ concat (remaining_chunks others l.other_walk)) ≡ concat (chunks (slice_of others l.other_node l.fn.other_range))))
 
 abbrev pub decreases-loop-chunk : goal.decreases-loop-chunk
-decreases-loop-chunk l = length (chunks_left l.self l.walk)
+decreases-loop-chunk l = length (remaining_chunks l.self l.walk)
 
 abbrev pub invariant-loop-mine : goal.invariant-loop-mine
 invariant-loop-mine l =
     let table = l.self in
     let others = l.other in
     IsWalk others l.other_walk
-    × ((before : List ℕ) × (before ++ (l.mine ++ concat (chunks_left table l.walk)) ≡ concat (chunks (slice_of table l.node l.fn.range)))
-    × (before ++ (l.theirs ++ concat (chunks_left others l.other_walk)) ≡ concat (chunks (slice_of others l.other_node l.fn.other_range))))
+    × ((before : List ℕ) × (before ++ (l.mine ++ concat (remaining_chunks table l.walk)) ≡ concat (chunks (slice_of table l.node l.fn.range)))
+    × (before ++ (l.theirs ++ concat (remaining_chunks others l.other_walk)) ≡ concat (chunks (slice_of others l.other_node l.fn.other_range))))
 
 -- each round takes a chunk of the other text, or bytes of this one
 abbrev pub decreases-loop-mine : goal.decreases-loop-mine
-decreases-loop-mine l = length l.mine + length (chunks_left l.other l.other_walk)
+decreases-loop-mine l = length l.mine + length (remaining_chunks l.other l.other_walk)

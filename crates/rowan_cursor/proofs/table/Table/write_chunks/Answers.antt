@@ -2,7 +2,7 @@ use Rattle.std.proofs.Common.{◌++◌, [], true, refl, sym, ◌∙◌, ap, appe
 use Rattle.std.proofs.lemmas.List.{append-nil}
 use Rattle.std.proofs.Output.{has_written_append, has_written_of_eq, writes_in_calls_nil}
 use Rattle.std.specs.List.{concat}
-use Rattle.rowan_cursor.specs.Chunks.{slice_of, chunks_left}
+use Rattle.rowan_cursor.specs.Chunks.{slice_of, remaining_chunks}
 use Rattle.rowan_cursor.proofs.SliceLemmas.{chunks-joined}
 use Rattle.rowan_cursor.proofs.TokenLemmas.{stands_at}
 use Rattle.rowan_cursor.proofs.table.Table.write_chunks.Goals as goal
@@ -15,7 +15,7 @@ loop-chunk-preserved g c =
     let table = c.args.self.now in
     let before = c.loop-chunk.invariant.1 in
     let chunk = c.in-Some.chunk.now in
-    let later = concat (chunks_left table c.next_chunk.new.walk) in (
+    let later = concat (remaining_chunks table c.next_chunk.new.walk) in (
       c.in-Some.ensures.walk,
       (
         before.0 ++ chunk,

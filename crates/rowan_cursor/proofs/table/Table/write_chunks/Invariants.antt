@@ -1,7 +1,7 @@
 use Rattle.std.proofs.Common.{◌≡◌, ℕ, List, ◌++◌, length}
 use Rattle.std.specs.Fmt.{HasWritten, IsPlainFormatter}
 use Rattle.std.specs.List.{concat}
-use Rattle.rowan_cursor.specs.Chunks.{IsWalk, chunks_left, slice_of}
+use Rattle.rowan_cursor.specs.Chunks.{IsWalk, remaining_chunks, slice_of}
 use Rattle.rowan_cursor.specs.SyntaxText.{chunks}
 use Rattle.rowan_cursor.proofs.table.Table.write_chunks.Given as goal
 
@@ -10,8 +10,8 @@ abbrev pub invariant-loop-chunk : goal.invariant-loop-chunk
 invariant-loop-chunk g l =
     let table = l.self in
     IsWalk table l.walk
-    × ((written : List ℕ) × (written ++ concat (chunks_left table l.walk) ≡ concat (chunks (slice_of table l.node l.fn.range)))
+    × ((written : List ℕ) × (written ++ concat (remaining_chunks table l.walk) ≡ concat (chunks (slice_of table l.node l.fn.range)))
     × (IsPlainFormatter l.fn.f → HasWritten g.W.Write.write_str_gives l.fn.f written l.f))
 
 abbrev pub decreases-loop-chunk : goal.decreases-loop-chunk
-decreases-loop-chunk g l = length (chunks_left l.self l.walk)
+decreases-loop-chunk g l = length (remaining_chunks l.self l.walk)

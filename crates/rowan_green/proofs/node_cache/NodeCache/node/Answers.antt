@@ -7,9 +7,9 @@ use Rattle.rowan_green.specs.declared.node_cache.Interned.{Interned}
 use Rattle.rowan_green.specs.declared.utility_types.NodeOrToken.TheVariants.{Node}
 use Rattle.rowan_green.specs.Term.{NodeTerm, Term, node_of}
 use Rattle.rowan_green.specs.Fits.{AreWithin}
-use Rattle.rowan_green.specs.Cache.{CacheValue, asked, AreNumbered, elements}
+use Rattle.rowan_green.specs.Cache.{CacheValue, intern, AreNumbered, elements}
 use Rattle.rowan_green.specs.Tables.{PutsNumber, number_of_node, StandAt, IsIndexed}
-use Rattle.rowan_green.proofs.CacheLemmas.{slice_get-last, asked-known, asked-ineligible, asked-fresh}
+use Rattle.rowan_green.proofs.CacheLemmas.{slice_get-last, intern-known, intern-ineligible, intern-fresh}
 use Rattle.rowan_green.proofs.NumberLemmas.{is_eligible-kept, IsNumbered-none, IsNumbered-at}
 use Rattle.rowan_green.proofs.IndexLemmas.{elements-stand, elements-known, elements-fresh, IsIndexed-node, IsIndexed-same_nodes}
 use Rattle.rowan_green.proofs.Terms.{terms-forest}
@@ -32,7 +32,7 @@ returns-then-not-branch-clause-kept c =
     let t : Term = Node (node_of c.args.kind.0 (elements is)) in
     let numbered : AreNumbered cache is = subst (λ v. AreNumbered v is) (sym c.self.view_is) c.requires in
     let no_fit = is_eligible-kept cache c.args.kind.0 is c.in_ok-write_numbers.field-0 numbered c.in_ok-write_numbers.ensures.kept ∙ c.if-not-branch.true in
-    asked-ineligible cache t no_fit ∙ ap (λ v. asked v t) c.self.view_is
+    intern-ineligible cache t no_fit ∙ ap (λ v. intern v t) c.self.view_is
 
 -- ---- a node that the cache keeps
 
@@ -65,7 +65,7 @@ returns-in-Some c =
       within = subst AreWithin (terms-forest (elements is)) (c.self.invariant.within c.in-Some.number t stands);
       number = IsNumbered-at cache c.in-Some.number t i fit stands is_t c.in_ok-interned_at.ensures.0;
       err = search rules;
-      kept = asked-known cache c.in-Some.number t stands ∙ ap (λ v. asked v t) c.self.view_is;
+      kept = intern-known cache c.in-Some.number t stands ∙ ap (λ v. intern v t) c.self.view_is;
       unchanged = search rules;
     }
 
@@ -114,7 +114,7 @@ returns c =
       ok = made;
       within = c.in_ok-node-2.ensures.within;
       number = IsNumbered-at (record { limit = s.limit; seen = c.push.new.self.items }) c.len-number.result t (record { number = Some c.len-number.result; element = Node c.in_ok-node-2.node }) fit stands made refl;
-      kept = ap (λ (ts : List Term). record { limit = s.limit; seen = ts }) grown ∙ asked-fresh cache t fit fresh ∙ ap (λ v. asked v t) c.self.view_is;
+      kept = ap (λ (ts : List Term). record { limit = s.limit; seen = ts }) grown ∙ intern-fresh cache t fit fresh ∙ ap (λ v. intern v t) c.self.view_is;
       err = search rules;
       unchanged = search rules;
     }

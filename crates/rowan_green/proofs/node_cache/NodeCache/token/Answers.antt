@@ -5,9 +5,9 @@ use Rattle.std.proofs.lemmas.Bool.{cases_lt}
 use Rattle.rowan_green.specs.Fits.{byte_limit}
 use Rattle.rowan_green.specs.declared.utility_types.NodeOrToken.TheVariants.{Token}
 use Rattle.rowan_green.specs.Term.{Term, TokenTerm, token_of}
-use Rattle.rowan_green.specs.Cache.{CacheValue, asked}
+use Rattle.rowan_green.specs.Cache.{CacheValue, intern}
 use Rattle.rowan_green.specs.Tables.{PutsNumber, number_of_token, IsIndexed}
-use Rattle.rowan_green.proofs.CacheLemmas.{slice_get-last, asked-known, asked-fresh}
+use Rattle.rowan_green.proofs.CacheLemmas.{slice_get-last, intern-known, intern-fresh}
 use Rattle.rowan_green.proofs.IndexLemmas.{token-fresh, IsIndexed-token}
 use Rattle.rowan_green.proofs.node_cache.NodeCache.token.Goals as goal
 
@@ -22,7 +22,7 @@ returns-in-Some-clause-kept c =
     let stands = (c.self.invariant.token_found c.in-Some.number c.args.kind.0 c.args.text.now).0 (sym c.token_number.ensures ∙ c.in-Some.is) in
     let cache : CacheValue = record { limit = c.self.inside.limit; seen = c.self.inside.values.items } in
     let t : Term = Token (token_of c.args.kind.0 c.args.text.now) in
-    subst (λ v. v ≡ asked v t) c.self.view_is (asked-known cache c.in-Some.number t stands)
+    subst (λ v. v ≡ intern v t) c.self.view_is (intern-known cache c.in-Some.number t stands)
 
 pub returns-in_err-interned_at-clause-too_long : goal.returns-in_err-interned_at-clause-too_long
 returns-in_err-interned_at-clause-too_long c = λ long.
@@ -64,4 +64,4 @@ returns-clause-kept c =
     let grown : c.push.new.self.items ≡ s.values.items ++ t ∷ [] =
     c.in_ok-push.ensures.items ∙ ap (λ ts. ts ++ Token c.in_ok-kept.kept ∷ []) c.in_ok-reserve.ensures.items ∙ ap (λ (u : TokenTerm). s.values.items ++ Token u ∷ []) (c.in_ok-kept.ensures.cases ∙ c.in_ok-token.ensures.ok) in
     let fresh = token-fresh c.self.invariant c.args.kind.0 c.args.text.now (sym c.token_number.ensures ∙ c.in_default.is) in
-    ap (λ (ts : List Term). record { limit = s.limit; seen = ts }) grown ∙ asked-fresh cache t refl fresh ∙ ap (λ v. asked v t) c.self.view_is
+    ap (λ (ts : List Term). record { limit = s.limit; seen = ts }) grown ∙ intern-fresh cache t refl fresh ∙ ap (λ v. intern v t) c.self.view_is

@@ -4,7 +4,7 @@ use Rattle.rowan_green.specs.declared.utility_types.NodeOrToken.TheVariants.{Nod
 use Rattle.rowan_green.specs.Cache.{first_seen}
 use Rattle.rowan_green.specs.Stream.{subterms}
 use Rattle.rowan_green.specs.Term.{node_text}
-use Rattle.rowan_green.proofs.StreamLemmas.{AskedForWord-starts, AskedForWord-finished, asked_for-first_seen}
+use Rattle.rowan_green.proofs.StreamLemmas.{InternsWord-starts, InternsWord-finished, intern_all-first_seen}
 use Rattle.rowan_tool.specs.Sexp.{tokens_text}
 use Rattle.rowan_tool.proofs.ParsingLemmas.{IsTree-refuses}
 use Rattle.rowan_tool.proofs.sexp.parser.parse_with.Goals as goal
@@ -18,10 +18,10 @@ pub returns-in-Ok-clause-interned : goal.returns-in-Ok-clause-interned
 returns-in-Ok-clause-interned c =
     let began = c.with_cache-builder.result.inner in
     let ended = c.build.new.builder.inner in
-    let asked = c.build.ensures.stream.keeps c.args.cache.now (AskedForWord-starts c.args.cache.now began (ap (λ b. b.word) c.with_cache-builder.ensures.empty) (ap (λ b. b.cache) c.with_cache-builder.ensures.empty)) in
+    let intern = c.build.ensures.stream.keeps c.args.cache.now (InternsWord-starts c.args.cache.now began (ap (λ b. b.word) c.with_cache-builder.ensures.empty) (ap (λ b. b.cache) c.with_cache-builder.ensures.empty)) in
     let left = subst (λ r. OnOk r (c.finish.follows.lender-at-none ≡ ended.cache)) c.in-Ok.is c.finish.follows.holds-at-none in
-    let all = c.cache-in-Ok-2.given.1 (sym (c.build.ensures.loan ∙ c.with_cache-builder.ensures.loan)) ∙ left ∙ AskedForWord-finished c.args.cache.now ended c.in-Ok.green asked c.in-Ok.ensures.ok in
-    ap (λ d. d.seen) (all ∙ asked_for-first_seen c.args.cache.now (subterms (Node c.in-Ok.green)) c.with_cache-builder.ensures.first)
+    let all = c.cache-in-Ok-2.given.1 (sym (c.build.ensures.loan ∙ c.with_cache-builder.ensures.loan)) ∙ left ∙ InternsWord-finished c.args.cache.now ended c.in-Ok.green intern c.in-Ok.ensures.ok in
+    ap (λ d. d.seen) (all ∙ intern_all-first_seen c.args.cache.now (subterms (Node c.in-Ok.green)) c.with_cache-builder.ensures.first)
     ∙ ap (λ n. first_seen c.args.cache.now.limit (c.args.cache.now.seen ++ subterms (Node n))) (sym c.new.ensures)
 
 pub unreachable-requires : goal.unreachable-requires

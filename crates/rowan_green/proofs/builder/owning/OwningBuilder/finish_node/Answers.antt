@@ -1,11 +1,11 @@
 use Rattle.std.proofs.Common.{◌-◌, ◌++◌, ◌∷◌, [], take, drop, refl, sym, ◌∙◌, ap, subst, arith}
 use Rattle.std.proofs.lemmas.Result.{err_from_is_err_and}
 use Rattle.rowan_green.specs.declared.utility_types.NodeOrToken.TheVariants.{Node}
-use Rattle.rowan_green.specs.Cache.{AreNumbered, asked, elements}
+use Rattle.rowan_green.specs.Cache.{AreNumbered, intern, elements}
 use Rattle.rowan_green.specs.Fits.{AreWithin, PassesLimit}
 use Rattle.rowan_green.specs.Term.{node_of}
 use Rattle.rowan_green.proofs.BuilderLemmas.{elements-length, elements-push, elements-take, elements-drop}
-use Rattle.rowan_green.proofs.NumberLemmas.{AreNumbered-asked, AreNumbered-push, AreNumbered-take, AreNumbered-drop}
+use Rattle.rowan_green.proofs.NumberLemmas.{AreNumbered-intern, AreNumbered-push, AreNumbered-take, AreNumbered-drop}
 use Rattle.rowan_green.proofs.WeaveLemmas.{LastOpen, LastOpen-place, LastOpen-closes, LastOpen-order, LastOpen-refuses}
 use Rattle.rowan_green.proofs.Words.{not_HasNoneOpen}
 use Rattle.rowan_green.proofs.builder.owning.OwningBuilder.finish_node.Goals as goal
@@ -42,12 +42,12 @@ invariant_of-self-2 c =
     let node = node_of c.in-Some.open.kind.0 (drop c.in-Some.open.first_child (elements s.finished.items)) in
     let children = ap elements given ∙ elements-drop c.in-Some.open.first_child s.finished.items in
     let is_node = c.in_ok-node.ensures.ok ∙ ap (λ ts. Node (node_of c.in-Some.open.kind.0 ts)) children in
-    let is_asked = c.in_ok-node.ensures.kept ∙ ap (λ ts. asked s.cache (Node (node_of c.in-Some.open.kind.0 ts))) children in
+    let is_interned = c.in_ok-node.ensures.kept ∙ ap (λ ts. intern s.cache (Node (node_of c.in-Some.open.kind.0 ts))) children in
     let terms = elements-push (take c.in-Some.open.first_child s.finished.items) c.push.new.self.items c.in_ok-node.node (Node node) placed is_node ∙ ap (λ ts. ts ++ Node node ∷ []) (elements-take c.in-Some.open.first_child s.finished.items) in (
       LastOpen-order s.parents.items (elements s.finished.items) c.in-Some.open c.pop.new.self.items (elements c.push.new.self.items) node at popped terms,
       subst (λ is. AreNumbered c.node.new.self is) (sym placed)
           (AreNumbered-push c.node.new.self (take c.in-Some.open.first_child s.finished.items) c.in_ok-node.node
-          (subst (λ cache. AreNumbered cache (take c.in-Some.open.first_child s.finished.items)) (sym is_asked) (AreNumbered-asked s.cache (Node node) (take c.in-Some.open.first_child s.finished.items) (AreNumbered-take s.cache c.in-Some.open.first_child s.finished.items c.self.invariant.1))) c.in_ok-node.ensures.number),
+          (subst (λ cache. AreNumbered cache (take c.in-Some.open.first_child s.finished.items)) (sym is_interned) (AreNumbered-intern s.cache (Node node) (take c.in-Some.open.first_child s.finished.items) (AreNumbered-take s.cache c.in-Some.open.first_child s.finished.items c.self.invariant.1))) c.in_ok-node.ensures.number),
     )
 
 pub returns-clause-ok : goal.returns-clause-ok
@@ -65,7 +65,7 @@ returns-clause-ok c =
     record {
       node = node;
       closes = LastOpen-closes s.parents.items (elements s.finished.items) c.in-Some.open c.pop.new.self.items (elements c.push.new.self.items) node c.args.self.now.word at (ap (λ b. b.word) c.self.view_is) popped terms refl (subst AreWithin children c.in_ok-node.ensures.within);
-      interns = c.in_ok-node.ensures.kept ∙ ap (λ ts. asked s.cache (Node (node_of c.in-Some.open.kind.0 ts))) children ∙ ap (λ b. asked b.cache (Node node)) c.self.view_is;
+      interns = c.in_ok-node.ensures.kept ∙ ap (λ ts. intern s.cache (Node (node_of c.in-Some.open.kind.0 ts))) children ∙ ap (λ b. intern b.cache (Node node)) c.self.view_is;
     }
 
 pub returns-in_err-reserve-clause-nothing_open : goal.returns-in_err-reserve-clause-nothing_open

@@ -1,11 +1,11 @@
 use Rattle.std.proofs.Common.{List, length, sym, ◌∙◌, ap, subst, arith}
 use Rattle.rowan_green.specs.declared.builder.owning.OpenNode.{OpenNode}
 use Rattle.rowan_green.specs.Word.{spelled, Wraps}
-use Rattle.rowan_green.specs.Weave.{weave, AreInOrder, last_place}
+use Rattle.rowan_green.specs.Weave.{weave, AreInOrder, place_of_innermost}
 use Rattle.rowan_green.specs.Cache.{elements}
 use Rattle.rowan_green.proofs.BuilderLemmas.{elements-length}
 use Rattle.rowan_green.proofs.WeaveLemmas.{AreInOrder-push}
-use Rattle.rowan_green.proofs.WrapLemmas.{IsPast-weave, not_IsPast, IsBeforeOpening-weave, not_IsBeforeOpening, Wraps-weave, AreInOrder-last, last_place-ends}
+use Rattle.rowan_green.proofs.WrapLemmas.{IsPast-weave, not_IsPast, IsBeforeOpening-weave, not_IsBeforeOpening, Wraps-weave, AreInOrder-last, place_of_innermost-ends}
 use Rattle.rowan_green.proofs.builder.owning.OwningBuilder.start_node_at.Goals as goal
 
 pub returns-then-place-len-clause-err : goal.returns-then-place-len-clause-err
@@ -17,12 +17,12 @@ pub returns-then-place-len-clause-before : goal.returns-then-place-len-clause-be
 returns-then-place-len-clause-before c = λ b.
     let s = c.self.inside in
     absurd (not_IsBeforeOpening s.parents.items (elements s.finished.items) c.args.self.now.word c.args.checkpoint (ap (λ b. b.word) c.self.view_is) c.self.invariant.0
-    (omega (arith, last_place-ends 0 s.parents.items (length (elements s.finished.items)) c.self.invariant.0, c.if-place-len.true, c.checkpoint.view_is, s.finished.ok.0, elements-length s.finished.items)) b)
+    (omega (arith, place_of_innermost-ends 0 s.parents.items (length (elements s.finished.items)) c.self.invariant.0, c.if-place-len.true, c.checkpoint.view_is, s.finished.ok.0, elements-length s.finished.items)) b)
 
 pub returns-then-place-innermost_place-clause-err : goal.returns-then-place-innermost_place-clause-err
 returns-then-place-innermost_place-clause-err c =
     let s = c.self.inside in
-    let place = c.innermost_place.ensures ∙ ap (λ ps. last_place 0 ps) c.as_slice.ensures.value in
+    let place = c.innermost_place.ensures ∙ ap (λ ps. place_of_innermost 0 ps) c.as_slice.ensures.value in
     IsBeforeOpening-weave s.parents.items (elements s.finished.items) c.args.self.now.word c.args.checkpoint (ap (λ b. b.word) c.self.view_is) c.self.invariant.0 (omega (arith, place, c.if-place-innermost_place.true, c.checkpoint.view_is))
 
 pub returns-then-place-innermost_place-clause-past : goal.returns-then-place-innermost_place-clause-past
@@ -38,7 +38,7 @@ returns-in_err-push-clause-past c = λ h.
 pub returns-in_err-push-clause-before : goal.returns-in_err-push-clause-before
 returns-in_err-push-clause-before c = λ b.
     let s = c.self.inside in
-    let place = c.innermost_place.ensures ∙ ap (λ ps. last_place 0 ps) c.as_slice.ensures.value in
+    let place = c.innermost_place.ensures ∙ ap (λ ps. place_of_innermost 0 ps) c.as_slice.ensures.value in
     absurd (not_IsBeforeOpening s.parents.items (elements s.finished.items) c.args.self.now.word c.args.checkpoint (ap (λ b. b.word) c.self.view_is) c.self.invariant.0 (omega (arith, place, c.if-place-innermost_place.false, c.checkpoint.view_is)) b)
 
 pub returns-clause-past : goal.returns-clause-past
@@ -49,14 +49,14 @@ returns-clause-past c = λ h.
 pub returns-clause-before : goal.returns-clause-before
 returns-clause-before c = λ b.
     let s = c.self.inside in
-    let place = c.innermost_place.ensures ∙ ap (λ ps. last_place 0 ps) c.as_slice.ensures.value in
+    let place = c.innermost_place.ensures ∙ ap (λ ps. place_of_innermost 0 ps) c.as_slice.ensures.value in
     absurd (not_IsBeforeOpening s.parents.items (elements s.finished.items) c.args.self.now.word c.args.checkpoint (ap (λ b. b.word) c.self.view_is) c.self.invariant.0 (omega (arith, place, c.if-place-innermost_place.false, c.checkpoint.view_is)) b)
 
 pub invariant_of-self-2 : goal.invariant_of-self-2
 invariant_of-self-2 c =
     let s = c.self.inside in
     let o : OpenNode = record { kind = c.args.kind; first_child = c.checkpoint.inside.place } in
-    let place = c.innermost_place.ensures ∙ ap (λ ps. last_place 0 ps) c.as_slice.ensures.value in
+    let place = c.innermost_place.ensures ∙ ap (λ ps. place_of_innermost 0 ps) c.as_slice.ensures.value in
     let P : List OpenNode → Type 0 = λ os. AreInOrder 0 os (length (elements s.finished.items)) in (
       subst P (sym c.in_ok-push.ensures.items)
           (AreInOrder-push 0 s.parents.items o (length (elements s.finished.items))
@@ -69,7 +69,7 @@ pub returns-clause-ok : goal.returns-clause-ok
 returns-clause-ok c =
     let s = c.self.inside in
     let o : OpenNode = record { kind = c.args.kind; first_child = c.checkpoint.inside.place } in
-    let place = c.innermost_place.ensures ∙ ap (λ ps. last_place 0 ps) c.as_slice.ensures.value in
+    let place = c.innermost_place.ensures ∙ ap (λ ps. place_of_innermost 0 ps) c.as_slice.ensures.value in
     let new = spelled (weave 0 c.push.new.self.items (elements s.finished.items)) in
     record {
       wraps =

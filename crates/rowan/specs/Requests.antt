@@ -13,35 +13,35 @@ use Rattle.rowan.specs.Rewriting.{token_of, Accepts, Gives, with_mark, InTurn, R
 -- ---- what is asked of the cache
 
 -- an accepted call asks for the token that it adds, or for the node that it closes
-abbrev pub asked_if_accepted : (marks : List ℕ) (w : List Symbol) (call : Call) (v : List Symbol)
+abbrev pub requests_if_accepted : (marks : List ℕ) (w : List Symbol) (call : Call) (v : List Symbol)
     → Accepts marks w call v → List Term
-asked_if_accepted marks w (Token kind text) v added = token_term (token_of kind text) ∷ []
-asked_if_accepted marks w (StartNode kind) v opened = []
-asked_if_accepted marks w FinishNode v closed = node_term closed.0 ∷ []
-asked_if_accepted marks w Mark v none = []
-asked_if_accepted marks w (StartNodeAt mark kind) v wrapped = []
-asked_if_accepted marks w (StartNodeAtCheckpoint c kind) v wrapped = []
+requests_if_accepted marks w (Token kind text) v added = token_term (token_of kind text) ∷ []
+requests_if_accepted marks w (StartNode kind) v opened = []
+requests_if_accepted marks w FinishNode v closed = node_term closed.0 ∷ []
+requests_if_accepted marks w Mark v none = []
+requests_if_accepted marks w (StartNodeAt mark kind) v wrapped = []
+requests_if_accepted marks w (StartNodeAtCheckpoint c kind) v wrapped = []
 
 -- and another asks for nothing
-abbrev pub asked_by : (marks : List ℕ) (w : List Symbol) (call : Call) (outcome : Outcome)
+abbrev pub requests_of : (marks : List ℕ) (w : List Symbol) (call : Call) (outcome : Outcome)
     (v : List Symbol) → Gives marks w call outcome v → List Term
-asked_by marks w call Accepted v accepts = asked_if_accepted marks w call v accepts
-asked_by marks w call (Marked c) v stays = []
-asked_by marks w call (Refused fault) v stays = []
+requests_of marks w call Accepted v accepts = requests_if_accepted marks w call v accepts
+requests_of marks w call (Marked c) v stays = []
+requests_of marks w call (Refused fault) v stays = []
 
-abbrev pub asked_in_turn : (marks : List ℕ) (w : List Symbol) (calls : List Call)
+abbrev pub requests_in_turn : (marks : List ℕ) (w : List Symbol) (calls : List Call)
     (outcomes : List Outcome) (v : List Symbol) → InTurn marks w calls outcomes v → List Term
-asked_in_turn marks w [] [] v run = []
-asked_in_turn marks w (call ∷ calls) (outcome ∷ outcomes) v run =
-    asked_by marks w call outcome run.0 run.1.gives
-    ++ asked_in_turn (with_mark marks outcome) run.0 calls outcomes v run.2
-asked_in_turn marks w [] (outcome ∷ outcomes) v run = []
-asked_in_turn marks w (call ∷ calls) [] v run = []
+requests_in_turn marks w [] [] v run = []
+requests_in_turn marks w (call ∷ calls) (outcome ∷ outcomes) v run =
+    requests_of marks w call outcome run.0 run.1.gives
+    ++ requests_in_turn (with_mark marks outcome) run.0 calls outcomes v run.2
+requests_in_turn marks w [] (outcome ∷ outcomes) v run = []
+requests_in_turn marks w (call ∷ calls) [] v run = []
 
 -- the terms that the calls ask the cache for, in order: the accepted tokens and the finished nodes
 abbrev pub stream : {w v : List Symbol} {calls : List Call} {outcomes : List Outcome}
     → Rewrites w calls outcomes v → List Term
-stream {w} {v} {calls} {outcomes} r = asked_in_turn [] w calls outcomes v r.in_turn
+stream {w} {v} {calls} {outcomes} r = requests_in_turn [] w calls outcomes v r.in_turn
 
 -- ---- what is added
 
