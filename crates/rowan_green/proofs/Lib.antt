@@ -10,6 +10,7 @@ pub mod NumberLemmas
 pub mod OffsetLemmas
 pub mod Paths
 pub mod PutLemmas
+pub mod PutLimits
 pub mod PutRanges
 pub mod SearchLemmas
 pub mod SeparateLemmas

@@ -8,9 +8,9 @@ use Rattle.rowan_green.specs.Fits.{byte_limit, FitsToken, AreWithin, FitsNode, F
 use Rattle.rowan_green.specs.Path.{Path, term_children, subterm_of, subterm, len_of, with_child, put_of, put}
 use Rattle.rowan_green.specs.Term.{NodeTerm, node, Forest, empty, node_then, token_then, Term, terms, node_of, node_kind, node_children, node_len, term_len, sum_of_lens}
 use Rattle.rowan_green.proofs.EditLemmas.{not_within}
-use Rattle.rowan_green.proofs.PutLemmas.{replaced-set, subterm_of-put, put-child}
-use Rattle.rowan_green.proofs.PutRanges.{node_len-children, child-of, child, put_of-len}
-use Rattle.rowan_green.proofs.Terms.{terms-forest, FitsNode-node_of}
+use Rattle.rowan_green.proofs.PutLemmas.{replaced-set, get-set, subterm-put, put-child}
+use Rattle.rowan_green.proofs.PutRanges.{node_len-children}
+use Rattle.rowan_green.proofs.Terms.{terms-forest, node_len-node_of, FitsNode-node_of}
 
 -- ---- what is in a term that fits
 
@@ -34,17 +34,14 @@ fits-child : (t : Term) (i : ℕ) (c : Term) → slice_get (term_children t) i �
 fits-child (Node (node k f)) i c e h = FitForest-get f i c e h.1
 fits-child (Token t) i c e h = absurd cc
 
-fits-subterm_of : (t : Term) (p : Path) (w : Term) → subterm t p ≡ Some w → Fits t → Fits w
-fits-subterm_of t [] w e h = let s : t ≡ w = cc in subst Fits s h
-fits-subterm_of t (i ∷ p) w e h = at (λ c. fits-subterm_of c p w) (slice_get (term_children t) i) refl e
-  where
-    at : ((c : Term) → subterm c p ≡ Some w → Fits c → Fits w) → (s : Option Term) → slice_get (term_children t) i ≡ s → subterm_of s p ≡ Some w → Fits w
-    at below None s e = absurd cc
-    at below (Some c) s e = below c e (fits-child t i c s h)
-
 -- each subterm of a term that fits does
 pub Fits-subterm : (t : Term) (p : Path) (w : Term) → subterm t p ≡ Some w → Fits t → Fits w
-Fits-subterm t p w e h = fits-subterm_of t p w e h
+Fits-subterm t [] w e h = let s : t ≡ w = cc in subst Fits s h
+Fits-subterm t (i ∷ p) w e h = at (λ c. Fits-subterm c p w) (slice_get (term_children t) i) refl e
+  where
+    at : ((c : Term) → subterm c p ≡ Some w → Fits c → Fits w) → (o : Option Term) → slice_get (term_children t) i ≡ o → subterm_of o p ≡ Some w → Fits w
+    at below None is there = absurd cc
+    at below (Some c) is there = below c there (fits-child t i c is h)
 
 -- a term that fits has at most as many bytes as the limit
 pub Fits-len : (t : Term) → Fits t → term_len t ≤ byte_limit
@@ -55,7 +52,7 @@ Fits-len (Token t) h = h
 
 -- where the whole new term fits, so does what was put
 pub Fits-put : (t : Term) (p : Path) (u w : Term) → subterm t p ≡ Some w → Fits (put t p u) → Fits u
-Fits-put t p u w e h = Fits-subterm (put t p u) p u (subterm_of-put (Some t) p u w e) h
+Fits-put t p u w e h = Fits-subterm (put t p u) p u (subterm-put t p u w e) h
 
 -- where the new children of a node pass a limit, the whole new term does not fit
 pub unfit-put : (t : Term) (p : Path) (i : ℕ) (n : NodeTerm) (u : Term) (e : Fault) → subterm t p ≡ Some (Node n) → PassesLimit (replaced (node_children n) i u) e → ¬ Fits (put t (p ++ i ∷ []) u)
@@ -77,16 +74,29 @@ Fits-with_child n i x h f l =
     let old = Fits-children n h in
     let same = replaced-set (node_children n) i x in
     FitsNode-node_of (node_kind n) (replaced (node_children n) i x)
-        (record { count = omega (arith, old.0.count, ap length same, length-set (node_children n) i x); text = l })
-        (subst AllFit (sym same) (AllFit-set (node_children n) i x old.1 f))
+    (record { count = omega (arith, old.0.count, ap length same, length-set (node_children n) i x); text = l })
+    (subst AllFit (sym same) (AllFit-set (node_children n) i x old.1 f))
 
-fits-put_of : (t : Option Term) (p : Path) (u w s : Term) → subterm_of t p ≡ Some w → t ≡ Some s → Fits s → Fits u → term_len (put_of t p u) ≤ byte_limit → Fits (put_of t p u)
-fits-put_of None p u w s e is h f l = absurd cc
-fits-put_of (Some t) [] u w s e is h f l = f
-fits-put_of (Some (Token t)) (i ∷ p) u w s e is h f l = absurd cc
-fits-put_of (Some (Node n)) (i ∷ p) u w s e is h f l = ?
+-- one child is no longer than all of them
+len-child : (ts : List Term) (i : ℕ) (x : Term) → slice_get ts i ≡ Some x → term_len x ≤ sum_of_lens ts
+len-child [] i x e = absurd cc
+len-child (t ∷ ts) zero x e = let s : t ≡ x = cc in omega (arith, ap term_len s)
+len-child (t ∷ ts) (suc i) x e = omega (arith, len-child ts i x e)
 
--- A replacement fits where the length of its text does, since no node has more children than before, and no subterm more bytes
--- than the whole.
-pub Fits-by_len : (t : Term) (p : Path) (u w : Term) → subterm t p ≡ Some w → Fits t → Fits u → (Fits (put t p u)) ↔ (term_len (put t p u) ≤ byte_limit)
-Fits-by_len t p u w e h f = (λ all. Fits-len (put t p u) all, λ l. fits-put_of (Some t) p u w t e refl h f l)
+fits-put : (t : Term) (p : Path) (u w : Term) → subterm t p ≡ Some w → Fits t → Fits u → term_len (put t p u) ≤ byte_limit → Fits (put t p u)
+fits-put t [] u w e h f l = f
+fits-put (Token t) (i ∷ p) u w e h f l = absurd cc
+fits-put (Node n) (i ∷ p) u w e h f l = at (λ c. fits-put c p u w) (slice_get (node_children n) i) refl e l
+  where
+    at : ((c : Term) → subterm c p ≡ Some w → Fits c → Fits u → term_len (put c p u) ≤ byte_limit → Fits (put c p u)) → (o : Option Term) → slice_get (node_children n) i ≡ o → subterm_of o p ≡ Some w → term_len (with_child (Node n) i (put_of o p u)) ≤ byte_limit → Fits (with_child (Node n) i (put_of o p u))
+    at below None is there short = absurd cc
+    at below (Some c) is there short =
+        let x = put c p u in
+        let whole : sum_of_lens (replaced (node_children n) i x) ≤ byte_limit = omega (arith, short, node_len-node_of (node_kind n) (replaced (node_children n) i x)) in
+        let part = len-child (set (node_children n) i x) i x (get-set (node_children n) i x c is) in
+        let same = ap sum_of_lens (replaced-set (node_children n) i x) in
+        Fits-with_child n i x h (below c there (fits-child (Node n) i c is h) f (omega (arith, part, same, whole))) whole
+
+-- A replacement fits where its text is not too long: no node has more children than before, and no subterm more bytes than the whole.
+pub Fits-by_len : (t : Term) (p : Path) (u w : Term) → subterm t p ≡ Some w → Fits t → Fits u → Fits (put t p u) ↔ term_len (put t p u) ≤ byte_limit
+Fits-by_len t p u w e h f = (Fits-len (put t p u), fits-put t p u w e h f)

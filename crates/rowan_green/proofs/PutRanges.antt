@@ -17,7 +17,7 @@ use Rattle.rowan_green.proofs.Terms.{forest-terms, node_len-node_of}
 
 -- ---- lengths
 
-node_len-children : (n : NodeTerm) → node_len n ≡ sum_of_lens (node_children n)
+pub node_len-children : (n : NodeTerm) → node_len n ≡ sum_of_lens (node_children n)
 node_len-children (node k f) = ap (λ g. node_len (node k g)) (sym (forest-terms f)) ∙ node_len-node_of k (terms f)
 
 -- the length of a node with another child

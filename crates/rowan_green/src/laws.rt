@@ -4,7 +4,7 @@ ghost use Rattle.std.specs.List.{flat_map};
 ghost use Rattle.std.specs.Bool.{Decides};
 ghost use Rattle.rowan_green.specs.Cache.{is_eligible, with_term, first_seen, Continues};
 ghost use Rattle.rowan_green.specs.Edits.{replaced, inserted, removed, spliced};
-ghost use Rattle.rowan_green.specs.Fits.{AreWithin, PassesLimit};
+ghost use Rattle.rowan_green.specs.Fits.{byte_limit, AreWithin, Fits, PassesLimit};
 ghost use Rattle.rowan_green.specs.Path.{Path, subterm, offset, range, text_of, tokens, put, separate, moved_range};
 ghost use Rattle.rowan_green.specs.Same.{same_node, same_token};
 ghost use Rattle.rowan_green.specs.Search.{HasRange, IsChildAt, digits};
@@ -166,4 +166,18 @@ pub fn putting_back_restores()
 pub fn replacements_commute()
     ensures { (t : Term) (p q : Path) (u v : Term) → separate p q ≡ true
         → put (put t p u) q v ≡ put (put t q v) p u }
+{}
+
+/// In a term within the limits, a replacement by a term within the limits is so, too, exactly where the whole text is not too long.
+/// Whatever term it is: where the whole is within the limits, so are the new subterm and all others, and it is not where the children
+/// of a node pass a limit with the new child among them.
+pub fn replacement_fits_by_its_length()
+    ensures fits { (t : Term) (p : Path) (u w : Term) → subterm t p ≡ Some w → Fits t → Fits u
+        → Fits (put t p u) ↔ term_len (put t p u) ≤ byte_limit }
+    ensures new { (t : Term) (p : Path) (u w : Term) → subterm t p ≡ Some w
+        → Fits (put t p u) → Fits u }
+    ensures passes { (t : Term) (p : Path) (i : ℕ) (n : NodeTerm) (u : Term) (e : Fault)
+        → subterm t p ≡ Some (Node n) → PassesLimit (replaced (node_children n) i u) e
+        → ¬ Fits (put t (p ++ i ∷ []) u) }
+    ensures subterm { (t : Term) (p : Path) (w : Term) → subterm t p ≡ Some w → Fits t → Fits w }
 {}
