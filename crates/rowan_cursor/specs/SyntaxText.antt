@@ -95,7 +95,7 @@ first_of start = unwrap_or start 0
 abbrev pub last_of : TextSlice → Option ℕ → ℕ
 last_of s end = unwrap_or end (slice_len s)
 
--- these bytes are there, and no character is cut
+-- a range may be cut out: its bytes are there, and no character is cut
 pub record CanCut (s : TextSlice) (start end : ℕ) : Type 0 where
   pub order : start ≤ end
   pub within : end ≤ slice_len s
