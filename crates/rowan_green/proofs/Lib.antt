@@ -12,6 +12,7 @@ pub mod Paths
 pub mod PutLemmas
 pub mod PutLimits
 pub mod PutRanges
+pub mod PutText
 pub mod SearchLemmas
 pub mod SeparateLemmas
 pub mod Sound

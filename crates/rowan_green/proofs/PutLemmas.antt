@@ -1,5 +1,5 @@
 -- Replacements in terms: what stands where after one, two of them, and the text.
-use Rattle.std.proofs.Common.{◌≡◌, ◌≢◌, ℕ, zero, suc, ◌+◌, ◌≤◌, true, List, [], ◌∷◌, ◌++◌, length, take, drop, set, Option, Some, None, inl, inr, refl, sym, ◌∙◌, ap, arith, set-set}
+use Rattle.std.proofs.Common.{◌≡◌, ◌≢◌, ℕ, zero, suc, ◌+◌, ◌≤◌, true, List, [], ◌∷◌, ◌++◌, length, take, drop, set, Option, Some, None, inl, inr, refl, sym, ◌∙◌, ap, arith, length-set, set-set}
 use Rattle.std.specs.Prelude.{slice_get}
 use Rattle.std.proofs.lemmas.Bool.{cases_lt}
 use Rattle.std.proofs.lemmas.List.{set_comm, set_past, set_split}
@@ -88,13 +88,13 @@ child-other t i j u n = ap (λ ts. slice_get ts j) (term_children-with_child t i
 child-new : (t : Term) (i : ℕ) (u c : Term) → slice_get (term_children t) i ≡ Some c → slice_get (term_children (with_child t i u)) i ≡ Some u
 child-new t i u c h = ap (λ ts. slice_get ts i) (term_children-with_child t i u) ∙ get-set (term_children t) i u c h
 
--- the same where something stands further down
+-- a child is there where something stands below it
+pub child-of : (t : Option Term) (p : Path) (w : Term) → subterm_of t p ≡ Some w → (c : Term) × (t ≡ Some c)
+child-of None p w h = absurd cc
+child-of (Some t) p w h = (t, refl)
+
 child-put : (t : Term) (i : ℕ) (u : Term) (p : Path) (w : Term) → subterm_of (slice_get (term_children t) i) p ≡ Some w → slice_get (term_children (with_child t i u)) i ≡ Some u
-child-put t i u p w h = at (slice_get (term_children t) i) refl h
-  where
-    at : (s : Option Term) → slice_get (term_children t) i ≡ s → subterm_of s p ≡ Some w → slice_get (term_children (with_child t i u)) i ≡ Some u
-    at None e h = absurd cc
-    at (Some c) e h = child-new t i u c e
+child-put t i u p w h = let c = child-of (slice_get (term_children t) i) p w h in child-new t i u c.0 c.1
 
 -- ---- what stands where
 
@@ -171,6 +171,12 @@ subterm-put_above t p q u v h = ap (λ w. subterm w p) (put-join t p q u v h) �
 
 pub term_kind-put : (t : Term) (i : ℕ) (p : Path) (u : Term) → term_kind (put t (i ∷ p) u) ≡ term_kind t
 term_kind-put t i p u = term_kind-with_child t i (put_of (slice_get (term_children t) i) p u)
+
+-- no place of a child comes or goes
+pub children-put : (t : Term) (i : ℕ) (p : Path) (u : Term) → length (term_children (put t (i ∷ p) u)) ≡ length (term_children t)
+children-put t i p u =
+    let x = put_of (slice_get (term_children t) i) p u in
+    ap length (term_children-with_child t i x) ∙ length-set (term_children t) i x
 
 -- ---- two replacements
 

@@ -1,17 +1,17 @@
 //! Laws of terms and words, each as the contract of a function that does nothing.
-ghost use Rattle.std.specs.Prelude.{◌≡◌, ◌↔◌, ◌<◌, ◌≤◌, ◌^◌, ℕ, List, [], ◌∷◌, ◌++◌, true, Some, None, Contains, IsTrue, slice_get, ◌+◌, length, take, drop, slice_range};
+ghost use Rattle.std.specs.Prelude.{◌≡◌, ◌↔◌, ◌⊎◌, ◌<◌, ◌≤◌, ◌^◌, ℕ, List, [], ◌∷◌, ◌++◌, true, false, not, Some, None, Contains, IsTrue, slice_get, ◌+◌, length, take, drop, slice_range};
 ghost use Rattle.std.specs.List.{flat_map};
 ghost use Rattle.std.specs.Bool.{Decides};
 ghost use Rattle.rowan_green.specs.Cache.{is_eligible, with_term, first_seen, Continues};
 ghost use Rattle.rowan_green.specs.Edits.{replaced, inserted, removed, spliced};
 ghost use Rattle.rowan_green.specs.Fits.{byte_limit, AreWithin, Fits, PassesLimit};
-ghost use Rattle.rowan_green.specs.Path.{Path, subterm, offset, range, text_of, tokens, put, separate, moved_range};
+ghost use Rattle.rowan_green.specs.Path.{Path, term_children, subterm, offset, range, text_of, tokens, stands_before, begins, put, separate, moved_range};
 ghost use Rattle.rowan_green.specs.Same.{same_node, same_token};
 ghost use Rattle.rowan_green.specs.Search.{HasRange, IsChildAt, digits};
-ghost use Rattle.rowan_green.specs.Term.{TokenTerm, NodeTerm, Term, node_of, node_len, node_text, sum_of_lens, joined_text, node_kind, node_children, term_text, term_len};
+ghost use Rattle.rowan_green.specs.Term.{TokenTerm, NodeTerm, Term, node_of, node_len, node_text, sum_of_lens, joined_text, node_kind, node_children, term_kind, term_text, term_len};
 ghost use Rattle.rowan_green.specs.declared.utility_types.NodeOrToken.TheVariants.{Node};
 ghost use Rattle.rowan_green.specs.declared.fault.Fault.{Fault};
-ghost use Rattle.rowan_green.specs.Span.{Span, Holds, intersection};
+ghost use Rattle.rowan_green.specs.Span.{Span, Holds, EndsBefore, intersection};
 ghost use Rattle.rowan_green.specs.Word.{Symbol, Item, HasParts, HasTerms, IsFinished, node_word, word_text, word_tokens};
 
 /// A word has at most one list of items: bare openings and whole terms.
@@ -180,4 +180,43 @@ pub fn replacement_fits_by_its_length()
         → subterm t p ≡ Some (Node n) → PassesLimit (replaced (node_children n) i u) e
         → ¬ Fits (put t (p ++ i ∷ []) u) }
     ensures subterm { (t : Term) (p : Path) (w : Term) → subterm t p ≡ Some w → Fits t → Fits w }
+{}
+
+/// The text with a replacement is the old text before the range of the old subterm, the text of the new one, and the old text behind.
+/// So the length changes as that of the subterm does.
+pub fn replacement_exchanges_the_text()
+    ensures text { (t : Term) (p : Path) (u w : Term) → subterm t p ≡ Some w
+        → term_text (put t p u)
+        ≡ take (range t p).start (term_text t) ++ term_text u ++ drop (range t p).end (term_text t) }
+    ensures len { (t : Term) (p : Path) (u w : Term) → subterm t p ≡ Some w
+        → term_len (put t p u) + term_len w ≡ term_len t + term_len u }
+{}
+
+/// Below the path of a replacement stands what stands in the new subterm. Above it stands what stood there with the replacement in
+/// it, of the same kind and with as many children; so a replacement further down is one of a subterm on the way.
+pub fn replacement_is_seen_above_and_below()
+    // below and above the path
+    ensures below { (t : Term) (p q : Path) (u w : Term) → subterm t p ≡ Some w
+        → subterm (put t p u) (p ++ q) ≡ subterm u q }
+    ensures above { (t : Term) (p q : Path) (u v : Term) → subterm t p ≡ Some v
+        → subterm (put t (p ++ q) u) p ≡ Some (put v q u) }
+    ensures join { (t : Term) (p q : Path) (u v : Term) → subterm t p ≡ Some v
+        → put t (p ++ q) u ≡ put t p (put v q u) }
+
+    // at the top
+    ensures kind { (t : Term) (i : ℕ) (p : Path) (u : Term) → term_kind (put t (i ∷ p) u) ≡ term_kind t }
+    ensures children { (t : Term) (i : ℕ) (p : Path) (u : Term)
+        → length (term_children (put t (i ∷ p) u)) ≡ length (term_children t) }
+{}
+
+/// Of two separate paths one stands before the other, and its range ends where the other's starts, or before. Of two paths that are
+/// not separate, one begins the other.
+pub fn separate_paths_are_in_order()
+    ensures symmetric { (p q : Path) → separate p q ≡ separate q p }
+    ensures begins { (p q : Path) → separate p q ≡ false
+        → (begins p q ≡ true) ⊎ (begins q p ≡ true) }
+    ensures order { (p q : Path) → separate p q ≡ true
+        → stands_before p q ≡ not (stands_before q p) }
+    ensures ranges { (t : Term) (p q : Path) → separate p q ≡ true → stands_before p q ≡ true
+        → EndsBefore (range t p) (range t q) }
 {}
