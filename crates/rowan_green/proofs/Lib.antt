@@ -11,6 +11,7 @@ pub mod OffsetLemmas
 pub mod Paths
 pub mod PutLemmas
 pub mod PutLimits
+pub mod PutOrders
 pub mod PutRanges
 pub mod PutText
 pub mod SearchLemmas

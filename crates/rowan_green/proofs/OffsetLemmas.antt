@@ -1,5 +1,5 @@
 -- Offsets by the lengths of the leaves before a path, and the texts of subterms where their ranges lie.
-use Rattle.std.proofs.Common.{◌≡◌, ℕ, zero, suc, ◌+◌, ◌-◌, ◌<◌, ◌≤◌, Bool, true, false, cond, ◌&&◌, ◌||◌, List, [], ◌∷◌, ◌++◌, map, length, take, drop, filter, sum_by, Option, Some, None, refl, sym, ◌∙◌, ap, arith, length-append, append_assoc, add-one}
+use Rattle.std.proofs.Common.{◌≡◌, ℕ, zero, suc, ◌+◌, ◌-◌, ◌<◌, ◌≤◌, Bool, true, false, cond, ◌&&◌, ◌||◌, List, [], ◌∷◌, ◌++◌, map, length, take, drop, filter, sum_by, Option, Some, None, refl, sym, ◌∙◌, ap, arith, length-append, append_assoc}
 use Rattle.std.specs.Prelude.{slice_get, slice_range, nat_eq}
 use Rattle.std.proofs.Math.Seq.{drop-append_seam, take-append_seam}
 use Rattle.std.proofs.lemmas.Bool.{lt-ltb, le-ltb, eq-eqb, ne_eqb}
@@ -7,7 +7,7 @@ use Rattle.std.proofs.lemmas.List.{append-nil}
 use Rattle.std.proofs.lemmas.List.Sums.{sum_by-cons}
 use Rattle.rowan_green.specs.declared.utility_types.NodeOrToken.TheVariants.{Node, Token}
 use Rattle.rowan_green.specs.Term.{NodeTerm, node, Forest, empty, node_then, token_then, Term, terms, node_children, node_text, forest_text, term_text, term_len, token_len, joined_text}
-use Rattle.rowan_green.specs.Path.{Path, term_children, subterm_of, subterm, LeafAt, below_place, node_leaves, leaves_from, leaves, stands_before, offset, len_of, text_of, range}
+use Rattle.rowan_green.specs.Path.{Path, subterm_of, subterm, LeafAt, below_place, node_leaves, leaves_from, leaves, stands_before, offset, len_of, text_of, range}
 use Rattle.rowan_green.specs.Search.{child_start}
 use Rattle.rowan_green.proofs.Paths.{offset-empty}
 use Rattle.rowan_green.proofs.Terms.{length-joined_text}

@@ -6,7 +6,7 @@ use Rattle.std.proofs.lemmas.List.{set_comm, set_past, set_split}
 use Rattle.rowan_green.specs.declared.utility_types.NodeOrToken.TheVariants.{Node, Token}
 use Rattle.rowan_green.specs.Edits.{replaced}
 use Rattle.rowan_green.specs.Path.{Path, term_children, subterm_of, subterm, with_child, put_of, put, separate}
-use Rattle.rowan_green.specs.Term.{Term, terms, forest, node_of, node_kind, node_children, term_kind, term_len, sum_of_lens}
+use Rattle.rowan_green.specs.Term.{NodeTerm, Term, terms, forest, node_of, node_kind, node_children, term_kind, term_len, sum_of_lens}
 use Rattle.rowan_green.proofs.EditLaws.{replaced-within, replaced-itself, replaced-absent}
 use Rattle.rowan_green.proofs.EditLemmas.{replaced-past}
 use Rattle.rowan_green.proofs.SeparateLemmas.{Part, part-separate, separate-sym}
@@ -172,11 +172,15 @@ subterm-put_above t p q u v h = ap (λ w. subterm w p) (put-join t p q u v h) �
 pub term_kind-put : (t : Term) (i : ℕ) (p : Path) (u : Term) → term_kind (put t (i ∷ p) u) ≡ term_kind t
 term_kind-put t i p u = term_kind-with_child t i (put_of (slice_get (term_children t) i) p u)
 
--- no place of a child comes or goes
-pub children-put : (t : Term) (i : ℕ) (p : Path) (u : Term) → length (term_children (put t (i ∷ p) u)) ≡ length (term_children t)
-children-put t i p u =
-    let x = put_of (slice_get (term_children t) i) p u in
-    ap length (term_children-with_child t i x) ∙ length-set (term_children t) i x
+-- a node above the path stays a node of its kind, with as many children
+pub subterm-put_ancestor : (t : Term) (p : Path) (i : ℕ) (q : Path) (u : Term) (n : NodeTerm) → subterm t p ≡ Some (Node n) → (m : NodeTerm) × (subterm (put t (p ++ i ∷ q) u) p ≡ Some (Node m)) × (node_kind m ≡ node_kind n) × (length (node_children m) ≡ length (node_children n))
+subterm-put_ancestor t p i q u n h =
+    let x = put_of (slice_get (node_children n) i) q u in (
+      node_of (node_kind n) (replaced (node_children n) i x),
+      subterm-put_above t p (i ∷ q) u (Node n) h,
+      refl,
+      ap length (term_children-with_child (Node n) i x) ∙ length-set (node_children n) i x,
+    )
 
 -- ---- two replacements
 

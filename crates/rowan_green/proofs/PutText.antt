@@ -1,12 +1,12 @@
 -- Replacements and texts: the text before the range of what is replaced, that of what comes there, and the text behind.
-use Rattle.std.proofs.Common.{◌≡◌, ℕ, suc, ◌+◌, List, [], ◌∷◌, ◌++◌, length, take, drop, Option, Some, None, refl, sym, ◌∙◌, ap, arith, append_assoc, length-append}
+use Rattle.std.proofs.Common.{◌≡◌, ℕ, suc, ◌+◌, List, [], ◌∷◌, ◌++◌, length, take, drop, Option, Some, None, sym, ◌∙◌, ap, arith, append_assoc, length-append}
 use Rattle.std.specs.Prelude.{slice_get}
 use Rattle.std.proofs.Math.Seq.{drop-append_seam, take-append_seam}
 use Rattle.std.proofs.lemmas.List.{append-nil}
 use Rattle.std.proofs.lemmas.Option.{slice_get_within}
 use Rattle.rowan_green.specs.declared.utility_types.NodeOrToken.TheVariants.{Node, Token}
-use Rattle.rowan_green.specs.Path.{Path, subterm_of, subterm, len_of, text_of, offset, range, with_child, put_of, put}
-use Rattle.rowan_green.specs.Term.{node, Term, terms, term_len, term_text, joined_text}
+use Rattle.rowan_green.specs.Path.{Path, subterm_of, subterm, len_of, text_of, offset, range, put_of, put}
+use Rattle.rowan_green.specs.Term.{node, Term, terms, term_text, joined_text}
 use Rattle.rowan_green.proofs.EditLaws.{text-replaced}
 use Rattle.rowan_green.proofs.OffsetLemmas.{offset_of, offset-lens, lens_before-node, joined-terms, joined-around}
 use Rattle.rowan_green.proofs.Paths.{offset-empty}
