@@ -7,7 +7,7 @@ ghost use Rattle.rowan_green.specs.declared.utility_types.NodeOrToken.TheVariant
 ghost use Rattle.rowan_cursor.specs.Cursor.{StandsAt, index, kind, text_range};
 ghost use Rattle.rowan_cursor.specs.TableView.{cursor_of, IsNodeIn};
 ghost use Rattle.rowan_cursor.specs.Moves.{tree_top, parent, first_child, last_child, first_child_or_token, last_child_or_token, child_or_token_at_index, next_sibling, prev_sibling, next_sibling_or_token, prev_sibling_or_token, first_token, last_token, children, children_with_tokens, siblings, siblings_with_tokens, ancestors};
-ghost use Rattle.rowan_cursor.specs.Replacement.{IsReplacement, WhyNoReplacement};
+ghost use Rattle.rowan_cursor.specs.Replacement.{IsReplacement, KeepsTheRest, WhyNoReplacement};
 
 mod walks;
 
@@ -122,6 +122,8 @@ impl SyntaxNode {
     /// `Err(Fault::Memory)` for want of memory.
     pub fn replace_with(&self, replacement: GreenNode) -> Result<GreenNode, Fault>
         ensures ok { IfOk result (IsReplacement self.now (Node replacement)) }
+        ensures rest { IfOk result (KeepsTheRest self.now (Node replacement)) }
+        ensures own { StandsAt self.now replacement → IfOk result (λ n. n ≡ self.now.root) }
         ensures err { IfErr result (WhyNoReplacement self.now (Node replacement)) }
     {
         if replacement.kind() != self.kind() {

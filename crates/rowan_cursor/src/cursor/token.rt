@@ -4,7 +4,7 @@ ghost use Rattle.rowan_green.specs.declared.utility_types.NodeOrToken.TheVariant
 ghost use Rattle.rowan_cursor.specs.Cursor.{StandsAtToken, index, kind, text_range, text_at};
 ghost use Rattle.rowan_cursor.specs.TableView.{cursor_of, IsTokenIn};
 ghost use Rattle.rowan_cursor.specs.Moves.{tree_top, parent, next_sibling_or_token, prev_sibling_or_token, first_token, last_token, next_token, prev_token, siblings_with_tokens, parent_ancestors};
-ghost use Rattle.rowan_cursor.specs.Replacement.{IsReplacement, WhyNoReplacement};
+ghost use Rattle.rowan_cursor.specs.Replacement.{IsReplacement, KeepsTheRest, WhyNoReplacement};
 
 use crate::cursor::climb::Climb;
 use crate::cursor::row::Row;
@@ -79,6 +79,8 @@ impl SyntaxToken {
     /// `Err(Fault::Memory)` for want of memory.
     pub fn replace_with(&self, replacement: GreenToken) -> Result<GreenNode, Fault>
         ensures ok { IfOk result (IsReplacement self.now (Token replacement)) }
+        ensures rest { IfOk result (KeepsTheRest self.now (Token replacement)) }
+        ensures own { StandsAtToken self.now replacement → IfOk result (λ n. n ≡ self.now.root) }
         ensures err { IfErr result (WhyNoReplacement self.now (Token replacement)) }
     {
         if replacement.kind() != self.kind() {
