@@ -1,8 +1,28 @@
-//! Languages, and the nodes of their trees.
+//! Languages, and the cursors of their trees.
+//!
+//! A typed cursor is a raw one of `cursor`, with the kinds of a [`Language`]. To contracts both are the same value, a root and a
+//! path, and `From` turns each into the other without a change, as `from_raw` and `into_raw` do for elements. So each call of a
+//! typed cursor has the clauses of the raw call of its name, and what is proved of the raw cursors holds of the typed ones of
+//! every language. Only `kind` answers otherwise: the kind that the raw kind means. A typed cursor takes no more memory than the
+//! raw one, and a typed call does no more than the raw call and this reading of its answer.
 
+mod element;
 mod language;
 mod node;
+mod preorder;
+mod preorder_with_tokens;
 mod printed;
+mod token;
+mod typed_elements;
+mod typed_nodes;
 
+pub use element::{SyntaxElement, TypedElementCalls};
 pub use language::Language;
 pub use node::SyntaxNode;
+pub use preorder::Preorder;
+pub use preorder_with_tokens::PreorderWithTokens;
+pub use token::SyntaxToken;
+pub use typed_elements::{
+    DescendantsWithTokens, SiblingsWithTokens, SyntaxElementChildren, TypedElements,
+};
+pub use typed_nodes::{Ancestors, Descendants, Siblings, SyntaxNodeChildren, TypedNodes};

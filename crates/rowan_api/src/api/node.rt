@@ -1,18 +1,31 @@
+mod lists;
+mod moves;
+mod search;
+mod walks;
+
 ghost use Rattle.std.specs.Prelude.{◌≡◌, [], IfOk, IfErr, Some};
 ghost use Rattle.std.specs.Option.{option_map};
-ghost use Rattle.rowan_cursor.specs.Cursor.{kind, text_range};
+ghost use Rattle.rowan_cursor.specs.Cursor.{StandsAt, index, kind, text_range};
+ghost use Rattle.rowan_cursor.specs.SyntaxText.{whole_text};
 
 use crate::api::language::Language;
 use crate::api::printed;
 use rowan_cursor::cursor;
+use rowan_cursor::syntax_text::SyntaxText;
 use rowan_green::fault::Fault;
 use rowan_green::green::GreenNode;
 use rowan_green::text::TextRange;
-use std::alloc::Global;
+use std::alloc::{AllocError, Global};
 use std::fmt;
+use std::hash::{Hash, Hasher};
 use std::marker::{Model, PhantomData};
 
 /// A node in a tree of a language: a root, and the way from it to the node.
+///
+/// It is the raw node of `cursor`, and its calls answer as that one's do, with kinds by the language. `From` turns each into the
+/// other. All cursors of one tree share it, and it lives as long as one of them. A move asks for no memory, and is refused only
+/// where the tree cannot be shared once more, since its reference count is full; then the answer is `Err(Fault::Memory)`. Two
+/// nodes are equal if they have equal green nodes and their texts start at the same offset.
 #[derive(Drop)]
 pub struct SyntaxNode<L> {
     raw: cursor::SyntaxNode,
@@ -33,15 +46,33 @@ impl<L> Model for SyntaxNode<L> {
 }
 
 impl<L: Language> SyntaxNode<L> {
-    /// The cursor at the root of a green tree. Refused only for want of memory.
+    // The node that a move of the raw cursor found, if it found one.
+    pub(super) fn found(raw: Option<cursor::SyntaxNode>) -> Option<SyntaxNode<L>>
+        ensures { result ≡ raw }
+    {
+        match raw {
+            Some(raw) => Some(SyntaxNode::from(raw)),
+            None => None,
+        }
+    }
+
+    /// The cursor at the root of a green tree. It visits each node and token once.
+    /// `Err(Fault::Memory)` for want of memory, and where the tree has more than 4,294,967,295 nodes and tokens.
     pub fn new_root(alloc: Global, green: GreenNode) -> Result<SyntaxNode<L>, Fault>
         ensures ok { IfOk result (λ n. n ≡ record { root = green; path = [] }) }
         ensures err { IfErr result (λ e. e ≡ Fault.Memory) }
     {
-        Ok(SyntaxNode {
-            raw: cursor::SyntaxNode::new_root(alloc, green)?,
-            language: PhantomData,
-        })
+        Ok(SyntaxNode::from(cursor::SyntaxNode::new_root(alloc, green)?))
+    }
+
+    /// The root of a new tree, which has the green node of this one. It visits each node and token below this one once.
+    /// `Err(Fault::Memory)` for want of memory.
+    pub fn clone_subtree(&self) -> Result<SyntaxNode<L>, Fault>
+        ensures ok { IfOk result (λ n. StandsAt self.now n.root) }
+        ensures top { IfOk result (λ n. n.path ≡ []) }
+        ensures err { IfErr result (λ e. e ≡ Fault.Memory) }
+    {
+        Ok(SyntaxNode::from(self.raw.clone_subtree()?))
     }
 
     /// The kind of the node.
@@ -58,6 +89,29 @@ impl<L: Language> SyntaxNode<L> {
         self.raw.text_range()
     }
 
+    /// The place of the node among all children of its parent, tokens counted; 0 for a root.
+    pub fn index(&self) -> usize
+        ensures { result ≡ index self.now }
+    {
+        self.raw.index()
+    }
+
+    /// The green node at this place.
+    pub fn green(&self) -> &GreenNode
+        ensures { StandsAt self.now result.now }
+    {
+        self.raw.green()
+    }
+
+    /// The text of the node.
+    /// `Err(Fault::Memory)` where the tree cannot be shared once more.
+    pub fn text(&self) -> Result<SyntaxText, Fault>
+        ensures ok { IfOk result (λ text. text ≡ whole_text self.now) }
+        ensures err { IfErr result (λ e. e ≡ Fault.Memory) }
+    {
+        self.raw.text()
+    }
+
     /// The node and all that is in it as text, a line for each node and token in the order of the source. A line has two
     /// spaces for each level below this node, the name of the kind and the range, as `KIND@start..end` with offsets in the
     /// root; for a token also the text in quotes, as `{:?}` writes it. Of a text of 25 bytes or more only the part before the
@@ -69,13 +123,83 @@ impl<L: Language> SyntaxNode<L> {
     }
 }
 
+impl<L: Language> From<cursor::SyntaxNode> for SyntaxNode<L> {
+    ghost from_gives = { λ raw node. node ≡ raw };
+
+    fn from(raw: cursor::SyntaxNode) -> SyntaxNode<L> {
+        SyntaxNode {
+            raw,
+            language: PhantomData,
+        }
+    }
+}
+
+impl<L: Language> From<SyntaxNode<L>> for cursor::SyntaxNode {
+    ghost from_gives = { λ node raw. raw ≡ node };
+
+    fn from(node: SyntaxNode<L>) -> cursor::SyntaxNode {
+        node.raw
+    }
+}
+
+impl<L> Clone for SyntaxNode<L> {
+    ghost is_clone = { λ node copy. copy ≡ node };
+
+    fn clone(&self) -> Result<SyntaxNode<L>, AllocError> {
+        let raw = self.raw.clone()?;
+        Ok(SyntaxNode {
+            raw,
+            language: PhantomData,
+        })
+    }
+}
+
+impl<L> PartialEq for SyntaxNode<L> {
+    ghost use Rattle.std.specs.Cmp.{partial_equiv_from_equiv};
+    ghost use Rattle.rowan_cursor.specs.Equal.{same_place, same_place-laws};
+
+    ghost eq = { same_place };
+
+    ghost laws = { partial_equiv_from_equiv same_place-laws };
+
+    fn eq(&self, other: &SyntaxNode<L>) -> bool {
+        self.raw == other.raw
+    }
+}
+
+impl<L> Eq for SyntaxNode<L> {
+    ghost use Rattle.rowan_cursor.specs.Equal.{same_place-laws};
+
+    ghost laws = { same_place-laws };
+}
+
+impl<L> Hash for SyntaxNode<L> {
+    ghost use Rattle.rowan_cursor.specs.Equal.{fed_place, fed_place-same};
+
+    ghost hash_input = { fed_place };
+
+    ghost respects_eq = { fed_place-same };
+
+    fn hash<H: Hasher>(&self, state: &mut H) {
+        self.raw.hash(state);
+    }
+}
+
 impl<L> fmt::Display for SyntaxNode<L> {
-    ghost use Rattle.std.specs.Prelude.{Some};
     ghost use Rattle.rowan_cursor.specs.Cursor.{text_at};
 
     ghost output = { λ n. Some (text_at n) };
 
     fn fmt<W: fmt::Write>(&self, f: &mut fmt::Formatter<W>) -> fmt::Result {
         self.raw.fmt(f)
+    }
+}
+
+impl<L: Language> fmt::Debug for SyntaxNode<L> {
+    fn fmt<W: fmt::Write>(&self, f: &mut fmt::Formatter<W>) -> fmt::Result {
+        f.debug_struct("SyntaxNode")
+            .field("kind", &self.kind())
+            .field("text_range", &self.text_range())
+            .finish()
     }
 }

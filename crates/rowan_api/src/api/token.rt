@@ -1,0 +1,251 @@
+ghost use Rattle.std.specs.Prelude.{◌≡◌, IfOk, IfErr, Some};
+ghost use Rattle.std.specs.Option.{option_map};
+ghost use Rattle.rowan_cursor.specs.Cursor.{StandsAtToken, index, kind, text_range, text_at};
+ghost use Rattle.rowan_cursor.specs.Moves.{tree_top, parent, next_sibling_or_token, prev_sibling_or_token, next_token, prev_token, parent_ancestors, siblings_with_tokens};
+
+use crate::api::typed_elements::TypedElements;
+use crate::api::typed_nodes::TypedNodes;
+use crate::api::{Ancestors, Language, SiblingsWithTokens, SyntaxElement, SyntaxNode, element};
+use rowan_cursor::cursor;
+use rowan_green::fault::Fault;
+use rowan_green::green::GreenToken;
+use rowan_green::text::TextRange;
+use rowan_green::utility_types::Direction;
+use std::alloc::AllocError;
+use std::fmt;
+use std::hash::{Hash, Hasher};
+use std::marker::{Model, PhantomData};
+
+/// A token in a tree of a language: a root, and the way from it to the token.
+///
+/// It is the raw token of `cursor`, and its calls answer as that one's do, with kinds by the language. `From` turns each into the
+/// other. A move asks for no memory, and is refused only where the tree cannot be shared once more, since its reference count is
+/// full; then the answer is `Err(Fault::Memory)`. Two tokens are equal if they have equal green tokens and their texts start at
+/// the same offset.
+#[derive(Drop)]
+pub struct SyntaxToken<L> {
+    raw: cursor::SyntaxToken,
+    language: PhantomData<L>,
+}
+
+impl<L> Model for SyntaxToken<L> {
+    ghost use Rattle.rowan_cursor.specs.Cursor.{Cursor};
+    ghost use Rattle.rowan_cursor.specs.CursorCode.{coded_cursor};
+
+    ghost Value = { Cursor };
+
+    ghost coded = { coded_cursor };
+
+    ghost view = { λ t. t.raw };
+
+    ghost inverse = { λ c. record { raw = c; language = record {} } };
+}
+
+impl<L: Language> SyntaxToken<L> {
+    // The token that a move of the raw cursor found, if it found one.
+    pub(super) fn found(raw: Option<cursor::SyntaxToken>) -> Option<SyntaxToken<L>>
+        ensures { result ≡ raw }
+    {
+        match raw {
+            Some(raw) => Some(SyntaxToken::from(raw)),
+            None => None,
+        }
+    }
+
+    /// The kind of the token.
+    pub fn kind(&self) -> L::Kind
+        ensures { option_map L.meaning (kind self.now) ≡ Some result }
+    {
+        L::kind_from_raw(self.raw.kind())
+    }
+
+    /// Where the token's text lies in the text of the root, in bytes.
+    pub fn text_range(&self) -> TextRange
+        ensures { result ≡ text_range self.now }
+    {
+        self.raw.text_range()
+    }
+
+    /// The place of the token among all children of its parent.
+    pub fn index(&self) -> usize
+        ensures { result ≡ index self.now }
+    {
+        self.raw.index()
+    }
+
+    /// The text of the token.
+    pub fn text(&self) -> &str
+        ensures { result.now ≡ text_at self.now }
+    {
+        self.raw.text()
+    }
+
+    /// The green token at this place.
+    pub fn green(&self) -> &GreenToken
+        ensures { StandsAtToken self.now result.now }
+    {
+        self.raw.green()
+    }
+
+    /// The root of the tree.
+    /// `Err(Fault::Memory)` where the tree cannot be shared once more.
+    pub fn tree_top(&self) -> Result<SyntaxNode<L>, Fault>
+        ensures ok { IfOk result (λ n. n ≡ tree_top self.now) }
+        ensures err { IfErr result (λ e. e ≡ Fault.Memory) }
+    {
+        Ok(SyntaxNode::from(self.raw.tree_top()?))
+    }
+
+    /// The parent.
+    /// `Err(Fault::Memory)` where the tree cannot be shared once more.
+    pub fn parent(&self) -> Result<Option<SyntaxNode<L>>, Fault>
+        ensures ok { IfOk result (λ found. found ≡ parent self.now) }
+        ensures err { IfErr result (λ e. e ≡ Fault.Memory) }
+    {
+        Ok(SyntaxNode::found(self.raw.parent()?))
+    }
+
+    /// The next sibling.
+    /// `Err(Fault::Memory)` where the tree cannot be shared once more.
+    pub fn next_sibling_or_token(&self) -> Result<Option<SyntaxElement<L>>, Fault>
+        ensures ok { IfOk result (λ found. found ≡ next_sibling_or_token self.now) }
+        ensures err { IfErr result (λ e. e ≡ Fault.Memory) }
+    {
+        Ok(element::found(self.raw.next_sibling_or_token()?))
+    }
+
+    /// The sibling before this one.
+    /// `Err(Fault::Memory)` where the tree cannot be shared once more.
+    pub fn prev_sibling_or_token(&self) -> Result<Option<SyntaxElement<L>>, Fault>
+        ensures ok { IfOk result (λ found. found ≡ prev_sibling_or_token self.now) }
+        ensures err { IfErr result (λ e. e ≡ Fault.Memory) }
+    {
+        Ok(element::found(self.raw.prev_sibling_or_token()?))
+    }
+
+    /// The next token of the tree, also an empty one, whatever node it is in.
+    /// `Err(Fault::Memory)` where the tree cannot be shared once more.
+    pub fn next_token(&self) -> Result<Option<SyntaxToken<L>>, Fault>
+        ensures ok { IfOk result (λ found. found ≡ next_token self.now) }
+        ensures err { IfErr result (λ e. e ≡ Fault.Memory) }
+    {
+        Ok(SyntaxToken::found(self.raw.next_token()?))
+    }
+
+    /// The token of the tree before this one, also an empty one, whatever node it is in.
+    /// `Err(Fault::Memory)` where the tree cannot be shared once more.
+    pub fn prev_token(&self) -> Result<Option<SyntaxToken<L>>, Fault>
+        ensures ok { IfOk result (λ found. found ≡ prev_token self.now) }
+        ensures err { IfErr result (λ e. e ≡ Fault.Memory) }
+    {
+        Ok(SyntaxToken::found(self.raw.prev_token()?))
+    }
+
+    /// The nodes above the token: its parent, and so on up to the root. [`SyntaxToken::parent_ancestors`] says so by its name.
+    /// An item is `Err(Fault::Memory)` where the tree cannot be shared once more; then the iterator ends.
+    pub fn ancestors(&self) -> Ancestors<L>
+        ensures ok { IfOk result (λ list. list ≡ parent_ancestors self.now) }
+        ensures err { IfErr result (λ e. e ≡ Fault.Memory) }
+    {
+        self.parent_ancestors()
+    }
+
+    /// The nodes above the token: its parent, and so on up to the root.
+    /// An item is `Err(Fault::Memory)` where the tree cannot be shared once more; then the iterator ends.
+    pub fn parent_ancestors(&self) -> Ancestors<L>
+        ensures ok { IfOk result (λ list. list ≡ parent_ancestors self.now) }
+        ensures err { IfErr result (λ e. e ≡ Fault.Memory) }
+    {
+        TypedNodes::new(self.raw.ancestors())
+    }
+
+    /// The token, and then its siblings in a direction, nearest first.
+    /// An item is `Err(Fault::Memory)` where the tree cannot be shared once more; then the iterator ends.
+    pub fn siblings_with_tokens(&self, direction: Direction) -> SiblingsWithTokens<L>
+        ensures ok { IfOk result (λ list. list ≡ siblings_with_tokens direction self.now) }
+        ensures err { IfErr result (λ e. e ≡ Fault.Memory) }
+    {
+        TypedElements::new(self.raw.siblings_with_tokens(direction))
+    }
+}
+
+impl<L: Language> From<cursor::SyntaxToken> for SyntaxToken<L> {
+    ghost from_gives = { λ raw token. token ≡ raw };
+
+    fn from(raw: cursor::SyntaxToken) -> SyntaxToken<L> {
+        SyntaxToken {
+            raw,
+            language: PhantomData,
+        }
+    }
+}
+
+impl<L: Language> From<SyntaxToken<L>> for cursor::SyntaxToken {
+    ghost from_gives = { λ token raw. raw ≡ token };
+
+    fn from(token: SyntaxToken<L>) -> cursor::SyntaxToken {
+        token.raw
+    }
+}
+
+impl<L> Clone for SyntaxToken<L> {
+    ghost is_clone = { λ token copy. copy ≡ token };
+
+    fn clone(&self) -> Result<SyntaxToken<L>, AllocError> {
+        let raw = self.raw.clone()?;
+        Ok(SyntaxToken {
+            raw,
+            language: PhantomData,
+        })
+    }
+}
+
+impl<L> PartialEq for SyntaxToken<L> {
+    ghost use Rattle.std.specs.Cmp.{partial_equiv_from_equiv};
+    ghost use Rattle.rowan_cursor.specs.Equal.{same_place, same_place-laws};
+
+    ghost eq = { same_place };
+
+    ghost laws = { partial_equiv_from_equiv same_place-laws };
+
+    fn eq(&self, other: &SyntaxToken<L>) -> bool {
+        self.raw == other.raw
+    }
+}
+
+impl<L> Eq for SyntaxToken<L> {
+    ghost use Rattle.rowan_cursor.specs.Equal.{same_place-laws};
+
+    ghost laws = { same_place-laws };
+}
+
+impl<L> Hash for SyntaxToken<L> {
+    ghost use Rattle.rowan_cursor.specs.Equal.{fed_place, fed_place-same};
+
+    ghost hash_input = { fed_place };
+
+    ghost respects_eq = { fed_place-same };
+
+    fn hash<H: Hasher>(&self, state: &mut H) {
+        self.raw.hash(state);
+    }
+}
+
+impl<L> fmt::Display for SyntaxToken<L> {
+    ghost use Rattle.rowan_cursor.specs.Cursor.{text_at};
+
+    ghost output = { λ t. Some (text_at t) };
+
+    fn fmt<W: fmt::Write>(&self, f: &mut fmt::Formatter<W>) -> fmt::Result {
+        self.raw.fmt(f)
+    }
+}
+
+impl<L: Language> fmt::Debug for SyntaxToken<L> {
+    fn fmt<W: fmt::Write>(&self, f: &mut fmt::Formatter<W>) -> fmt::Result {
+        f.debug_struct("SyntaxToken")
+            .field("kind", &self.kind())
+            .field("text_range", &self.text_range())
+            .finish()
+    }
+}
