@@ -10,9 +10,9 @@ use Rattle.rowan.specs.declared.script.calls.Outcome.{Outcome}
 use Rattle.rowan.specs.declared.script.calls.Outcome.TheVariants.{Accepted, Marked, Refused}
 use Rattle.rowan.specs.Rewriting.{token_of, Accepts, Gives, with_mark, InTurn, Rewrites}
 
--- ---- what is asked of the cache
+-- ---- requests of the cache
 
--- an accepted call asks for the token that it adds, or for the node that it closes
+-- the requests of an accepted call: the token that it adds, or the node that it closes
 abbrev pub requests_if_accepted : (marks : List ℕ) (w : List Symbol) (call : Call) (v : List Symbol)
     → Accepts marks w call v → List Term
 requests_if_accepted marks w (Token kind text) v added = token_term (token_of kind text) ∷ []
@@ -22,7 +22,7 @@ requests_if_accepted marks w Mark v none = []
 requests_if_accepted marks w (StartNodeAt mark kind) v wrapped = []
 requests_if_accepted marks w (StartNodeAtCheckpoint c kind) v wrapped = []
 
--- and another asks for nothing
+-- the requests of a call with this outcome: one that is not accepted has none
 abbrev pub requests_of : (marks : List ℕ) (w : List Symbol) (call : Call) (outcome : Outcome)
     (v : List Symbol) → Gives marks w call outcome v → List Term
 requests_of marks w call Accepted v accepts = requests_if_accepted marks w call v accepts
@@ -55,6 +55,6 @@ accepted_tokens (call ∷ calls) (outcome ∷ outcomes) =
     added_tokens call outcome ++ accepted_tokens calls outcomes
 accepted_tokens calls outcomes = []
 
--- their texts, one after the other
+-- the texts of the accepted tokens, one after the other
 abbrev pub accepted_text : List Call → List Outcome → List ℕ
 accepted_text calls outcomes = flat_map (λ t. t.text) (accepted_tokens calls outcomes)

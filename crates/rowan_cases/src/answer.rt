@@ -1,8 +1,9 @@
 //! The answers to the lines of a case file.
 
-use crate::{cursor, tree};
+use crate::instruction::Event;
+use crate::{cursor, operand, tree};
 use rowan::cursor::SyntaxElement;
-use rowan::{Fault, GreenElement, GreenNode, NodeCache, TextSize};
+use rowan::{Fault, GreenElement, GreenNode, NodeCache, TextSize, TokenAtOffset, WalkEvent};
 use std::alloc::{AllocError, Global};
 
 /// The answer to one line.
@@ -25,9 +26,22 @@ pub enum Answer<'a> {
     Moved(SyntaxElement),
     /// The elements that a step lists.
     Elements(Vec<SyntaxElement>),
-    /// The current cursor is kept.
+    /// The tokens at an offset.
+    Tokens(TokenAtOffset<SyntaxElement>),
+    /// What `next` of a walk answered, call by call.
+    Events(Vec<Event>),
+    /// The text that a step made current, and its length.
+    Text(TextSize, String),
+    Chunks(Vec<String>),
+    /// How many chunks were counted, or as an error at which number the count gave up.
+    Fold(Result<u32, u32>),
+    /// The character at an offset.
+    Char(Option<char>),
+    Yes,
+    No,
+    /// The current cursor or text is kept.
     Saved,
-    /// The current and the kept cursor are equal.
+    /// The current cursor or text is equal to another one.
     Equal,
     Different,
     /// A step found nothing, or names what is not there.
@@ -53,6 +67,20 @@ impl<'a> Answer<'a> {
         Answer::Counts(cache.token_count(), cache.node_count())
     }
 
+    /// The answer to a question by yes or no.
+    pub fn truth(is_true: bool) -> Answer<'a> {
+        if is_true { Answer::Yes } else { Answer::No }
+    }
+
+    /// The answer that tells whether two are equal.
+    pub fn equality(is_equal: bool) -> Answer<'a> {
+        if is_equal {
+            Answer::Equal
+        } else {
+            Answer::Different
+        }
+    }
+
     /// The line that is written.
     pub fn text(&self, alloc: Global) -> Result<String, AllocError> {
         match self {
@@ -65,6 +93,15 @@ impl<'a> Answer<'a> {
             Answer::Child(index, offset, child) => child_text(alloc, *index, *offset, child),
             Answer::Moved(element) => moved_text(alloc, element),
             Answer::Elements(elements) => list_text(alloc, elements.as_slice()),
+            Answer::Tokens(tokens) => tokens_text(alloc, tokens),
+            Answer::Events(events) => events_text(alloc, events.as_slice()),
+            Answer::Text(len, text) => length_text(alloc, *len, text.as_str()),
+            Answer::Chunks(chunks) => chunks_text(alloc, chunks.as_slice()),
+            Answer::Fold(Ok(count)) => format!(in alloc; "Fold Ok {count}"),
+            Answer::Fold(Err(limit)) => format!(in alloc; "Fold Err {limit}"),
+            Answer::Char(found) => char_text(alloc, *found),
+            Answer::Yes => String::from_str(alloc, "Yes"),
+            Answer::No => String::from_str(alloc, "No"),
             Answer::Accepted => String::from_str(alloc, "Accepted"),
             Answer::Saved => String::from_str(alloc, "Saved"),
             Answer::Equal => String::from_str(alloc, "Equal"),
@@ -95,16 +132,79 @@ fn child_text(
 }
 
 fn moved_text(alloc: Global, element: &SyntaxElement) -> Result<String, AllocError> {
-    let mut text = String::from_str(alloc, "Moved ")?;
-    cursor::push_element(alloc, &mut text, element)?;
+    let mut text = String::new(alloc);
+    push_element(alloc, &mut text, "Moved ", element)?;
     Ok(text)
 }
 
 fn list_text(alloc: Global, elements: &[SyntaxElement]) -> Result<String, AllocError> {
     let mut text = String::from_str(alloc, "List")?;
     for element in elements {
-        text.push_str("; ")?;
-        cursor::push_element(alloc, &mut text, element)?;
+        push_element(alloc, &mut text, "; ", element)?;
     }
     Ok(text)
+}
+
+fn tokens_text(alloc: Global, tokens: &TokenAtOffset<SyntaxElement>) -> Result<String, AllocError> {
+    let mut text = String::new(alloc);
+    match tokens {
+        TokenAtOffset::None => text.push_str("None")?,
+        TokenAtOffset::Single(token) => push_element(alloc, &mut text, "Single; ", token)?,
+        TokenAtOffset::Between(left, right) => {
+            push_element(alloc, &mut text, "Between; ", left)?;
+            push_element(alloc, &mut text, "; ", right)?;
+        }
+    }
+    Ok(text)
+}
+
+fn events_text(alloc: Global, events: &[Event]) -> Result<String, AllocError> {
+    let mut text = String::from_str(alloc, "Events")?;
+    for event in events {
+        match event {
+            Some(WalkEvent::Enter(element)) => {
+                push_element(alloc, &mut text, "; enter ", element)?;
+            }
+            Some(WalkEvent::Leave(element)) => {
+                push_element(alloc, &mut text, "; leave ", element)?;
+            }
+            None => text.push_str("; end")?,
+        }
+    }
+    Ok(text)
+}
+
+/// Writes an element behind a word.
+fn push_element(
+    alloc: Global,
+    text: &mut String,
+    word: &str,
+    element: &SyntaxElement,
+) -> Result<(), AllocError> {
+    text.push_str(word)?;
+    cursor::push_element(alloc, text, element)
+}
+
+fn length_text(alloc: Global, len: TextSize, text: &str) -> Result<String, AllocError> {
+    let quoted = operand::quoted(alloc, text)?;
+    format!(in alloc; "Text {len:?} {quoted}")
+}
+
+fn chunks_text(alloc: Global, chunks: &[String]) -> Result<String, AllocError> {
+    let mut text = String::from_str(alloc, "Chunks")?;
+    for chunk in chunks {
+        text.push_str("; ")?;
+        text.push_str(operand::quoted(alloc, chunk.as_str())?.as_str())?;
+    }
+    Ok(text)
+}
+
+fn char_text(alloc: Global, found: Option<char>) -> Result<String, AllocError> {
+    let Some(character) = found else {
+        return String::from_str(alloc, "NoChar");
+    };
+    let mut text = String::new(alloc);
+    text.push(character)?;
+    let quoted = operand::quoted(alloc, text.as_str())?;
+    format!(in alloc; "Char {quoted}")
 }

@@ -6,7 +6,7 @@ use crate::operand;
 use anyhow::{Result, bail};
 pub use call::Call;
 use std::alloc::Global;
-pub use step::{Edit, Listing, Move, Step};
+pub use step::{Edit, Event, Listing, Move, Question, Slice, Step, Walk, tokens_at};
 
 /// What one line of a case asks for.
 #[derive(Drop)]

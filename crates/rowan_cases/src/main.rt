@@ -19,6 +19,7 @@ mod run;
 mod runner;
 mod standing;
 mod stored;
+mod texts;
 mod tree;
 
 use anyhow::{Context, Result};

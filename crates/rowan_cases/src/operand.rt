@@ -16,6 +16,11 @@ pub fn number(word: &str) -> Result<u32> {
         .context(format_args!("`{word}` is no number up to {}", u32::MAX))
 }
 
+/// An offset of a text, in bytes.
+pub fn offset(word: &str) -> Result<TextSize> {
+    Ok(TextSize::from(number(word)?))
+}
+
 /// Two numbers with two points between, in any order.
 pub fn bounds(word: &str) -> Result<(u32, u32)> {
     let (start, end) = word

@@ -1,9 +1,9 @@
 //! What is asked of an element and leaves the cursor there.
 
 use crate::answer::Answer;
-use crate::instruction::{Edit, Listing};
+use crate::instruction::{Edit, Listing, Walk, tokens_at};
 use rowan::cursor::SyntaxElement;
-use rowan::{Fault, GreenNode, NodeOrToken, Steps, TextRange};
+use rowan::{Fault, GreenNode, NodeOrToken, Steps, TextRange, TextSize};
 use std::alloc::Global;
 
 /// Where a cursor stands.
@@ -41,6 +41,27 @@ impl Place {
         match listing.make(alloc, element)? {
             Some(elements) => Ok(Answer::Elements(elements)),
             None => Ok(Answer::Nowhere),
+        }
+    }
+
+    /// Asks for the tokens at an offset.
+    pub fn tokens_at<'a>(&self, offset: TextSize) -> Result<Answer<'a>, Fault> {
+        match self {
+            Place::At(NodeOrToken::Node(node)) => match tokens_at(node, offset)? {
+                Some(tokens) => Ok(Answer::Tokens(tokens.map(NodeOrToken::Token))),
+                None => Ok(Answer::Nowhere),
+            },
+            Place::At(NodeOrToken::Token(_)) => Ok(Answer::Nowhere),
+            Place::Unknown => Ok(Answer::Unsupported),
+        }
+    }
+
+    /// Walks through the node.
+    pub fn walk<'a>(&self, alloc: Global, walk: &Walk) -> Result<Answer<'a>, Fault> {
+        match self {
+            Place::At(NodeOrToken::Node(node)) => Ok(Answer::Events(walk.make(alloc, node)?)),
+            Place::At(NodeOrToken::Token(_)) => Ok(Answer::Nowhere),
+            Place::Unknown => Ok(Answer::Unsupported),
         }
     }
 }

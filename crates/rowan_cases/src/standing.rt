@@ -3,6 +3,7 @@
 use crate::answer::Answer;
 use crate::instruction::{Listing, Move, Step};
 use crate::place::Place;
+use crate::texts::Texts;
 use rowan::cursor::SyntaxNode;
 use rowan::{Fault, GreenNode, NodeOrToken};
 use std::alloc::Global;
@@ -15,6 +16,7 @@ pub struct Standing {
     pub place: Place,
     /// The cursors that are kept, by the numbers of their slots.
     pub kept: BTreeMap<u32, Place>,
+    pub texts: Texts,
 }
 
 impl Standing {
@@ -24,6 +26,7 @@ impl Standing {
         Ok(Standing {
             place: Place::At(NodeOrToken::Node(root)),
             kept: BTreeMap::new(alloc),
+            texts: Texts::new(alloc),
         })
     }
 
@@ -37,6 +40,13 @@ impl Standing {
             Step::Save(slot) => self.save(*slot),
             Step::Load(slot) => self.load(*slot),
             Step::Same(slot) => Ok(self.compare(*slot)),
+            Step::TokenAt(offset) => self.place.tokens_at(*offset),
+            Step::Walk(walk) => self.place.walk(alloc, walk),
+            Step::Text => self.texts.read(&self.place),
+            Step::Slice(slice) => self.texts.slice(*slice),
+            Step::Ask(question) => self.texts.ask(alloc, question),
+            Step::KeepText(slot) => self.texts.keep(*slot),
+            Step::EqText(slot) => Ok(self.texts.compare(*slot)),
             Step::ReplaceNode(_) | Step::ReplaceToken(_) | Step::UnreadMove => {
                 self.place = Place::Unknown;
                 Ok(Answer::Unsupported)
@@ -80,8 +90,7 @@ impl Standing {
             return Answer::Nowhere;
         };
         match (&self.place, kept) {
-            (Place::At(current), Place::At(kept)) if current == kept => Answer::Equal,
-            (Place::At(_), Place::At(_)) => Answer::Different,
+            (Place::At(current), Place::At(kept)) => Answer::equality(current == kept),
             _ => Answer::Unsupported,
         }
     }

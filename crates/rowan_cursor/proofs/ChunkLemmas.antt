@@ -14,15 +14,16 @@ use Rattle.rowan_green.specs.Term.{NodeTerm, TokenTerm, Term}
 use Rattle.rowan_green.specs.Path.{Path, subterm, offset, len_of, text_of, begins}
 use Rattle.rowan_cursor.specs.declared.table.Table.{Table}
 use Rattle.rowan_cursor.specs.declared.table.chunks.ChunkWalk.{ChunkWalk}
-use Rattle.rowan_cursor.specs.Chunks.{texts_at, remaining_leaves, remaining_texts, IsTokenInside, MayCut, IsWalk, slice_of}
+use Rattle.rowan_cursor.specs.Chunks.{texts_at, remaining_leaves, remaining_texts, IsTokenInside, MayCut, IsWalk, slice_of, IsSliceOf}
 use Rattle.rowan_cursor.specs.Moves.{children_of, is_node, is_node_at, first_at}
 use Rattle.rowan_cursor.specs.Pass.{of_some, after, since, since_child, leaf_list, first_inside}
-use Rattle.rowan_cursor.specs.SyntaxText.{token_texts, meets, common_part, cut_chunks, IsBorder, IsTextSlice}
+use Rattle.rowan_cursor.specs.SyntaxText.{slice_text, token_texts, meets, common_part, cut_chunks, IsBorder, IsTextSlice}
 use Rattle.rowan_cursor.specs.TableView.{IsWithin, root_of, path_at}
 use Rattle.rowan_cursor.proofs.LeafLemmas.{find-first, since_child-none}
+use Rattle.rowan_cursor.proofs.SliceLemmas.{slice_text-len}
 use Rattle.rowan_cursor.proofs.TableLemmas.{slice_get-some, is_entry}
 use Rattle.rowan_cursor.proofs.TextLemmas.{texts_at-below, text-tokens}
-use Rattle.rowan_cursor.proofs.TokenLemmas.{all_below, after-outside, found_token}
+use Rattle.rowan_cursor.proofs.TokenLemmas.{all_below, after-outside, found_token, stands_at}
 
 -- Leaves that are left.
 none-first : (qs : List Path) → first_at qs ≡ None → qs ≡ []
@@ -123,6 +124,14 @@ walk_start table walk within slice token left at =
       start_cut = cut walk.range.start slice.start_border;
       end_cut = cut walk.range.end slice.end_border;
     }
+
+-- a slice has no more bytes than an offset counts
+pub slice_fits : (table : Table) (n : ℕ) (range : Span) → IsSliceOf table n range → length (slice_text (slice_of table n range)) ≤ byte_limit
+slice_fits table n range is =
+    let there = stands_at table.entries.items table.complete n is.node.within in
+    let e = slice_get-some table.entries.items n is.node.within in
+    let entry = is_entry table.entries.items table.complete n e.0 e.1 in
+    omega (arith, slice_text-len (slice_of table n range) there.0 there.1 is.slice, is.slice.from, is.slice.to, len-text (subterm (Node (root_of table)) (path_at table n)), entry.start, entry.end)
 
 -- A step of a walk.
 pub walk_step : (table : Table) (walk : ChunkWalk) (next : Option ℕ) (at : ℕ) (text : List ℕ) → IsWalk table walk → remaining_texts table walk.node walk.next ≡ text ∷ remaining_texts table walk.node next → IfSome next (IsTokenInside table walk.node) → at ≡ walk.at + length text → IsWalk table (record walk { next = next; at = at })

@@ -10,7 +10,7 @@ use Rattle.rowan_green.specs.Path.{Path, subterm, begins, offset, len_of, range}
 use Rattle.rowan_green.proofs.SearchLemmas.{has-range}
 use Rattle.rowan_cursor.specs.Moves.{children_of, Element, is_node_at, element_if, element_at, place_of, cursor_at}
 use Rattle.rowan_cursor.specs.Search.{LiesIn, IsRangeChild, IsChain, chain_end, Covers, IsLeafOver, StandsWhere}
-use Rattle.rowan_cursor.proofs.PathLemmas.{subterm-child, offset-child, child_start-next, node_len-children, begins-own}
+use Rattle.rowan_cursor.proofs.PathLemmas.{subterm-child, offset-child, child_start-next, node_len-children, begins-own, begins-rest}
 use Rattle.rowan_cursor.proofs.TableLemmas.{slice_get-some}
 
 -- an element at or below another, where the range lies in both
@@ -112,6 +112,18 @@ pub covers-byte : (root : NodeTerm) (x : ℕ) (p q : Path) (t : Term) → subter
 covers-byte root x p q t there h c =
     let s = covers-has_span root (byte_at x) p q t there h c in
     token-over root x p q s.term s.stands s (covers-ends root (byte_at x) p q c)
+
+-- ---- two bytes
+
+abbrev pub two_bytes_at : ℕ → Span
+two_bytes_at x = record { start = x; end = x + 2 }
+
+-- a token over a byte of what has a range, which is at or below another element, is at or below that one
+pub leaf-below : (root : NodeTerm) (span : Span) (x : ℕ) (p q r : Path) → HasSpan root span p q → IsLeafOver root x q r → IsLeafOver root x p r
+leaf-below root span x p q r s h =
+    let rest = begins-rest q r h.below in
+    let path : r ≡ p ++ (s.rest ++ rest.0) = rest.1 ∙ ap (λ u. u ++ rest.0) s.path ∙ append_assoc p s.rest rest.0 in
+    record { token = h.token; is = h.is; below = ap (begins p) path ∙ begins-own p (s.rest ++ rest.0); from = h.from; to = h.to }
 
 -- ---- elements
 

@@ -4,7 +4,7 @@ use Rattle.std.specs.Prelude.{slice_get}
 use Rattle.std.proofs.lemmas.Bool.{cases_order, true≢false, eq-eqb, ne_eqb}
 use Rattle.std.specs.Option.{option_map, option_map_or}
 use Rattle.rowan_green.specs.declared.utility_types.NodeOrToken.TheVariants.{Node, Token}
-use Rattle.rowan_green.specs.Term.{NodeTerm, node, empty, Term, terms, node_children, node_len, sum_of_lens}
+use Rattle.rowan_green.specs.Term.{NodeTerm, node, Term, terms, node_children, node_len, sum_of_lens}
 use Rattle.rowan_green.specs.Path.{Path, term_children, subterm_of, subterm, begins, offset, len_of}
 use Rattle.rowan_green.specs.Search.{child_start}
 use Rattle.rowan_green.proofs.OffsetLemmas.{offset_of, lens_before-node, offset-lens, offset-join}

@@ -16,7 +16,7 @@ use Rattle.rowan_cursor.specs.Cursor.{Cursor}
 use Rattle.rowan_cursor.specs.Moves.{cursor_at, element_at, is_node_at, nodes_at}
 use Rattle.rowan_cursor.specs.Pass.{of_some, element_list, node_elements, elements_from}
 use Rattle.rowan_cursor.specs.Preorder.{event_map, node_events, forest_events, term_events, path_events, events_of_nodes, entered_by, descendant_paths, preorder_with_tokens, preorder, descendants, descendants_with_tokens, from_leave, skip}
-use Rattle.rowan_cursor.specs.PreorderRuns.{WalkCall, Take, Skip, given, still_to_come, LeavesAll}
+use Rattle.rowan_cursor.specs.PreorderRuns.{WalkCall, Take, Skip, output_of, rest_after, LeavesAll}
 use Rattle.rowan_cursor.proofs.LeafLemmas.{element_list-term, filter-below_children, filter_all, map_below}
 use Rattle.rowan_cursor.proofs.PathLemmas.{begins-same, not-begins}
 
@@ -35,8 +35,8 @@ skip-all {A = A} es xs h = by (from_leave 0 es) refl
     by None e = h
     by (Some fs) e = skip-leaves es fs [] xs h e
 
--- what is given, and what is still to come, leave as much as the events do
-run-leaves : {A : Type 0} (calls : List WalkCall) (es : List (WalkEvent A)) (xs : List A) → LeavesAll es xs → LeavesAll (given calls es ++ still_to_come calls es) xs
+-- what is output_of, and what is still to come, leave as much as the events do
+run-leaves : {A : Type 0} (calls : List WalkCall) (es : List (WalkEvent A)) (xs : List A) → LeavesAll es xs → LeavesAll (output_of calls es ++ rest_after calls es) xs
 run-leaves [] es xs h = h
 run-leaves (Take ∷ calls) [] xs h = run-leaves calls [] xs h
 run-leaves (Take ∷ calls) (Enter x ∷ es) xs h = run-leaves calls es (x ∷ xs) h
@@ -44,9 +44,9 @@ run-leaves (Take ∷ calls) (Leave y ∷ es) [] h = h
 run-leaves (Take ∷ calls) (Leave y ∷ es) (x ∷ xs) h = (h.0, run-leaves calls es xs h.1)
 run-leaves (Skip ∷ calls) es xs h = run-leaves calls (skip es) xs (skip-all es xs h)
 
-whole_run-leaves : {A : Type 0} (calls : List WalkCall) (es : List (WalkEvent A)) → LeavesAll es [] → still_to_come calls es ≡ [] → LeavesAll (given calls es) []
+whole_run-leaves : {A : Type 0} (calls : List WalkCall) (es : List (WalkEvent A)) → LeavesAll es [] → rest_after calls es ≡ [] → LeavesAll (output_of calls es) []
 whole_run-leaves calls es h e =
-    subst (λ fs. LeavesAll fs []) (ap (λ fs. given calls es ++ fs) e ∙ append-nil (given calls es)) (run-leaves calls es [] h)
+    subst (λ fs. LeavesAll fs []) (ap (λ fs. output_of calls es ++ fs) e ∙ append-nil (output_of calls es)) (run-leaves calls es [] h)
 
 -- the events of one element leave what they enter, also those of some elements alone
 abbrev pub kept : (Path → Bool) → List (WalkEvent Path) → List (WalkEvent Path)
@@ -101,12 +101,12 @@ pub all_kept : (es : List (WalkEvent Path)) → kept (λ p. true) es ≡ es
 all_kept [] = refl
 all_kept (e ∷ es) = ap (λ fs. e ∷ fs) (all_kept es)
 
-pub preorder_with_tokens-leaves : (c : Cursor) (calls : List WalkCall) → still_to_come calls (preorder_with_tokens c) ≡ [] → LeavesAll (given calls (preorder_with_tokens c)) []
+pub preorder_with_tokens-leaves : (c : Cursor) (calls : List WalkCall) → rest_after calls (preorder_with_tokens c) ≡ [] → LeavesAll (output_of calls (preorder_with_tokens c)) []
 preorder_with_tokens-leaves c calls e =
     let own = subst (λ es. LeavesAll es []) (all_kept (path_events c.root c.path)) (term-leaves (λ p. true) c.path (subterm (Node c.root) c.path)) in
     whole_run-leaves calls (preorder_with_tokens c) (map-leaves (element_at c.root) (path_events c.root c.path) [] own) e
 
-pub preorder-leaves : (c : Cursor) (calls : List WalkCall) → still_to_come calls (preorder c) ≡ [] → LeavesAll (given calls (preorder c)) []
+pub preorder-leaves : (c : Cursor) (calls : List WalkCall) → rest_after calls (preorder c) ≡ [] → LeavesAll (output_of calls (preorder c)) []
 preorder-leaves c calls e =
     let own = term-leaves (is_node_at c.root) c.path (subterm (Node c.root) c.path) in
     whole_run-leaves calls (preorder c) (map-leaves (cursor_at c.root) (events_of_nodes c.root (path_events c.root c.path)) [] own) e

@@ -25,7 +25,7 @@ remaining_leaves table top (Some n) =
     filter (begins (path_at table top))
     (since leaf_list (Some (Node (root_of table))) (path_at table n))
 
--- the texts of these leaves
+-- the texts of the leaves inside the element with the number top, from another element on
 abbrev pub remaining_texts : Table → ℕ → Option ℕ → List (List ℕ)
 remaining_texts table top next = texts_at (root_of table) (remaining_leaves table top next)
 

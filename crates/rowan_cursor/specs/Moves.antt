@@ -135,9 +135,11 @@ place_of (Token c) = c
 abbrev pub element_if_there : NodeTerm → Path → Option Element
 element_if_there root p = option_map (λ t. element_at root p) (subterm (Node root) p)
 
--- the element to which these indices lead from a cursor, each among all children of the one before
+-- the element to which these indices lead from a node, each among all children of the one before:
+-- the node itself where there are none
 abbrev pub element_below : Cursor → Path → Option Element
-element_below c indices = element_if_there c.root (c.path ++ indices)
+element_below c [] = Some (Node c)
+element_below c (i ∷ indices) = element_if_there c.root (c.path ++ i ∷ indices)
 
 -- ---- moves to one element
 

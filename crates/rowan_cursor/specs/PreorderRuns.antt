@@ -8,19 +8,19 @@ pub data WalkCall : Type 0 where
   Take : WalkCall
   Skip : WalkCall
 
--- the events that come
-abbrev pub given : {A : Type 0} → List WalkCall → List (WalkEvent A) → List (WalkEvent A)
-given [] es = []
-given (Take ∷ calls) [] = given calls []
-given (Take ∷ calls) (e ∷ es) = e ∷ given calls es
-given (Skip ∷ calls) es = given calls (skip es)
+-- the events that these calls give
+abbrev pub output_of : {A : Type 0} → List WalkCall → List (WalkEvent A) → List (WalkEvent A)
+output_of [] es = []
+output_of (Take ∷ calls) [] = output_of calls []
+output_of (Take ∷ calls) (e ∷ es) = e ∷ output_of calls es
+output_of (Skip ∷ calls) es = output_of calls (skip es)
 
--- the events that are still to come
-abbrev pub still_to_come : {A : Type 0} → List WalkCall → List (WalkEvent A) → List (WalkEvent A)
-still_to_come [] es = es
-still_to_come (Take ∷ calls) [] = still_to_come calls []
-still_to_come (Take ∷ calls) (e ∷ es) = still_to_come calls es
-still_to_come (Skip ∷ calls) es = still_to_come calls (skip es)
+-- the events that are left after these calls
+abbrev pub rest_after : {A : Type 0} → List WalkCall → List (WalkEvent A) → List (WalkEvent A)
+rest_after [] es = es
+rest_after (Take ∷ calls) [] = rest_after calls []
+rest_after (Take ∷ calls) (e ∷ es) = rest_after calls es
+rest_after (Skip ∷ calls) es = rest_after calls (skip es)
 
 -- The events leave all that they enter, and these before: each Leave is of what was entered last of
 -- all that is not left yet, and at the end nothing is still to be left.

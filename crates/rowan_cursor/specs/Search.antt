@@ -68,7 +68,7 @@ pub record StandsWhere (root : NodeTerm) (P : Path → Type 0) (e : Element) : T
   pub true : P path
   pub is : e ≡ element_at root path
 
--- such an element; or none, and then it is true of no path
+-- an element that stands where this is true; or none, and then it is true of no path
 abbrev pub Finds : NodeTerm → (Path → Type 0) → Option Element → Type 0
 Finds root P None = (q : Path) → ¬ P q
 Finds root P (Some e) = StandsWhere root P e

@@ -95,7 +95,7 @@ first_of start = unwrap_or start 0
 abbrev pub last_of : TextSlice → Option ℕ → ℕ
 last_of s end = unwrap_or end (slice_len s)
 
--- these bytes are there, and no character is cut
+-- a range may be cut out: its bytes are there, and no character is cut
 pub record CanCut (s : TextSlice) (start end : ℕ) : Type 0 where
   pub order : start ≤ end
   pub within : end ≤ slice_len s
@@ -106,6 +106,19 @@ pub record CanCut (s : TextSlice) (start end : ℕ) : Type 0 where
 pub record HasChar (text : List ℕ) (i c : ℕ) : Type 0 where
   pub rest : List ℕ
   pub begins : drop i text ≡ encode_utf8 c ++ rest
+
+-- the character c begins at byte i of a text, and at no byte before
+pub record BeginsFirst (text : List ℕ) (c i : ℕ) : Type 0 where
+  pub here : HasChar text i c
+  pub first : (j : ℕ) → HasChar text j c → i ≤ j
+
+-- the character c begins at no byte of a text
+pub record LacksChar (text : List ℕ) (c : ℕ) : Type 0 where
+  pub none : (i : ℕ) → HasChar text i c → ⊥
+
+-- the byte at which the character c first begins in a text, if it is there
+abbrev pub FindsChar : List ℕ → ℕ → Option ℕ → Type 0
+FindsChar text c found = MatchOption found (LacksChar text c) (λ i. BeginsFirst text c i)
 
 -- the character that begins at byte i of a text, if one does
 abbrev pub ReadsChar : List ℕ → ℕ → Option ℕ → Type 0

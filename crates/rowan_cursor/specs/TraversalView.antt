@@ -19,7 +19,7 @@ root_of_traversal t = root_of t.table.value
 abbrev pub remaining_path_events : Traversal → List (WalkEvent Path)
 remaining_path_events t = remaining_events t.table.value t.start t.next
 
--- of these, those of nodes
+-- the events of nodes that are left, by their paths
 abbrev pub remaining_node_path_events : Traversal → List (WalkEvent Path)
 remaining_node_path_events t = events_of_nodes (root_of_traversal t) (remaining_path_events t)
 
@@ -27,7 +27,7 @@ remaining_node_path_events t = events_of_nodes (root_of_traversal t) (remaining_
 abbrev pub paths_entered : Traversal → List Path
 paths_entered t = entered_by (remaining_path_events t)
 
--- of these, those of nodes
+-- the paths of nodes that are still to be entered
 abbrev pub node_paths_entered : Traversal → List Path
 node_paths_entered t = nodes_at (root_of_traversal t) (paths_entered t)
 

@@ -8,7 +8,7 @@ ghost use Rattle.rowan_green.specs.Term.{Term};
 ghost use Rattle.rowan_cursor.specs.Cursor.{Cursor, term_at, text_at, text_range};
 ghost use Rattle.rowan_cursor.specs.Equal.{same_place, start_of};
 ghost use Rattle.rowan_cursor.specs.Preorder.{preorder_with_tokens, preorder, descendants_with_tokens, descendants, entered_by};
-ghost use Rattle.rowan_cursor.specs.PreorderRuns.{WalkCall, given, still_to_come, LeavesAll};
+ghost use Rattle.rowan_cursor.specs.PreorderRuns.{WalkCall, output_of, rest_after, LeavesAll};
 ghost use Rattle.rowan_cursor.specs.Moves.{Element, place_of, cursor_at};
 ghost use Rattle.rowan_cursor.specs.Search.{LiesIn, IsCovering, FindsChild, IsLeafOver, tokens_at};
 ghost use Rattle.rowan_cursor.specs.SyntaxText.{TextSlice, IsTextSlice, chunks, slice_len, slice_text, token_texts};
@@ -29,10 +29,10 @@ pub fn nothing_equals_what_is_in_it()
 pub fn walks_leave_what_they_enter()
     ensures with_tokens { (c : Cursor) (calls : List WalkCall) →
         let events = preorder_with_tokens c in
-        still_to_come calls events ≡ [] → LeavesAll (given calls events) [] }
+        rest_after calls events ≡ [] → LeavesAll (output_of calls events) [] }
     ensures nodes { (c : Cursor) (calls : List WalkCall) →
         let events = preorder c in
-        still_to_come calls events ≡ [] → LeavesAll (given calls events) [] }
+        rest_after calls events ≡ [] → LeavesAll (output_of calls events) [] }
 {}
 
 /// What a walk enters, where nothing is skipped, are the descendants in their order.

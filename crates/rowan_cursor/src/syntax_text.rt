@@ -1,11 +1,11 @@
 //! Texts of nodes, and slices of them. A text is read in chunks, which the tree lends: one for each token that it meets.
 mod range;
 
-ghost use Rattle.std.specs.Prelude.{◌≡◌, ◌↔◌, IfOk, IfErr, IsTrue, string_bytes};
+ghost use Rattle.std.specs.Prelude.{◌≡◌, ◌↔◌, ℕ, IfOk, IfErr, IsTrue, string_bytes};
 ghost use Rattle.std.specs.Str.{IsCharBoundary};
 ghost use Rattle.rowan_cursor.specs.TableView.{IsNodeIn, cursor_of};
 ghost use Rattle.rowan_cursor.specs.Folds.{FoldsUntilErr, VisitsUntilErr, VisitsAll};
-ghost use Rattle.rowan_cursor.specs.SyntaxText.{slice_text, slice_len, chunks, whole_text, part_of, first_of, last_of, CanCut, ReadsChar};
+ghost use Rattle.rowan_cursor.specs.SyntaxText.{slice_text, slice_len, chunks, whole_text, part_of, first_of, last_of, CanCut, HasChar, FindsChar, ReadsChar};
 
 use crate::table::Table;
 pub use range::SyntaxTextRange;
@@ -41,11 +41,9 @@ impl Model for SyntaxText {
 
 impl SyntaxText {
     // The text of the node with a number.
-    pub(crate) fn new(table: &Rc<Table>, node: usize) -> Result<SyntaxText, Fault>
+    pub(crate) fn new(table: &Rc<Table>, node: usize) -> Result<SyntaxText, AllocError>
         requires { IsNodeIn table.now.value node }
-        ensures ok { IfOk result (λ t. t
-            ≡ whole_text (cursor_of table.now.value node)) }
-        ensures err { IfErr result (λ e. e ≡ Fault.Memory) }
+        ensures { IfOk result (λ t. t ≡ whole_text (cursor_of table.now.value node)) }
     {
         let range = table.text_range(node);
         let table = table.clone()?;
@@ -64,6 +62,20 @@ impl SyntaxText {
         ensures { IsTrue result ↔ (self.now.range.start ≡ self.now.range.end) }
     {
         self.range.is_empty()
+    }
+
+    /// Whether a character is in the text. Takes no memory.
+    pub fn contains_char(&self, c: char) -> bool
+        ensures { IsTrue result ↔ ((i : ℕ) × HasChar (slice_text self.now) i c) }
+    {
+        self.find_char(c).is_some()
+    }
+
+    /// The offset at which a character first begins. Takes no memory.
+    pub fn find_char(&self, c: char) -> Option<TextSize>
+        ensures { FindsChar (slice_text self.now) c result }
+    {
+        self.table.find_char(self.node, self.range, c)
     }
 
     /// Whether an offset is at most the length and not inside a character. Takes no memory.

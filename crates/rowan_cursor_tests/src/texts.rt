@@ -1,6 +1,10 @@
 //! Texts of nodes, and slices of them.
-use crate::fixture::{Call, ROOT, root_of};
-use rowan::{Fault, SyntaxText, TextSize};
+ghost use Rattle.std.specs.Prelude.{◌≤◌, IsTrue};
+ghost use Rattle.std.specs.Str.{IsCharBoundary};
+ghost use Rattle.rowan_cursor.specs.SyntaxText.{slice_len, slice_text};
+
+use crate::fixture::{ATOM, Call, LIST, ROOT, root_of};
+use rowan::{Fault, SyntaxText, TextRange, TextSize};
 use std::alloc::Global;
 use std::test::Fail;
 
@@ -54,22 +58,190 @@ fn chunks_meet_a_slice(rt: HostRuntime) -> Result<(), Fail> {
     Ok(())
 }
 
+/// The words of two texts.
+type Pair = (&'static [&'static str], &'static [&'static str]);
+
+/// Words that spell one text.
+const EQUAL: [Pair; 6] = [
+    (&[""], &[""]),
+    (&["a"], &["a"]),
+    (&["hello", "world"], &["hello", "world"]),
+    (&["hellowo", "rld"], &["hell", "oworld"]),
+    (&["hel", "lowo", "rld"], &["helloworld"]),
+    (&["{", "abc", "}ab"], &["{", "abc", "}", "ab"]),
+];
+
+/// Words that spell two texts.
+const DIFFERENT: [Pair; 6] = [
+    (&["a"], &[""]),
+    (&["abc"], &["def"]),
+    (&["{", "abc", "}"], &["{", "123", "}"]),
+    (&["{", "abc", "}", "{"], &["{", "123", "}"]),
+    (&["{", "abc", "}"], &["{", "123", "}", "{"]),
+    (&["hel", "lowo", "rld"], &["hello", "wurld"]),
+];
+
+/// Whether two texts are equal, where each way to compare them gives the same answer.
+fn compared(alloc: Global, words: Pair) -> Result<Option<bool>, Fault> {
+    let first = text_of(alloc, words.0)?;
+    let second = text_of(alloc, words.1)?;
+    let equal = first == second;
+    let others = [
+        second == first,
+        first.eq_str(second.to_text()?.as_str()),
+        second.eq_str(first.to_text()?.as_str()),
+    ];
+    Ok(if others == [equal; 3] {
+        Some(equal)
+    } else {
+        None
+    })
+}
+
 #[test]
 fn texts_are_equal_however_they_are_cut(rt: HostRuntime) -> Result<(), Fail> {
+    for words in EQUAL {
+        assert!(rt; compared(rt.alloc(), words)? == Some(true));
+    }
+    for words in DIFFERENT {
+        assert!(rt; compared(rt.alloc(), words)? == Some(false));
+    }
+    Ok(())
+}
+
+/// Whether a text may be cut at an offset.
+fn is_border(text: &SyntaxText, offset: TextSize) -> bool
+    ensures { IsTrue result → (offset ≤ slice_len text.now) × IsCharBoundary (slice_text text.now) offset }
+{
+    offset <= text.len() && text.is_border(offset)
+}
+
+/// The part from an offset on.
+fn part_from(text: &SyntaxText, start: u32) -> Result<SyntaxText, Fault> {
+    let start = TextSize::from(start);
+    if is_border(text, start) && is_border(text, text.len()) {
+        text.slice(start..)
+    } else {
+        Err(Fault::NotFound)
+    }
+}
+
+/// The part up to an offset.
+fn part_to(text: &SyntaxText, end: u32) -> Result<SyntaxText, Fault> {
+    let end = TextSize::from(end);
+    if is_border(text, TextSize::from(0)) && is_border(text, end) {
+        text.slice(..end)
+    } else {
+        Err(Fault::NotFound)
+    }
+}
+
+/// The part in a range.
+fn part_in(text: &SyntaxText, range: TextRange) -> Result<SyntaxText, Fault> {
+    if is_border(text, range.start()) && is_border(text, range.end()) {
+        text.slice(range)
+    } else {
+        Err(Fault::NotFound)
+    }
+}
+
+/// All of it.
+fn whole(text: &SyntaxText) -> Result<SyntaxText, Fault> {
+    if is_border(text, TextSize::from(0)) && is_border(text, text.len()) {
+        text.slice(..)
+    } else {
+        Err(Fault::NotFound)
+    }
+}
+
+#[test]
+fn texts_are_sliced_by_each_kind_of_range(rt: HostRuntime) -> Result<(), Fail> {
+    let text = text_of(rt.alloc(), ["ab", "cd"].as_slice())?;
+    assert!(rt; part_from(&text, 1)?.eq_str("bcd"));
+    assert!(rt; part_to(&text, 3)?.eq_str("abc"));
+    assert!(rt; whole(&text)?.eq_str("abcd"));
+    let range = TextRange::new(TextSize::from(1), TextSize::from(3));
+    assert!(rt; part_in(&text, range)?.eq_str("bc"));
+    assert!(rt; cut(&cut(&text, 1, 4)?, 1, 2)?.eq_str("c"));
+    Ok(())
+}
+
+/// How many chunks there are, or the number of the last that is wanted, if there is one.
+fn count(text: &SyntaxText, last: u32) -> Result<u32, u32> {
+    text.try_fold_chunks(0, |number: u32, _chunk: &str| -> Result<u32, u32> {
+        let next = number.saturating_add(1);
+        if next == last { Err(next) } else { Ok(next) }
+    })
+}
+
+#[test]
+fn folds_end_at_a_refusal(rt: HostRuntime) -> Result<(), Fail> {
+    let text = text_of(rt.alloc(), ["ab", "", "cd"].as_slice())?;
+    assert!(rt; count(&text, 3) == Err(3));
+    assert!(rt; count(&text, 4) == Ok(3));
+    Ok(())
+}
+
+/// `ROOT[LIST[] ATOM[LIST[] ""] "a" LIST[""] "" ATOM[]]`
+const EMPTY_TOKENS: [Call; 16] = [
+    Call::Open(ROOT),
+    Call::Open(LIST),
+    Call::Close,
+    Call::Open(ATOM),
+    Call::Open(LIST),
+    Call::Close,
+    Call::Word(""),
+    Call::Close,
+    Call::Word("a"),
+    Call::Open(LIST),
+    Call::Word(""),
+    Call::Close,
+    Call::Word(""),
+    Call::Open(ATOM),
+    Call::Close,
+    Call::Close,
+];
+
+#[test]
+fn empty_tokens_give_empty_chunks(rt: HostRuntime) -> Result<(), Fail> {
     let alloc = rt.alloc();
-    let first = text_of(alloc, ["hel", "lowo", "rld"].as_slice())?;
-    assert!(rt; first == text_of(alloc, ["helloworld"].as_slice())?);
-    assert!(rt; first != text_of(alloc, ["hello", "wurld"].as_slice())?);
-    assert!(rt; first.eq_str("helloworld") && !first.eq_str("helloworl"));
-    assert!(rt; first.to_text()?.as_str() == "helloworld");
+    let text = root_of(alloc, EMPTY_TOKENS.as_slice())?.text()?;
+    assert!(rt; chunks_of(alloc, &text)?.as_str() == "|a|||");
+    assert!(rt; chunks_of(alloc, &cut(&text, 0, 0)?)?.as_str() == "||");
+    assert!(rt; chunks_of(alloc, &cut(&text, 1, 1)?)?.as_str() == "|||");
     Ok(())
 }
 
 #[test]
+fn characters_are_found_by_bytes(rt: HostRuntime) -> Result<(), Fail> {
+    let text = text_of(rt.alloc(), ["ab", "cd"].as_slice())?;
+    assert!(rt; text.find_char('d') == Some(TextSize::from(3)));
+    assert!(rt; part_from(&text, 1)?.find_char('d') == Some(TextSize::from(2)));
+    assert!(rt; part_to(&text, 3)?.find_char('d') == None);
+    assert!(rt; text.contains_char('d') && !text.contains_char('e'));
+    Ok(())
+}
+
+/// Offsets, the character that begins there, and whether the text may be cut there.
+const CHARACTERS: [(u32, Option<char>, bool); 8] = [
+    (0, Some('a'), true),
+    (1, Some('é'), true),
+    (2, None, false),
+    (3, Some('日'), true),
+    (4, None, false),
+    (5, None, false),
+    (6, None, true),
+    (7, None, false),
+];
+
+#[test]
 fn characters_begin_at_borders(rt: HostRuntime) -> Result<(), Fail> {
-    let text = text_of(rt.alloc(), ["é"].as_slice())?;
-    assert!(rt; text.char_at(TextSize::from(0)) == Some('é'));
-    assert!(rt; text.char_at(TextSize::from(1)) == None && text.char_at(TextSize::from(2)) == None);
-    assert!(rt; !text.is_border(TextSize::from(1)) && text.is_border(TextSize::from(2)));
+    let text = text_of(rt.alloc(), ["aé", "日"].as_slice())?;
+    for (offset, character, border) in CHARACTERS {
+        assert!(rt; text.char_at(TextSize::from(offset)) == character);
+        assert!(rt; text.is_border(TextSize::from(offset)) == border);
+    }
+    assert!(rt; text.len() == TextSize::from(6) && cut(&text, 1, 3)?.eq_str("é"));
+    assert!(rt; text.find_char('日') == Some(TextSize::from(3)) && !text.contains_char('本'));
     Ok(())
 }

@@ -27,7 +27,7 @@ pub enum Make {
     Lexed(&'static str),
     /// The parse of a text.
     Parsed(&'static str),
-    /// The same, over the cache of the case.
+    /// The parse of a text, over the cache of the case.
     ParsedOver(&'static str),
     /// The typed root of the parse.
     Syntax,

@@ -12,9 +12,9 @@ pub enum Step {
     Phase(Phase),
     /// Builds by calls, with a cache of its own, and drops the tree.
     Build(&'static [Call]),
-    /// The same, where `finish` refuses the builder after the first calls, and it goes on with the others.
+    /// Builds by the first calls, after which `finish` refuses the builder, and goes on with the others.
     BuildOn(&'static [Call], &'static [Call]),
-    /// The same, over the cache of the case, of which it says what it keeps then.
+    /// Builds over the cache of the case, and says what the cache keeps then.
     BuildOver(Way, &'static [Call]),
     Make(Make),
     /// How much the cache of the case keeps.

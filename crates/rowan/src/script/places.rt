@@ -12,8 +12,6 @@ pub fn element_at(node: &SyntaxNode, path: &[usize]) -> Result<Option<SyntaxElem
     ensures ok { IfOk result (λ found. found ≡ element_below node.now path.now) }
     ensures err { IfErr result (λ e. e ≡ Fault.Memory) }
 {
-    // Says that a node stands there.
-    let _green = node.green();
     let mut element = SyntaxElement::from(node.clone()?);
     for place in path {
         let NodeOrToken::Node(parent) = element else {

@@ -2,14 +2,22 @@
 mod edit;
 mod listing;
 mod moves;
+mod question;
+mod search;
+mod slice;
+mod walk;
 
 use crate::{operand, tree};
 use anyhow::Result;
 pub use edit::Edit;
 pub use listing::Listing;
 pub use moves::Move;
-use rowan::{GreenNode, GreenToken, TextRange};
+pub use question::Question;
+use rowan::{GreenNode, GreenToken, TextRange, TextSize};
+pub use search::tokens_at;
+pub use slice::Slice;
 use std::alloc::Global;
+pub use walk::{Event, Walk};
 
 /// A step from the tree of a case.
 #[derive(Drop)]
@@ -24,6 +32,19 @@ pub enum Step {
     Load(u32),
     /// Compares the current cursor with the one in this slot.
     Same(u32),
+    /// Asks for the tokens at an offset of the root's text.
+    TokenAt(TextSize),
+    Walk(Walk),
+    /// Makes the text of the node current.
+    Text,
+    /// Makes a slice of the current text current.
+    Slice(Slice),
+    /// Asks the current text.
+    Ask(Question),
+    /// Keeps the current text in this slot.
+    KeepText(u32),
+    /// Compares the current text with the one in this slot.
+    EqText(u32),
     ReplaceNode(GreenNode),
     ReplaceToken(GreenToken),
     /// A step of which only the name is read, and which may move the cursor.
@@ -33,37 +54,12 @@ pub enum Step {
 }
 
 /// The names of the steps that may move the cursor and whose operands are not read.
-const UNREAD_MOVES: [&str; 6] = [
-    "ChildAtRange",
-    "Covering",
-    "LeftTokenAt",
-    "RightTokenAt",
-    "ReparseList",
-    "EditList",
-];
+const UNREAD_MOVES: [&str; 2] = ["ReparseList", "EditList"];
 
 /// The names of the other steps whose operands are not read.
-const UNREAD: [&str; 32] = [
-    "TokenAt",
-    "Descendants",
-    "DescendantsWithTokens",
-    "Walk",
-    "WalkWithTokens",
-    "Text",
-    "Slice",
-    "SliceRange",
-    "SliceFrom",
-    "SliceTo",
-    "SliceFull",
-    "Chunks",
-    "FoldChunks",
+const UNREAD: [&str; 14] = [
     "FindChar",
     "ContainsChar",
-    "CharAt",
-    "IsBorder",
-    "EqStr",
-    "KeepText",
-    "EqText",
     "Ptr",
     "AfterEdit",
     "Resolve",
@@ -90,16 +86,47 @@ impl Step {
         if let Some(listing) = Listing::parse(name, operands)? {
             return Ok(Some(Step::Listing(listing)));
         }
+        if let Some(step) = of_text(alloc, name, operands)? {
+            return Ok(Some(step));
+        }
         Ok(Some(match name {
             "GreenChildAt" => Step::GreenChildAt(operand::range(operands)?),
             "Save" => Step::Save(operand::number(operands)?),
             "Load" => Step::Load(operand::number(operands)?),
             "Same" => Step::Same(operand::number(operands)?),
+            "TokenAt" => Step::TokenAt(operand::offset(operands)?),
+            "Walk" => Step::Walk(Walk::Nodes(walk::calls(alloc, operands)?)),
+            "WalkWithTokens" => Step::Walk(Walk::WithTokens(walk::calls(alloc, operands)?)),
             "ReplaceNode" => Step::ReplaceNode(tree::node(alloc, operands)?),
             "ReplaceToken" => Step::ReplaceToken(tree::token(alloc, operands)?),
-            _ if UNREAD_MOVES.iter().any(|unread| *unread == name) => Step::UnreadMove,
-            _ if UNREAD.iter().any(|unread| *unread == name) => Step::Unread,
-            _ => return Ok(None),
+            _ => return Ok(unread(name)),
         }))
     }
+}
+
+/// A step of which only the name is read.
+fn unread(name: &str) -> Option<Step> {
+    if UNREAD_MOVES.iter().any(|unread| *unread == name) {
+        return Some(Step::UnreadMove);
+    }
+    if UNREAD.iter().any(|unread| *unread == name) {
+        return Some(Step::Unread);
+    }
+    None
+}
+
+/// Reads a step that acts on texts. Nothing where the name is that of none.
+fn of_text(alloc: Global, name: &str, operands: &str) -> Result<Option<Step>> {
+    if let Some(slice) = Slice::parse(name, operands)? {
+        return Ok(Some(Step::Slice(slice)));
+    }
+    if let Some(question) = Question::parse(alloc, name, operands)? {
+        return Ok(Some(Step::Ask(question)));
+    }
+    Ok(Some(match (name, operands) {
+        ("Text", "") => Step::Text,
+        ("KeepText", _) => Step::KeepText(operand::number(operands)?),
+        ("EqText", _) => Step::EqText(operand::number(operands)?),
+        _ => return Ok(None),
+    }))
 }

@@ -4,7 +4,7 @@ ghost use Rattle.std.specs.Fmt.{DisplaysOnOk};
 ghost use Rattle.std.specs.Str.{IsCharBoundary};
 ghost use Rattle.rowan_cursor.specs.Chunks.{remaining_leaves, IsTokenInside, MayCut, IsWalk, remaining_chunks, slice_of, IsSliceOf, IsByteIn};
 ghost use Rattle.rowan_cursor.specs.Folds.{FoldsUntilErr, VisitsUntilErr, VisitsAll};
-ghost use Rattle.rowan_cursor.specs.SyntaxText.{meets, common_part, chunks, slice_text, part_of, CanCut, ReadsChar, same_text};
+ghost use Rattle.rowan_cursor.specs.SyntaxText.{meets, common_part, chunks, slice_text, part_of, CanCut, FindsChar, ReadsChar, same_text};
 ghost use Rattle.rowan_cursor.specs.TableView.{path_at};
 
 use super::Table;
@@ -314,6 +314,22 @@ impl Table {
             Some((chunk, place)) => chunk.is_char_boundary(place),
             None => offset == range.len(),
         }
+    }
+
+    /// Where a character first begins in a slice, in bytes from its start.
+    pub(crate) fn find_char(&self, node: usize, range: TextRange, c: char) -> Option<TextSize>
+        requires { IsSliceOf self.now node range }
+        ensures { let text = slice_text (slice_of self.now node range) in FindsChar text c result }
+    {
+        let mut walk = self.chunk_walk(node, range);
+        let mut passed = 0;
+        while let Some(chunk) = self.next_chunk(&mut walk) {
+            if let Some(place) = chunk.find(c) {
+                return Some(TextSize::from((passed + place) as u32));
+            }
+            passed += chunk.len();
+        }
+        None
     }
 
     /// The character that begins at an offset of a slice.

@@ -1,5 +1,5 @@
 //! Searches by place: among the children of one node by halves, and so down from node to child.
-ghost use Rattle.std.specs.Prelude.{◌≡◌, ℕ, ◌+◌, ◌<◌, ◌≤◌, ◌↔◌, IfSome, IsNone, IsSome, map};
+ghost use Rattle.std.specs.Prelude.{◌≡◌, ℕ, ◌+◌, ◌-◌, ◌<◌, ◌≤◌, ◌↔◌, IfSome, IsNone, IsSome, map};
 ghost use Rattle.std.specs.List.{AllByRecursion};
 ghost use Rattle.rowan_green.specs.Path.{Path};
 ghost use Rattle.rowan_green.specs.Search.{digits};
@@ -81,6 +81,28 @@ impl Table {
         self.covering_element(number, TextRange::at(byte, TextSize::from(1)))
     }
 
+    // The tokens that have the byte before an offset of the root's text and the byte behind it, at or below an entry that has
+    // both bytes. The searches part at the element that covers both.
+    fn leaves_beside(&self, number: usize, offset: TextSize) -> (usize, usize)
+        // the entry has both bytes
+        requires number { IsWithin self.now number }
+        requires from { (text_range (cursor_of self.now number)).start < offset }
+        requires to { offset < (text_range (cursor_of self.now number)).end }
+
+        // the tokens
+        ensures left { let here = path_at self.now number in
+            IsLeafOver (root_of self.now) (offset - 1) here (path_at self.now result.0) }
+        ensures right { let here = path_at self.now number in
+            IsLeafOver (root_of self.now) offset here (path_at self.now result.1) }
+        ensures tokens { IsTokenIn self.now result.0 × IsTokenIn self.now result.1 }
+    {
+        let before = TextSize::from(u32::from(offset) - 1);
+        let both = self.covering_element(number, TextRange::at(before, TextSize::from(2)));
+        let left = self.leaf_over(both, before);
+        let right = self.leaf_over(both, offset);
+        (left, right)
+    }
+
     /// The tokens at or below an entry that touch an offset of the root's text. The offset lies in the entry's text or at an end
     /// of it.
     pub(crate) fn token_at_offset(&self, number: usize, offset: TextSize) -> TokenAtOffset<usize>
@@ -99,11 +121,11 @@ impl Table {
         if offset == range.start() {
             return TokenAtOffset::Single(self.leaf_over(number, offset));
         }
-        let left = self.leaf_over(number, TextSize::from(u32::from(offset) - 1));
         if offset == range.end() {
-            return TokenAtOffset::Single(left);
+            let last = TextSize::from(u32::from(offset) - 1);
+            return TokenAtOffset::Single(self.leaf_over(number, last));
         }
-        let right = self.leaf_over(number, offset);
+        let (left, right) = self.leaves_beside(number, offset);
         if left == right {
             TokenAtOffset::Single(left)
         } else {

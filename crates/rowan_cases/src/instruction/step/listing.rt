@@ -12,6 +12,8 @@ use std::alloc::Global;
 pub enum Listing {
     Children,
     ChildrenWithTokens,
+    Descendants,
+    DescendantsWithTokens,
     Ancestors,
     Siblings(Direction),
     SiblingsWithTokens(Direction),
@@ -23,6 +25,8 @@ impl Listing {
         Ok(Some(match (name, operands) {
             ("Children", "") => Listing::Children,
             ("ChildrenWithTokens", "") => Listing::ChildrenWithTokens,
+            ("Descendants", "") => Listing::Descendants,
+            ("DescendantsWithTokens", "") => Listing::DescendantsWithTokens,
             ("Ancestors", "") => Listing::Ancestors,
             ("Siblings", _) => Listing::Siblings(operand::direction(operands)?),
             ("SiblingsWithTokens", _) => {
@@ -48,6 +52,8 @@ impl Listing {
         match self {
             Listing::Children => nodes(alloc, node.children()),
             Listing::ChildrenWithTokens => node.children_with_tokens().try_collect(alloc),
+            Listing::Descendants => nodes(alloc, node.descendants()),
+            Listing::DescendantsWithTokens => node.descendants_with_tokens().try_collect(alloc),
             Listing::Ancestors => nodes(alloc, node.ancestors()),
             Listing::Siblings(direction) => nodes(alloc, node.siblings(direction)),
             Listing::SiblingsWithTokens(direction) => {

@@ -1,5 +1,6 @@
 //! The moves of cursors.
 
+use crate::instruction::step::search::Search;
 use crate::operand;
 use anyhow::Result;
 use rowan::cursor::{SyntaxElement, SyntaxNode, SyntaxToken};
@@ -27,6 +28,7 @@ pub enum Move {
     /// Goes down by these indexes of children, tokens counted.
     ElementAt(Vec<usize>),
     CloneSubtree,
+    Search(Search),
 }
 
 impl Move {
@@ -49,7 +51,7 @@ impl Move {
             ("PrevToken", "") => Move::PrevToken,
             ("ElementAt", _) => Move::ElementAt(operand::path(alloc, operands)?),
             ("CloneSubtree", "") => Move::CloneSubtree,
-            _ => return Ok(None),
+            _ => return Ok(Search::parse(name, operands)?.map(Move::Search)),
         }))
     }
 
@@ -77,6 +79,7 @@ impl Move {
             Move::LastToken => Ok(as_token(node.last_token()?)),
             Move::ElementAt(path) => element_at(node, path.as_slice()),
             Move::CloneSubtree => Ok(Some(NodeOrToken::Node(node.clone_subtree()?))),
+            Move::Search(search) => search.make(node),
             Move::NextToken | Move::PrevToken => Ok(None),
         }
     }

@@ -12,6 +12,6 @@ impl SyntaxNode {
         ensures ok { IfOk result (λ text. text ≡ whole_text self.now) }
         ensures err { IfErr result (λ e. e ≡ Fault.Memory) }
     {
-        SyntaxText::new(&self.table, self.number)
+        Ok(SyntaxText::new(&self.table, self.number)?)
     }
 }

@@ -1,0 +1,130 @@
+//! The texts of a case.
+
+use crate::answer::Answer;
+use crate::instruction::{Question, Slice};
+use crate::place::Place;
+use rowan::{Fault, NodeOrToken, SyntaxText};
+use std::alloc::{AllocError, Global};
+use std::collections::BTreeMap;
+
+/// The current text of a case, and those that are kept.
+#[derive(Drop)]
+pub struct Texts {
+    current: Reading,
+    /// The texts that are kept, by the numbers of their slots.
+    kept: BTreeMap<u32, Reading>,
+}
+
+/// What was read as a text.
+#[derive(Clone, Drop)]
+enum Reading {
+    Nothing,
+    Text(SyntaxText),
+    /// Nobody knows which text, since nobody knew the place.
+    Unknown,
+}
+
+impl Texts {
+    /// No text, and none kept.
+    pub fn new(alloc: Global) -> Texts {
+        Texts {
+            current: Reading::Nothing,
+            kept: BTreeMap::new(alloc),
+        }
+    }
+
+    /// The text of the node at a place becomes current.
+    pub fn read<'a>(&mut self, place: &Place) -> Result<Answer<'a>, Fault> {
+        match place {
+            Place::At(NodeOrToken::Node(node)) => self.take(node.text()?),
+            Place::At(NodeOrToken::Token(_)) => Ok(Answer::Nowhere),
+            Place::Unknown => {
+                self.current = Reading::Unknown;
+                Ok(Answer::Unsupported)
+            }
+        }
+    }
+
+    /// A slice of the current text becomes current.
+    pub fn slice<'a>(&mut self, slice: Slice) -> Result<Answer<'a>, Fault> {
+        match &self.current {
+            Reading::Nothing => Ok(Answer::Nowhere),
+            Reading::Text(text) => match slice.make(text)? {
+                Some(part) => self.take(part),
+                None => Ok(Answer::Nowhere),
+            },
+            Reading::Unknown => Ok(Answer::Unsupported),
+        }
+    }
+
+    fn take<'a>(&mut self, text: SyntaxText) -> Result<Answer<'a>, Fault> {
+        let answer = Answer::Text(text.len(), text.to_text()?);
+        self.current = Reading::Text(text);
+        Ok(answer)
+    }
+
+    /// Asks the current text.
+    pub fn ask<'a>(&self, alloc: Global, question: &Question) -> Result<Answer<'a>, Fault> {
+        match &self.current {
+            Reading::Nothing => Ok(Answer::Nowhere),
+            Reading::Text(text) => ask(alloc, text, question),
+            Reading::Unknown => Ok(Answer::Unsupported),
+        }
+    }
+
+    /// Keeps the current text.
+    pub fn keep<'a>(&mut self, slot: u32) -> Result<Answer<'a>, Fault> {
+        if let Reading::Nothing = &self.current {
+            return Ok(Answer::Nowhere);
+        }
+        let current = self.current.clone()?;
+        self.kept.insert(slot, current)?;
+        match &self.current {
+            Reading::Text(_) => Ok(Answer::Saved),
+            _ => Ok(Answer::Unsupported),
+        }
+    }
+
+    /// Compares the current and a kept text.
+    pub fn compare<'a>(&self, slot: u32) -> Answer<'a> {
+        match (&self.current, self.kept.get(&slot)) {
+            (Reading::Nothing, _) | (_, None) => Answer::Nowhere,
+            (Reading::Text(current), Some(Reading::Text(kept))) => {
+                Answer::equality(current == kept)
+            }
+            _ => Answer::Unsupported,
+        }
+    }
+}
+
+fn ask<'a>(alloc: Global, text: &SyntaxText, question: &Question) -> Result<Answer<'a>, Fault> {
+    Ok(match question {
+        Question::Chunks => Answer::Chunks(chunks(alloc, text)?),
+        Question::FoldChunks(limit) => Answer::Fold(count_chunks(text, *limit)),
+        Question::CharAt(offset) => Answer::Char(text.char_at(*offset)),
+        Question::IsBorder(offset) => Answer::truth(text.is_border(*offset)),
+        Question::EqStr(other) => Answer::equality(text.eq_str(other.as_str())),
+    })
+}
+
+fn chunks(alloc: Global, text: &SyntaxText) -> Result<Vec<String>, AllocError> {
+    text.try_fold_chunks(
+        Vec::new(alloc),
+        |mut chunks: Vec<String>, chunk: &str| -> Result<Vec<String>, AllocError> {
+            chunks.push(String::from_str(alloc, chunk)?)?;
+            Ok(chunks)
+        },
+    )
+}
+
+/// How many chunks there are, or this limit as an error where there are so many.
+fn count_chunks(text: &SyntaxText, limit: u32) -> Result<u32, u32> {
+    text.try_fold_chunks(0u32, |count: u32, _chunk: &str| -> Result<u32, u32> {
+        let count = count.saturating_add(1);
+        if count == limit {
+            Err(count)
+        } else {
+            Ok(count)
+        }
+    })
+}
