@@ -169,9 +169,9 @@ pub fn replacements_commute()
         → put (put t p u) q v ≡ put (put t q v) p u }
 {}
 
-/// In a term within the limits, a replacement by a term within the limits is so, too, exactly where the whole text is not too long.
-/// Whatever term it is: where the whole is within the limits, so are the new subterm and all others, and it is not where the children
-/// of a node pass a limit with the new child among them.
+/// Where a term and what is put into it are within the limits, the new term is within them exactly where its text is not too long.
+/// Whatever is put: a term within the limits has only subterms within them, the new one too, and is not within them where the
+/// children of a node, with the new one among them, pass a limit.
 pub fn replacement_fits_by_its_length()
     ensures fits { (t : Term) (p : Path) (u w : Term) → subterm t p ≡ Some w → Fits t → Fits u
         → Fits (put t p u) ↔ term_len (put t p u) ≤ byte_limit }
@@ -228,8 +228,8 @@ pub fn what_stands_apart_from_all_stays()
     ensures range { (t : Term) (rs : List Replacement) (last : Term) (q : Path)
         → Makes t rs last → SeparateFromAll q rs
         → range last q ≡ moved_in_turn t rs q (range t q) }
-    ensures new { (t : Term) (before : List Replacement) (r : Replacement) (after : List Replacement)
-        (last : Term) → Makes t (before ++ r ∷ after) last → SeparateFromAll r.path after
+    ensures new { (t : Term) (before after : List Replacement) (r : Replacement) (last : Term)
+        → Makes t (before ++ r ∷ after) last → SeparateFromAll r.path after
         → subterm last r.path ≡ Some r.new }
 {}
 
