@@ -16,6 +16,7 @@ pub mod RowViews
 pub mod SameLemmas
 pub mod SearchLemmas
 pub mod SizeLemmas
+pub mod SkipLemmas
 pub mod SliceLemmas
 pub mod TableLemmas
 pub mod TextLemmas
