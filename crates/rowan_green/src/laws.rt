@@ -142,8 +142,8 @@ pub fn what_stands_apart_stays()
     // at a path that is separate from that of the replacement
     ensures subterm { (t : Term) (p q : Path) (u : Term) → separate p q ≡ true
         → subterm (put t p u) q ≡ subterm t q }
-    ensures range { (t : Term) (p q : Path) (u w : Term) → subterm t p ≡ Some w → separate p q ≡ true
-        → range (put t p u) q ≡ moved_range t p u q }
+    ensures range { (t : Term) (p q : Path) (u w : Term) → subterm t p ≡ Some w
+        → separate p q ≡ true → range (put t p u) q ≡ moved_range t p u q }
 
     // at the path of the replacement
     ensures new { (t : Term) (p : Path) (u w : Term) → subterm t p ≡ Some w
@@ -154,7 +154,8 @@ pub fn what_stands_apart_stays()
 /// Putting back what stood at a path restores the term, and so does putting it in place of itself. Of two replacements at one path
 /// the later one counts. Where nothing stands at the path the term stays; at the empty path the new term takes its place.
 pub fn putting_back_restores()
-    ensures back { (t : Term) (p : Path) (u w : Term) → subterm t p ≡ Some w → put (put t p u) p w ≡ t }
+    ensures back { (t : Term) (p : Path) (u w : Term) → subterm t p ≡ Some w
+        → put (put t p u) p w ≡ t }
     ensures itself { (t : Term) (p : Path) (w : Term) → subterm t p ≡ Some w → put t p w ≡ t }
     ensures again { (t : Term) (p : Path) (u v : Term) → put (put t p u) p v ≡ put t p v }
 
@@ -187,8 +188,8 @@ pub fn replacement_fits_by_its_length()
 /// So the length changes as that of the subterm does.
 pub fn replacement_exchanges_the_text()
     ensures text { (t : Term) (p : Path) (u w : Term) → subterm t p ≡ Some w
-        → term_text (put t p u)
-        ≡ take (range t p).start (term_text t) ++ term_text u ++ drop (range t p).end (term_text t) }
+        → term_text (put t p u) ≡ take (range t p).start (term_text t)
+        ++ term_text u ++ drop (range t p).end (term_text t) }
     ensures len { (t : Term) (p : Path) (u w : Term) → subterm t p ≡ Some w
         → term_len (put t p u) + term_len w ≡ term_len t + term_len u }
 {}
