@@ -22,3 +22,4 @@ pub mod TextLemmas
 pub mod TokenLemmas
 pub mod TouchLemmas
 pub mod TraversalLemmas
+pub mod WordLaws
