@@ -23,3 +23,4 @@ pub mod TextLemmas
 pub mod TokenLemmas
 pub mod TouchLemmas
 pub mod TraversalLemmas
+pub mod WordLaws

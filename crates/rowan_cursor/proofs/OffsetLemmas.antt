@@ -40,7 +40,7 @@ fill-join t p u there start (q ∷ qs) end h =
 
 -- ---- the leaves of a term
 
-drop-first : (m : ℕ) (ts : List Term) (t : Term) (us : List Term) → drop m ts ≡ t ∷ us → (slice_get ts m ≡ Some t) × (drop (suc m) ts ≡ us)
+pub drop-first : (m : ℕ) (ts : List Term) (t : Term) (us : List Term) → drop m ts ≡ t ∷ us → (slice_get ts m ≡ Some t) × (drop (suc m) ts ≡ us)
 drop-first zero [] t us h = absurd cc
 drop-first zero (s ∷ ts) t us h = (cc, cc)
 drop-first (suc m) [] t us h = absurd cc
