@@ -10,6 +10,7 @@ pub mod LeafLemmas
 pub mod OffsetLemmas
 pub mod PathLemmas
 pub mod PreorderLaws
+pub mod ReplaceLemmas
 pub mod RowLemmas
 pub mod RowViews
 pub mod SameLemmas

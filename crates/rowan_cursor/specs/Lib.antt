@@ -10,6 +10,7 @@ pub mod Moves
 pub mod Pass
 pub mod Preorder
 pub mod PreorderRuns
+pub mod Replacement
 pub mod Search
 pub mod SyntaxText
 pub mod Table

@@ -3,6 +3,7 @@
 mod chunks;
 mod draft;
 mod events;
+mod replace;
 mod search;
 
 ghost use Rattle.rowan_cursor.specs.Table.{IsTable};

@@ -12,7 +12,7 @@ use Rattle.rowan_green.specs.Term.{NodeTerm, Term, node_of, node_kind, node_chil
 use Rattle.rowan_green.proofs.EditLemmas.{node_of-children, not_within, replaced-past}
 use Rattle.rowan_green.proofs.Terms.{forest_text-forest}
 
-replaced-within : {A : Type 0} (xs : List A) (i : ℕ) (x : A) → i < length xs → replaced xs i x ≡ take i xs ++ x ∷ drop (i + 1) xs
+pub replaced-within : {A : Type 0} (xs : List A) (i : ℕ) (x : A) → i < length xs → replaced xs i x ≡ take i xs ++ x ∷ drop (i + 1) xs
 replaced-within xs i x h = ap (λ b. if b then take i xs ++ x ∷ drop (i + 1) xs else xs) (lt-ltb i (length xs) h)
 
 joined_text-around : (ts us : List Term) (t : Term) → joined_text (ts ++ t ∷ us) ≡ joined_text ts ++ term_text t ++ joined_text us

@@ -9,7 +9,11 @@ pub mod LeafLaws
 pub mod NumberLemmas
 pub mod OffsetLemmas
 pub mod Paths
+pub mod PutLemmas
+pub mod PutLimits
+pub mod PutRanges
 pub mod SearchLemmas
+pub mod SeparateLemmas
 pub mod Sound
 pub mod StreamLemmas
 pub mod TableLemmas

@@ -1,11 +1,11 @@
 //! Laws of terms and words, each as the contract of a function that does nothing.
-ghost use Rattle.std.specs.Prelude.{◌≡◌, ◌↔◌, ◌<◌, ◌≤◌, ◌^◌, ℕ, List, [], ◌∷◌, ◌++◌, Some, Contains, IsTrue, slice_get, ◌+◌, length, take, drop, slice_range};
+ghost use Rattle.std.specs.Prelude.{◌≡◌, ◌↔◌, ◌<◌, ◌≤◌, ◌^◌, ℕ, List, [], ◌∷◌, ◌++◌, true, Some, None, Contains, IsTrue, slice_get, ◌+◌, length, take, drop, slice_range};
 ghost use Rattle.std.specs.List.{flat_map};
 ghost use Rattle.std.specs.Bool.{Decides};
 ghost use Rattle.rowan_green.specs.Cache.{is_eligible, with_term, first_seen, Continues};
 ghost use Rattle.rowan_green.specs.Edits.{replaced, inserted, removed, spliced};
-ghost use Rattle.rowan_green.specs.Fits.{AreWithin, PassesLimit};
-ghost use Rattle.rowan_green.specs.Path.{Path, subterm, range, text_of, tokens};
+ghost use Rattle.rowan_green.specs.Fits.{byte_limit, AreWithin, Fits, PassesLimit};
+ghost use Rattle.rowan_green.specs.Path.{Path, subterm, offset, range, text_of, tokens, put, separate, moved_range};
 ghost use Rattle.rowan_green.specs.Same.{same_node, same_token};
 ghost use Rattle.rowan_green.specs.Search.{HasRange, IsChildAt, digits};
 ghost use Rattle.rowan_green.specs.Term.{TokenTerm, NodeTerm, Term, node_of, node_len, node_text, sum_of_lens, joined_text, node_kind, node_children, term_text, term_len};
@@ -133,4 +133,51 @@ pub fn digits_are_binary()
 pub fn intersection_holds_what_both_hold()
     ensures { (a b : Span) (byte : ℕ)
         → Holds (intersection a b) byte ↔ (Holds a byte × Holds b byte) }
+{}
+
+/// A replacement leaves what stands at a separate path, and that range moves with the text before it. What was put stands at its
+/// path, where the text of the old subterm started.
+pub fn what_stands_apart_stays()
+    // at a path that is separate from that of the replacement
+    ensures subterm { (t : Term) (p q : Path) (u : Term) → separate p q ≡ true
+        → subterm (put t p u) q ≡ subterm t q }
+    ensures range { (t : Term) (p q : Path) (u w : Term) → subterm t p ≡ Some w → separate p q ≡ true
+        → range (put t p u) q ≡ moved_range t p u q }
+
+    // at the path of the replacement
+    ensures new { (t : Term) (p : Path) (u w : Term) → subterm t p ≡ Some w
+        → subterm (put t p u) p ≡ Some u }
+    ensures start { (t : Term) (p : Path) (u : Term) → offset (put t p u) p ≡ offset t p }
+{}
+
+/// Putting back what stood at a path restores the term, and so does putting it in place of itself. Of two replacements at one path
+/// the later one counts. Where nothing stands at the path the term stays; at the empty path the new term takes its place.
+pub fn putting_back_restores()
+    ensures back { (t : Term) (p : Path) (u w : Term) → subterm t p ≡ Some w → put (put t p u) p w ≡ t }
+    ensures itself { (t : Term) (p : Path) (w : Term) → subterm t p ≡ Some w → put t p w ≡ t }
+    ensures again { (t : Term) (p : Path) (u v : Term) → put (put t p u) p v ≡ put t p v }
+
+    // at paths of no subterm, and of the term itself
+    ensures absent { (t : Term) (p : Path) (u : Term) → subterm t p ≡ None → put t p u ≡ t }
+    ensures whole { (t u : Term) → put t [] u ≡ u }
+{}
+
+/// Replacements at separate paths give the same term in either order.
+pub fn replacements_commute()
+    ensures { (t : Term) (p q : Path) (u v : Term) → separate p q ≡ true
+        → put (put t p u) q v ≡ put (put t q v) p u }
+{}
+
+/// In a term within the limits, a replacement by a term within the limits is so, too, exactly where the whole text is not too long.
+/// Whatever term it is: where the whole is within the limits, so are the new subterm and all others, and it is not where the children
+/// of a node pass a limit with the new child among them.
+pub fn replacement_fits_by_its_length()
+    ensures fits { (t : Term) (p : Path) (u w : Term) → subterm t p ≡ Some w → Fits t → Fits u
+        → Fits (put t p u) ↔ term_len (put t p u) ≤ byte_limit }
+    ensures new { (t : Term) (p : Path) (u w : Term) → subterm t p ≡ Some w
+        → Fits (put t p u) → Fits u }
+    ensures passes { (t : Term) (p : Path) (i : ℕ) (n : NodeTerm) (u : Term) (e : Fault)
+        → subterm t p ≡ Some (Node n) → PassesLimit (replaced (node_children n) i u) e
+        → ¬ Fits (put t (p ++ i ∷ []) u) }
+    ensures subterm { (t : Term) (p : Path) (w : Term) → subterm t p ≡ Some w → Fits t → Fits w }
 {}

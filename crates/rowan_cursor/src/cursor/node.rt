@@ -3,9 +3,11 @@ mod text;
 
 ghost use Rattle.std.specs.Prelude.{◌≡◌, [], IfOk, IfErr, IfSome, Some};
 ghost use Rattle.std.specs.Option.{option_map};
+ghost use Rattle.rowan_green.specs.declared.utility_types.NodeOrToken.TheVariants.{Node};
 ghost use Rattle.rowan_cursor.specs.Cursor.{StandsAt, index, kind, text_range};
 ghost use Rattle.rowan_cursor.specs.TableView.{cursor_of, IsNodeIn};
 ghost use Rattle.rowan_cursor.specs.Moves.{tree_top, parent, first_child, last_child, first_child_or_token, last_child_or_token, child_or_token_at_index, next_sibling, prev_sibling, next_sibling_or_token, prev_sibling_or_token, first_token, last_token, children, children_with_tokens, siblings, siblings_with_tokens, ancestors};
+ghost use Rattle.rowan_cursor.specs.Replacement.{IsReplacement, KeepsTheRest, WhyNoReplacement};
 
 mod walks;
 
@@ -109,6 +111,25 @@ impl SyntaxNode {
         ensures err { IfErr result (λ e. e ≡ Fault.Memory) }
     {
         SyntaxNode::new_root(self.table.allocator(), self.green().clone()?)
+    }
+
+    /// The root of a new tree: of the tree of this cursor, with another green node in place of the one at this cursor. For each
+    /// ancestor one new node is made, and all other children are shared. Nothing is changed in place: this tree and all its
+    /// cursors answer as before. For a root it is the replacement itself.
+    ///
+    /// `Err(Fault::OtherKind)` where the replacement is of another kind, which is looked at before all else;
+    /// `Err(Fault::TextTooLong)` where a node of the new tree would have more than 4,294,967,295 bytes of text;
+    /// `Err(Fault::Memory)` for want of memory.
+    pub fn replace_with(&self, replacement: GreenNode) -> Result<GreenNode, Fault>
+        ensures ok { IfOk result (IsReplacement self.now (Node replacement)) }
+        ensures rest { IfOk result (KeepsTheRest self.now (Node replacement)) }
+        ensures own { StandsAt self.now replacement → IfOk result (λ n. n ≡ self.now.root) }
+        ensures err { IfErr result (WhyNoReplacement self.now (Node replacement)) }
+    {
+        if replacement.kind() != self.kind() {
+            return Err(Fault::OtherKind);
+        }
+        self.table.replace_node(self.number, replacement)
     }
 
     /// The kind of the node.

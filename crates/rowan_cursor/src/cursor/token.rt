@@ -1,15 +1,17 @@
 ghost use Rattle.std.specs.Prelude.{◌≡◌, IfOk, IfErr, IfSome, Some};
 ghost use Rattle.std.specs.Option.{option_map};
+ghost use Rattle.rowan_green.specs.declared.utility_types.NodeOrToken.TheVariants.{Token};
 ghost use Rattle.rowan_cursor.specs.Cursor.{StandsAtToken, index, kind, text_range, text_at};
 ghost use Rattle.rowan_cursor.specs.TableView.{cursor_of, IsTokenIn};
 ghost use Rattle.rowan_cursor.specs.Moves.{tree_top, parent, next_sibling_or_token, prev_sibling_or_token, first_token, last_token, next_token, prev_token, siblings_with_tokens, parent_ancestors};
+ghost use Rattle.rowan_cursor.specs.Replacement.{IsReplacement, KeepsTheRest, WhyNoReplacement};
 
 use crate::cursor::climb::Climb;
 use crate::cursor::row::Row;
 use crate::cursor::{Ancestors, SiblingsWithTokens, SyntaxElement, SyntaxNode, element};
 use crate::table::Table;
 use rowan_green::fault::Fault;
-use rowan_green::green::{GreenToken, SyntaxKind};
+use rowan_green::green::{GreenNode, GreenToken, SyntaxKind};
 use rowan_green::text::TextRange;
 use rowan_green::utility_types::Direction;
 use std::alloc::AllocError;
@@ -66,6 +68,25 @@ impl SyntaxToken {
             Some(number) => Ok(Some(SyntaxToken::at(table, number)?)),
             None => Ok(None),
         }
+    }
+
+    /// The root of a new tree: of the tree of this cursor, with another green token in place of the one at this cursor. For each
+    /// ancestor one new node is made, and all other children are shared. Nothing is changed in place: this tree and all its
+    /// cursors answer as before.
+    ///
+    /// `Err(Fault::OtherKind)` where the replacement is of another kind, which is looked at before all else;
+    /// `Err(Fault::TextTooLong)` where a node of the new tree would have more than 4,294,967,295 bytes of text;
+    /// `Err(Fault::Memory)` for want of memory.
+    pub fn replace_with(&self, replacement: GreenToken) -> Result<GreenNode, Fault>
+        ensures ok { IfOk result (IsReplacement self.now (Token replacement)) }
+        ensures rest { IfOk result (KeepsTheRest self.now (Token replacement)) }
+        ensures own { StandsAtToken self.now replacement → IfOk result (λ n. n ≡ self.now.root) }
+        ensures err { IfErr result (WhyNoReplacement self.now (Token replacement)) }
+    {
+        if replacement.kind() != self.kind() {
+            return Err(Fault::OtherKind);
+        }
+        self.table.replace_token(self.number, replacement)
     }
 
     /// The kind of the token.

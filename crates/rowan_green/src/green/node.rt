@@ -2,7 +2,7 @@ mod edits;
 
 ghost use Rattle.std.specs.Prelude.{◌≡◌, ◌≢◌, ℕ, ◌+◌, ◌<◌, ◌≤◌, [], ◌∷◌, ◌++◌, length, IfOk, IfErr, OnOk, IfSome, IsNone, Some, ◌↔◌, map, take, slice_get};
 ghost use Rattle.std.specs.Iterator.{IsFiniteIterable};
-ghost use Rattle.rowan_green.specs.Fits.{byte_limit, FitsNode, ChildPasses, AreWithin, PassesLimit, IsMadeOf, WhyNoNode};
+ghost use Rattle.rowan_green.specs.Fits.{byte_limit, FitsNode, ChildPasses, AreWithin, AllFit, PassesLimit, IsMadeOf, WhyNoNode};
 ghost use Rattle.rowan_green.specs.Runs.{IteratesAll, IteratesSome};
 ghost use Rattle.rowan_green.specs.Term.{node_of, node_len, node_kind, node_children, node_size, sum_of_lens};
 ghost use Rattle.rowan_green.specs.Lent.{pointee};
@@ -162,6 +162,7 @@ impl NodeDraft {
     fn finish(self, alloc: Global, kind: SyntaxKind) -> Result<GreenNode, AllocError>
         ensures ok { IfOk result (λ n. n ≡ node_of kind.0 self) }
         ensures within { AreWithin self }
+        ensures fit { AllFit self }
     {
         let NodeDraft { text_len, children } = self;
         let data = Rc::new(
@@ -247,7 +248,8 @@ impl GreenNode {
 
     /// The kind of the node.
     pub fn kind(&self) -> SyntaxKind
-        ensures { result.0 ≡ node_kind self.now }
+        ensures kind { result.0 ≡ node_kind self.now }
+        ensures fits { FitsNode self.now }
     {
         self.data.kind
     }

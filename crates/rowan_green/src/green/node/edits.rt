@@ -2,7 +2,7 @@
 ghost use Rattle.std.specs.Prelude.{◌≡◌, ◌≢◌, ◌<◌, ◌≤◌, ◌++◌, length, take, drop, map, IfOk, IfErr, OnOk};
 ghost use Rattle.std.specs.Iterator.{IsFiniteIterable};
 ghost use Rattle.rowan_green.specs.Edits.{replaced, inserted, removed, spliced, spliced_so_far, IsEditOf};
-ghost use Rattle.rowan_green.specs.Fits.{AreWithin, PassesLimit, WhyNoNode};
+ghost use Rattle.rowan_green.specs.Fits.{FitsNode, AreWithin, PassesLimit, WhyNoNode};
 ghost use Rattle.rowan_green.specs.Runs.{IteratesAll, IteratesSome};
 ghost use Rattle.rowan_green.specs.Term.{node_children};
 
@@ -33,6 +33,7 @@ impl GreenNode {
     /// want of memory.
     pub fn replace_child(&self, index: usize, new_child: GreenElement) -> Result<GreenNode, Fault>
         ensures ok { IfOk result (IsEditOf self.now (λ ts. replaced ts index new_child)) }
+        ensures fits { IfOk result FitsNode }
         ensures err { IfErr result (WhyNoNode (replaced (node_children self.now) index new_child)) }
         ensures text { IfErr result (λ e. e ≢ Fault.Memory → e ≡ Fault.TextTooLong) }
     {
@@ -100,6 +101,7 @@ impl GreenNode {
     fn child_count(&self) -> usize
         ensures count { result ≡ length (node_children self.now) }
         ensures within { AreWithin (node_children self.now) }
+        ensures fits { FitsNode self.now }
     {
         self.data.children.len()
     }
@@ -125,6 +127,7 @@ impl GreenNode {
     fn finish_after(&self, mut draft: NodeDraft, index: usize) -> Result<GreenNode, Fault>
         requires { index ≤ length (node_children self.now) }
         ensures ok { IfOk result (IsEditOf self.now (λ ts. draft ++ drop index ts)) }
+        ensures fits { IfOk result FitsNode }
         ensures err { IfErr result (WhyNoNode (draft ++ drop index (node_children self.now))) }
     {
         let (_, behind) = self.data.children.split_at(index);

@@ -52,5 +52,5 @@ GreenNodePartialEq::eq-returns t c =
     let others = c.as_slice-others.ensures.value ∙ ap (λ d. d.children.items) c.deref-2.ensures in
     let x = ap (map child_term) items ∙ children-view c.self.inside.data.value c.args.self.now c.self.view_is in
     let y = ap (map child_term) others ∙ children-view c.other.inside.data.value c.args.other.now c.other.view_is in
-    let kinds = sym c.kind.ensures ∙ tested_same c.kind.result.0 c.kind-2.result.0 c.if-ne.ensures ∙ c.kind-2.ensures in
+    let kinds = sym c.kind.ensures.kind ∙ tested_same c.kind.result.0 c.kind-2.result.0 c.if-ne.ensures ∙ c.kind-2.ensures.kind in
     same_node-answer c.are_same.result c.args.self.now c.args.other.now (map child_term c.as_slice-children.result.now) (map child_term c.as_slice-others.result.now) kinds x y c.are_same.ensures

@@ -21,4 +21,4 @@ GreenNodeHash::hash-returns g t c =
     let terms = ap (map child_term) items ∙ children-view c.self.inside.data.value c.args.self.now c.self.view_is in
     let count = ap length items ∙ sym (length-children c.self.inside.data.value c.args.self.now c.self.view_is) in
     fed_node-steps g.H.Hasher.write c.args.state.now c.hash.new.state c.hash-2.new.state c.hash_all.new.state c.args.self.now c.kind.result.0 (length c.as_slice-children.result.now) (map child_term c.as_slice-children.result.now)
-    c.kind.ensures count terms c.hash.ensures c.hash-2.ensures c.hash_all.ensures
+    c.kind.ensures.kind count terms c.hash.ensures c.hash-2.ensures c.hash_all.ensures

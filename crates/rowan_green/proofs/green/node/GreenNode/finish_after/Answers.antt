@@ -1,10 +1,11 @@
-use Rattle.std.proofs.Common.{◌++◌, map, length, ◌∙◌, ap, subst, arith}
+use Rattle.std.proofs.Common.{◌++◌, map, length, sym, ◌∙◌, ap, subst, arith}
 use Rattle.std.proofs.lemmas.List.{length-map}
 use Rattle.std.proofs.lemmas.Result.{err_from_is_err_and}
-use Rattle.rowan_green.specs.Fits.{AreWithin, PassesLimit}
+use Rattle.rowan_green.specs.Fits.{FitsNode, AreWithin, PassesLimit}
 use Rattle.rowan_green.specs.Term.{node_of, node_kind, node_children}
 use Rattle.rowan_green.specs.View.{child_term}
 use Rattle.rowan_green.proofs.ChildList.{children-view, drop-children}
+use Rattle.rowan_green.proofs.Terms.{FitsNode-node_of}
 use Rattle.rowan_green.proofs.green.node.GreenNode.finish_after.Goals as goal
 
 pub split_at-requires : goal.split_at-requires
@@ -27,6 +28,11 @@ returns-clause-ok c =
     let terms = ap (map child_term) items ∙ children-view c.self.inside.data.value c.args.self.now c.self.view_is in
     let back = ap (map child_term) c.split_at.ensures.back ∙ drop-children c.args.index c.deref-2.result.now (node_children c.args.self.now) terms in
     let whole = c.in_ok-push_shared.ensures.ok ∙ ap (λ ts. c.args.draft ++ ts) back in (
-      c.in_ok-finish.ensures.ok ∙ ap (λ k. node_of k c.push_shared.new.self) c.kind.ensures ∙ ap (node_of (node_kind c.args.self.now)) whole,
+      c.in_ok-finish.ensures.ok ∙ ap (λ k. node_of k c.push_shared.new.self) c.kind.ensures.kind ∙ ap (node_of (node_kind c.args.self.now)) whole,
       subst AreWithin whole c.in_ok-finish.ensures.within,
     )
+
+pub returns-clause-fits : goal.returns-clause-fits
+returns-clause-fits c =
+    let draft = c.push_shared.new.self in
+    subst (λ n. FitsNode n) (sym c.in_ok-finish.ensures.ok) (FitsNode-node_of c.kind.result.0 draft c.in_ok-finish.ensures.within c.in_ok-finish.ensures.fit)
