@@ -11,7 +11,9 @@ pub mod OffsetLemmas
 pub mod Paths
 pub mod PutLemmas
 pub mod PutLimits
+pub mod PutOrders
 pub mod PutRanges
+pub mod PutText
 pub mod SearchLemmas
 pub mod SeparateLemmas
 pub mod Sound

@@ -1,5 +1,5 @@
 -- Offsets by the lengths of the leaves before a path, and the texts of subterms where their ranges lie.
-use Rattle.std.proofs.Common.{◌≡◌, ℕ, zero, suc, ◌+◌, ◌-◌, ◌<◌, ◌≤◌, Bool, true, false, cond, ◌&&◌, ◌||◌, List, [], ◌∷◌, ◌++◌, map, length, take, drop, filter, sum_by, Option, Some, None, refl, sym, ◌∙◌, ap, arith, length-append, append_assoc, add-one}
+use Rattle.std.proofs.Common.{◌≡◌, ℕ, zero, suc, ◌+◌, ◌-◌, ◌<◌, ◌≤◌, Bool, true, false, cond, ◌&&◌, ◌||◌, List, [], ◌∷◌, ◌++◌, map, length, take, drop, filter, sum_by, Option, Some, None, refl, sym, ◌∙◌, ap, arith, length-append, append_assoc}
 use Rattle.std.specs.Prelude.{slice_get, slice_range, nat_eq}
 use Rattle.std.proofs.Math.Seq.{drop-append_seam, take-append_seam}
 use Rattle.std.proofs.lemmas.Bool.{lt-ltb, le-ltb, eq-eqb, ne_eqb}
@@ -7,7 +7,7 @@ use Rattle.std.proofs.lemmas.List.{append-nil}
 use Rattle.std.proofs.lemmas.List.Sums.{sum_by-cons}
 use Rattle.rowan_green.specs.declared.utility_types.NodeOrToken.TheVariants.{Node, Token}
 use Rattle.rowan_green.specs.Term.{NodeTerm, node, Forest, empty, node_then, token_then, Term, terms, node_children, node_text, forest_text, term_text, term_len, token_len, joined_text}
-use Rattle.rowan_green.specs.Path.{Path, term_children, subterm_of, subterm, LeafAt, below_place, node_leaves, leaves_from, leaves, stands_before, offset, len_of, text_of, range}
+use Rattle.rowan_green.specs.Path.{Path, subterm_of, subterm, LeafAt, below_place, node_leaves, leaves_from, leaves, stands_before, offset, len_of, text_of, range}
 use Rattle.rowan_green.specs.Search.{child_start}
 use Rattle.rowan_green.proofs.Paths.{offset-empty}
 use Rattle.rowan_green.proofs.Terms.{length-joined_text}
@@ -131,13 +131,13 @@ offset-join t p q u h = omega (arith, offset-lens t (p ++ q), offset-lens t p, o
 -- ---- the text at a path
 
 -- the text of the forest's children, one after the other
-joined-terms : (f : Forest) → forest_text f ≡ joined_text (terms f)
+pub joined-terms : (f : Forest) → forest_text f ≡ joined_text (terms f)
 joined-terms empty = refl
 joined-terms (node_then n f) = ap (λ bs. node_text n ++ bs) (joined-terms f)
 joined-terms (token_then t f) = ap (λ bs. t.text ++ bs) (joined-terms f)
 
 -- the text of children before a place, of the child there, if there is one, and of those behind it
-joined-around : (ts : List Term) (i : ℕ) → joined_text ts ≡ joined_text (take i ts) ++ (text_of (slice_get ts i) ++ joined_text (drop (suc i) ts))
+pub joined-around : (ts : List Term) (i : ℕ) → joined_text ts ≡ joined_text (take i ts) ++ (text_of (slice_get ts i) ++ joined_text (drop (suc i) ts))
 joined-around [] zero = refl
 joined-around [] (suc i) = refl
 joined-around (t ∷ ts) zero = refl
@@ -201,3 +201,25 @@ pub range-within : (t : Term) (p : Path) (u : Term) → subterm t p ≡ Some u �
 range-within t p u h =
     let r = lies (Some t) p u h in
     omega (arith, ap len_of h, r.start, offset-lens t p, ap length r.whole, length-append r.before (term_text u ++ r.behind), length-append (term_text u) r.behind)
+
+-- the leaves before a path have no more bytes than all of them
+lens_before-lens : (p : Path) (ls : List LeafAt) → lens_before p ls ≤ lens ls
+lens_before-lens p [] = omega arith
+lens_before-lens p (l ∷ ls) = omega (arith, part (stands_before l.0 p) (token_len l.1), lens_before-lens p ls)
+  where
+    part : (b : Bool) (n : ℕ) → cond b n 0 ≤ n
+    part true n = omega arith
+    part false n = omega arith
+
+lens-term : (t : Term) → lens (leaves t) ≡ term_len t
+lens-term (Node n) = lens-node n
+lens-term (Token t) = omega arith
+
+-- the range of each path ends within the text, also where nothing stands
+pub offset_of-within : (t : Option Term) (p : Path) → offset_of t p + len_of (subterm_of t p) ≤ len_of t
+offset_of-within None p = omega arith
+offset_of-within (Some t) p = at (subterm t p) refl
+  where
+    at : (u : Option Term) → subterm t p ≡ u → lens_before p (leaves t) + len_of u ≤ term_len t
+    at None e = omega (arith, lens_before-lens p (leaves t), lens-term t)
+    at (Some u) e = omega (arith, range-within t p u e, offset-lens t p, ap len_of e)

@@ -1,12 +1,12 @@
 -- Replacements in terms: what stands where after one, two of them, and the text.
-use Rattle.std.proofs.Common.{◌≡◌, ◌≢◌, ℕ, zero, suc, ◌+◌, ◌≤◌, true, List, [], ◌∷◌, ◌++◌, length, take, drop, set, Option, Some, None, inl, inr, refl, sym, ◌∙◌, ap, arith, set-set}
+use Rattle.std.proofs.Common.{◌≡◌, ◌≢◌, ℕ, zero, suc, ◌+◌, ◌≤◌, true, List, [], ◌∷◌, ◌++◌, length, take, drop, set, Option, Some, None, inl, inr, refl, sym, ◌∙◌, ap, arith, length-set, set-set}
 use Rattle.std.specs.Prelude.{slice_get}
 use Rattle.std.proofs.lemmas.Bool.{cases_lt}
 use Rattle.std.proofs.lemmas.List.{set_comm, set_past, set_split}
 use Rattle.rowan_green.specs.declared.utility_types.NodeOrToken.TheVariants.{Node, Token}
 use Rattle.rowan_green.specs.Edits.{replaced}
 use Rattle.rowan_green.specs.Path.{Path, term_children, subterm_of, subterm, with_child, put_of, put, separate}
-use Rattle.rowan_green.specs.Term.{Term, terms, forest, node_of, node_kind, node_children, term_kind, term_len, sum_of_lens}
+use Rattle.rowan_green.specs.Term.{NodeTerm, Term, terms, forest, node_of, node_kind, node_children, term_kind, term_len, sum_of_lens}
 use Rattle.rowan_green.proofs.EditLaws.{replaced-within, replaced-itself, replaced-absent}
 use Rattle.rowan_green.proofs.EditLemmas.{replaced-past}
 use Rattle.rowan_green.proofs.SeparateLemmas.{Part, part-separate, separate-sym}
@@ -88,13 +88,13 @@ child-other t i j u n = ap (λ ts. slice_get ts j) (term_children-with_child t i
 child-new : (t : Term) (i : ℕ) (u c : Term) → slice_get (term_children t) i ≡ Some c → slice_get (term_children (with_child t i u)) i ≡ Some u
 child-new t i u c h = ap (λ ts. slice_get ts i) (term_children-with_child t i u) ∙ get-set (term_children t) i u c h
 
--- the same where something stands further down
+-- a child is there where something stands below it
+pub child-of : (t : Option Term) (p : Path) (w : Term) → subterm_of t p ≡ Some w → (c : Term) × (t ≡ Some c)
+child-of None p w h = absurd cc
+child-of (Some t) p w h = (t, refl)
+
 child-put : (t : Term) (i : ℕ) (u : Term) (p : Path) (w : Term) → subterm_of (slice_get (term_children t) i) p ≡ Some w → slice_get (term_children (with_child t i u)) i ≡ Some u
-child-put t i u p w h = at (slice_get (term_children t) i) refl h
-  where
-    at : (s : Option Term) → slice_get (term_children t) i ≡ s → subterm_of s p ≡ Some w → slice_get (term_children (with_child t i u)) i ≡ Some u
-    at None e h = absurd cc
-    at (Some c) e h = child-new t i u c e
+child-put t i u p w h = let c = child-of (slice_get (term_children t) i) p w h in child-new t i u c.0 c.1
 
 -- ---- what stands where
 
@@ -171,6 +171,16 @@ subterm-put_above t p q u v h = ap (λ w. subterm w p) (put-join t p q u v h) �
 
 pub term_kind-put : (t : Term) (i : ℕ) (p : Path) (u : Term) → term_kind (put t (i ∷ p) u) ≡ term_kind t
 term_kind-put t i p u = term_kind-with_child t i (put_of (slice_get (term_children t) i) p u)
+
+-- a node above the path stays a node of its kind, with as many children
+pub subterm-put_ancestor : (t : Term) (p : Path) (i : ℕ) (q : Path) (u : Term) (n : NodeTerm) → subterm t p ≡ Some (Node n) → (m : NodeTerm) × (subterm (put t (p ++ i ∷ q) u) p ≡ Some (Node m)) × (node_kind m ≡ node_kind n) × (length (node_children m) ≡ length (node_children n))
+subterm-put_ancestor t p i q u n h =
+    let x = put_of (slice_get (node_children n) i) q u in (
+      node_of (node_kind n) (replaced (node_children n) i x),
+      subterm-put_above t p (i ∷ q) u (Node n) h,
+      refl,
+      ap length (term_children-with_child (Node n) i x) ∙ length-set (node_children n) i x,
+    )
 
 -- ---- two replacements
 

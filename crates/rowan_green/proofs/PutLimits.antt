@@ -1,12 +1,12 @@
 -- Replacements and limits: what fits a term with a replacement, and when the whole fits.
-use Rattle.std.proofs.Common.{◌≡◌, ℕ, zero, suc, ◌+◌, ◌<◌, ◌≤◌, ◌↔◌, List, [], ◌∷◌, ◌++◌, length, set, Option, Some, None, inl, inr, refl, sym, ◌∙◌, ap, subst, arith, length-set}
+use Rattle.std.proofs.Common.{◌≡◌, ℕ, zero, suc, ◌≤◌, ◌↔◌, List, [], ◌∷◌, ◌++◌, length, set, Option, Some, None, refl, sym, ap, subst, arith, length-set}
 use Rattle.std.specs.Prelude.{slice_get}
 use Rattle.rowan_green.specs.declared.fault.Fault.{Fault}
 use Rattle.rowan_green.specs.declared.utility_types.NodeOrToken.TheVariants.{Node, Token}
 use Rattle.rowan_green.specs.Edits.{replaced}
-use Rattle.rowan_green.specs.Fits.{byte_limit, FitsToken, AreWithin, FitsNode, FitForest, Fits, PassesLimit, AllFit}
-use Rattle.rowan_green.specs.Path.{Path, term_children, subterm_of, subterm, len_of, with_child, put_of, put}
-use Rattle.rowan_green.specs.Term.{NodeTerm, node, Forest, empty, node_then, token_then, Term, terms, node_of, node_kind, node_children, node_len, term_len, sum_of_lens}
+use Rattle.rowan_green.specs.Fits.{byte_limit, AreWithin, FitsNode, FitForest, Fits, PassesLimit, AllFit}
+use Rattle.rowan_green.specs.Path.{Path, term_children, subterm_of, subterm, with_child, put_of, put}
+use Rattle.rowan_green.specs.Term.{NodeTerm, node, Forest, empty, node_then, token_then, Term, terms, node_kind, node_children, term_len, sum_of_lens}
 use Rattle.rowan_green.proofs.EditLemmas.{not_within}
 use Rattle.rowan_green.proofs.PutLemmas.{replaced-set, get-set, subterm-put, put-child}
 use Rattle.rowan_green.proofs.PutRanges.{node_len-children}

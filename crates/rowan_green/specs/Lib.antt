@@ -12,6 +12,7 @@ pub mod Gives
 pub mod Lent
 pub mod Loan
 pub mod Path
+pub mod Replacements
 pub mod Runs
 pub mod Same
 pub mod Search

@@ -1,17 +1,18 @@
 //! Laws of terms and words, each as the contract of a function that does nothing.
-ghost use Rattle.std.specs.Prelude.{◌≡◌, ◌↔◌, ◌<◌, ◌≤◌, ◌^◌, ℕ, List, [], ◌∷◌, ◌++◌, true, Some, None, Contains, IsTrue, slice_get, ◌+◌, length, take, drop, slice_range};
+ghost use Rattle.std.specs.Prelude.{◌≡◌, ◌↔◌, ◌⊎◌, ◌<◌, ◌≤◌, ◌^◌, ℕ, List, [], ◌∷◌, ◌++◌, true, false, not, Some, None, Contains, IsPermutation, IsTrue, slice_get, ◌+◌, length, take, drop, slice_range};
 ghost use Rattle.std.specs.List.{flat_map};
 ghost use Rattle.std.specs.Bool.{Decides};
 ghost use Rattle.rowan_green.specs.Cache.{is_eligible, with_term, first_seen, Continues};
 ghost use Rattle.rowan_green.specs.Edits.{replaced, inserted, removed, spliced};
 ghost use Rattle.rowan_green.specs.Fits.{byte_limit, AreWithin, Fits, PassesLimit};
-ghost use Rattle.rowan_green.specs.Path.{Path, subterm, offset, range, text_of, tokens, put, separate, moved_range};
+ghost use Rattle.rowan_green.specs.Path.{Path, subterm, offset, range, text_of, tokens, stands_before, begins, put, separate, moved_range};
+ghost use Rattle.rowan_green.specs.Replacements.{Replacement, Makes, SeparateFromAll, PairwiseSeparate, moved_in_turn};
 ghost use Rattle.rowan_green.specs.Same.{same_node, same_token};
 ghost use Rattle.rowan_green.specs.Search.{HasRange, IsChildAt, digits};
 ghost use Rattle.rowan_green.specs.Term.{TokenTerm, NodeTerm, Term, node_of, node_len, node_text, sum_of_lens, joined_text, node_kind, node_children, term_text, term_len};
 ghost use Rattle.rowan_green.specs.declared.utility_types.NodeOrToken.TheVariants.{Node};
 ghost use Rattle.rowan_green.specs.declared.fault.Fault.{Fault};
-ghost use Rattle.rowan_green.specs.Span.{Span, Holds, intersection};
+ghost use Rattle.rowan_green.specs.Span.{Span, Holds, EndsBefore, intersection};
 ghost use Rattle.rowan_green.specs.Word.{Symbol, Item, HasParts, HasTerms, IsFinished, node_word, word_text, word_tokens};
 
 /// A word has at most one list of items: bare openings and whole terms.
@@ -180,4 +181,63 @@ pub fn replacement_fits_by_its_length()
         → subterm t p ≡ Some (Node n) → PassesLimit (replaced (node_children n) i u) e
         → ¬ Fits (put t (p ++ i ∷ []) u) }
     ensures subterm { (t : Term) (p : Path) (w : Term) → subterm t p ≡ Some w → Fits t → Fits w }
+{}
+
+/// The text with a replacement is the old text before the range of the old subterm, the text of the new one, and the old text behind.
+/// So the length changes as that of the subterm does.
+pub fn replacement_exchanges_the_text()
+    ensures text { (t : Term) (p : Path) (u w : Term) → subterm t p ≡ Some w
+        → term_text (put t p u)
+        ≡ take (range t p).start (term_text t) ++ term_text u ++ drop (range t p).end (term_text t) }
+    ensures len { (t : Term) (p : Path) (u w : Term) → subterm t p ≡ Some w
+        → term_len (put t p u) + term_len w ≡ term_len t + term_len u }
+{}
+
+/// Below the path of a replacement stands what stands in the new subterm. Above it stands what stood there, with the replacement in
+/// it: a node of the same kind with as many children. So a replacement further down is one of each subterm on the way.
+pub fn replacement_is_seen_above_and_below()
+    ensures below { (t : Term) (p q : Path) (u w : Term) → subterm t p ≡ Some w
+        → subterm (put t p u) (p ++ q) ≡ subterm u q }
+    ensures above { (t : Term) (p q : Path) (u v : Term) → subterm t p ≡ Some v
+        → subterm (put t (p ++ q) u) p ≡ Some (put v q u) }
+    ensures ancestor { (t : Term) (p : Path) (i : ℕ) (q : Path) (u : Term) (n : NodeTerm)
+        → subterm t p ≡ Some (Node n)
+        → (m : NodeTerm) × (subterm (put t (p ++ i ∷ q) u) p ≡ Some (Node m))
+        × (node_kind m ≡ node_kind n) × (length (node_children m) ≡ length (node_children n)) }
+    ensures join { (t : Term) (p q : Path) (u v : Term) → subterm t p ≡ Some v
+        → put t (p ++ q) u ≡ put t p (put v q u) }
+{}
+
+/// Of two separate paths one stands before the other, and its range ends where the other's starts, or before. Of two paths that are
+/// not separate, one begins the other.
+pub fn separate_paths_are_in_order()
+    ensures symmetric { (p q : Path) → separate p q ≡ separate q p }
+    ensures begins { (p q : Path) → separate p q ≡ false
+        → (begins p q ≡ true) ⊎ (begins q p ≡ true) }
+    ensures order { (p q : Path) → separate p q ≡ true
+        → stands_before p q ≡ not (stands_before q p) }
+    ensures ranges { (t : Term) (p q : Path) → separate p q ≡ true → stands_before p q ≡ true
+        → EndsBefore (range t p) (range t q) }
+{}
+
+/// Replacements one after the other leave what stands at a path that is separate from all of theirs, and its range moves with each in
+/// turn. What one of them puts stands in the end, if the later ones are at separate paths.
+pub fn what_stands_apart_from_all_stays()
+    ensures subterm { (t : Term) (rs : List Replacement) (last : Term) (q : Path)
+        → Makes t rs last → SeparateFromAll q rs → subterm last q ≡ subterm t q }
+    ensures range { (t : Term) (rs : List Replacement) (last : Term) (q : Path)
+        → Makes t rs last → SeparateFromAll q rs
+        → range last q ≡ moved_in_turn t rs q (range t q) }
+    ensures new { (t : Term) (before : List Replacement) (r : Replacement) (after : List Replacement)
+        (last : Term) → Makes t (before ++ r ∷ after) last → SeparateFromAll r.path after
+        → subterm last r.path ≡ Some r.new }
+{}
+
+/// Replacements at pairwise separate paths make the same term in every order; if something stands at each path in one order, it does
+/// in all. Of the limits this says nothing: one order may pass them on the way, and another not.
+pub fn order_of_separate_replacements_is_free()
+    ensures same { (t : Term) (rs ss : List Replacement) (a b : Term) → PairwiseSeparate rs
+        → IsPermutation rs ss → Makes t rs a → Makes t ss b → a ≡ b }
+    ensures any { (t : Term) (rs ss : List Replacement) (last : Term) → PairwiseSeparate rs
+        → IsPermutation rs ss → Makes t rs last → Makes t ss last }
 {}
