@@ -35,6 +35,8 @@ pub enum Answer<'a> {
     Chunks(Vec<String>),
     /// How many chunks were counted, or as an error at which number the count gave up.
     Fold(Result<u32, u32>),
+    /// Where a character first begins.
+    Found(Option<TextSize>),
     /// The character at an offset.
     Char(Option<char>),
     Yes,
@@ -99,6 +101,8 @@ impl<'a> Answer<'a> {
             Answer::Chunks(chunks) => chunks_text(alloc, chunks.as_slice()),
             Answer::Fold(Ok(count)) => format!(in alloc; "Fold Ok {count}"),
             Answer::Fold(Err(limit)) => format!(in alloc; "Fold Err {limit}"),
+            Answer::Found(Some(offset)) => format!(in alloc; "Found {offset:?}"),
+            Answer::Found(None) => String::from_str(alloc, "NotFound"),
             Answer::Char(found) => char_text(alloc, *found),
             Answer::Yes => String::from_str(alloc, "Yes"),
             Answer::No => String::from_str(alloc, "No"),

@@ -76,6 +76,16 @@ pub fn text(alloc: Global, quoted: &str) -> Result<String> {
     }
 }
 
+/// A text of one character.
+pub fn character(alloc: Global, quoted: &str) -> Result<char> {
+    let text = text(alloc, quoted)?;
+    let mut characters = text.as_str().chars();
+    match (characters.next(), characters.next()) {
+        (Some(character), None) => Ok(character),
+        _ => bail!("{quoted} is not one character"),
+    }
+}
+
 /// A text as a JSON string.
 pub fn quoted(alloc: Global, text: &str) -> Result<String, AllocError> {
     Value::String(String::from_str(alloc, text)?).to_string(alloc)

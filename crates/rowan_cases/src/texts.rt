@@ -101,6 +101,8 @@ fn ask<'a>(alloc: Global, text: &SyntaxText, question: &Question) -> Result<Answ
     Ok(match question {
         Question::Chunks => Answer::Chunks(chunks(alloc, text)?),
         Question::FoldChunks(limit) => Answer::Fold(count_chunks(text, *limit)),
+        Question::FindChar(character) => Answer::Found(text.find_char(*character)),
+        Question::ContainsChar(character) => Answer::truth(text.contains_char(*character)),
         Question::CharAt(offset) => Answer::Char(text.char_at(*offset)),
         Question::IsBorder(offset) => Answer::truth(text.is_border(*offset)),
         Question::EqStr(other) => Answer::equality(text.eq_str(other.as_str())),

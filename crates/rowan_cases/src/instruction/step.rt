@@ -57,9 +57,7 @@ pub enum Step {
 const UNREAD_MOVES: [&str; 2] = ["ReparseList", "EditList"];
 
 /// The names of the other steps whose operands are not read.
-const UNREAD: [&str; 14] = [
-    "FindChar",
-    "ContainsChar",
+const UNREAD: [&str; 12] = [
     "Ptr",
     "AfterEdit",
     "Resolve",

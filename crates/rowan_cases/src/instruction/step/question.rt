@@ -11,6 +11,8 @@ pub enum Question {
     Chunks,
     /// Counts the chunks, and gives up at this number; at 0 never.
     FoldChunks(u32),
+    FindChar(char),
+    ContainsChar(char),
     CharAt(TextSize),
     IsBorder(TextSize),
     EqStr(String),
@@ -22,6 +24,8 @@ impl Question {
         Ok(Some(match (name, operands) {
             ("Chunks", "") => Question::Chunks,
             ("FoldChunks", _) => Question::FoldChunks(operand::number(operands)?),
+            ("FindChar", _) => Question::FindChar(operand::character(alloc, operands)?),
+            ("ContainsChar", _) => Question::ContainsChar(operand::character(alloc, operands)?),
             ("CharAt", _) => Question::CharAt(operand::offset(operands)?),
             ("IsBorder", _) => Question::IsBorder(operand::offset(operands)?),
             ("EqStr", _) => Question::EqStr(operand::text(alloc, operands)?),
