@@ -1,13 +1,17 @@
 //! Lossless syntax trees, proved: what a parser, a formatter or a linter uses.
 //!
 //! A parser makes a [`GreenNode`] by the calls of a [`GreenNodeBuilder`], and names its kinds by a [`Language`]. A
-//! [`SyntaxNode`] is a place in the tree.
+//! [`SyntaxNode`] is a place in the tree, and so are a [`SyntaxToken`] and a [`SyntaxElement`], which is either. Their calls lead
+//! to other places, and answer kinds of the language; those of `cursor` are the same without a language.
 #![tactic(auto)]
 
 pub mod laws;
 pub mod script;
 
-pub use api::{Language, SyntaxNode};
+pub use api::{
+    Language, SyntaxElement, SyntaxElementChildren, SyntaxNode, SyntaxNodeChildren, SyntaxToken,
+    TypedElementCalls,
+};
 pub use builder::{Checkpoint, GreenNodeBuilder, OwnCache, Unfinished};
 pub use cursor::ElementCalls;
 pub use fault::Fault;

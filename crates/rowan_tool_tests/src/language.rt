@@ -125,10 +125,10 @@ fn shows_the_text(rt: HostRuntime) -> Result<(), Fail> {
 
 /// A language in which even raw kinds mean one kind, and odd ones the other.
 #[derive(Clone, Copy, PartialEq, Eq, PartialOrd, Ord, Hash, Debug)]
-struct Numbers;
+pub struct Numbers;
 
 #[derive(Clone, Copy, PartialEq, Eq, PartialOrd, Ord, Hash, Debug)]
-enum Parity {
+pub enum Parity {
     Even,
     Odd,
 }

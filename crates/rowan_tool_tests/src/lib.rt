@@ -13,3 +13,5 @@ mod parser;
 mod program;
 #[cfg(test)]
 mod streams;
+#[cfg(test)]
+mod typed;

@@ -13,7 +13,7 @@ use rowan_green::utility_types::NodeOrToken;
 pub type SyntaxElement<L> = NodeOrToken<SyntaxNode<L>, SyntaxToken<L>>;
 
 // The raw element, with the kinds of a language.
-pub(super) fn typed<L: Language>(raw: cursor::SyntaxElement) -> SyntaxElement<L>
+pub(super) fn typed<L>(raw: cursor::SyntaxElement) -> SyntaxElement<L>
     ensures { result ≡ raw }
 {
     match raw {
@@ -23,7 +23,7 @@ pub(super) fn typed<L: Language>(raw: cursor::SyntaxElement) -> SyntaxElement<L>
 }
 
 // The element that a move of the raw cursor found, if it found one.
-pub(super) fn found<L: Language>(raw: Option<cursor::SyntaxElement>) -> Option<SyntaxElement<L>>
+pub(super) fn found<L>(raw: Option<cursor::SyntaxElement>) -> Option<SyntaxElement<L>>
     ensures { result ≡ raw }
 {
     match raw {
@@ -161,7 +161,7 @@ impl<L: Language> TypedElementCalls<L> for SyntaxElement<L> {
     }
 }
 
-impl<L: Language> From<SyntaxNode<L>> for SyntaxElement<L> {
+impl<L> From<SyntaxNode<L>> for SyntaxElement<L> {
     ghost use Rattle.rowan_green.specs.declared.utility_types.NodeOrToken.TheVariants.{Node};
 
     ghost from_gives = { λ node element. element ≡ Node node };
@@ -171,7 +171,7 @@ impl<L: Language> From<SyntaxNode<L>> for SyntaxElement<L> {
     }
 }
 
-impl<L: Language> From<SyntaxToken<L>> for SyntaxElement<L> {
+impl<L> From<SyntaxToken<L>> for SyntaxElement<L> {
     ghost use Rattle.rowan_green.specs.declared.utility_types.NodeOrToken.TheVariants.{Token};
 
     ghost from_gives = { λ token element. element ≡ Token token };

@@ -5,7 +5,9 @@ mod walks;
 
 ghost use Rattle.std.specs.Prelude.{◌≡◌, [], IfOk, IfErr, Some};
 ghost use Rattle.std.specs.Option.{option_map};
+ghost use Rattle.rowan_green.specs.declared.utility_types.NodeOrToken.TheVariants.{Node};
 ghost use Rattle.rowan_cursor.specs.Cursor.{StandsAt, index, kind, text_range};
+ghost use Rattle.rowan_cursor.specs.Replacement.{IsReplacement, KeepsTheRest, WhyNoReplacement};
 ghost use Rattle.rowan_cursor.specs.SyntaxText.{whole_text};
 
 use crate::api::language::Language;
@@ -45,7 +47,7 @@ impl<L> Model for SyntaxNode<L> {
     ghost inverse = { λ c. record { raw = c; language = record {} } };
 }
 
-impl<L: Language> SyntaxNode<L> {
+impl<L> SyntaxNode<L> {
     // The node that a move of the raw cursor found, if it found one.
     pub(super) fn found(raw: Option<cursor::SyntaxNode>) -> Option<SyntaxNode<L>>
         ensures { result ≡ raw }
@@ -75,11 +77,20 @@ impl<L: Language> SyntaxNode<L> {
         Ok(SyntaxNode::from(self.raw.clone_subtree()?))
     }
 
-    /// The kind of the node.
-    pub fn kind(&self) -> L::Kind
-        ensures { option_map L.meaning (kind self.now) ≡ Some result }
+    /// The root of a new tree: of the tree of this cursor, with another green node in place of the one at this cursor. For each
+    /// ancestor one new node is made, and all other children are shared. Nothing is changed in place: this tree and all its
+    /// cursors answer as before. For a root it is the replacement itself.
+    ///
+    /// `Err(Fault::OtherKind)` where the replacement has another raw kind, also one that means the same kind of the language;
+    /// this is looked at before all else. `Err(Fault::TextTooLong)` where a node of the new tree would have more than
+    /// 4,294,967,295 bytes of text; `Err(Fault::Memory)` for want of memory.
+    pub fn replace_with(&self, replacement: GreenNode) -> Result<GreenNode, Fault>
+        ensures ok { IfOk result (IsReplacement self.now (Node replacement)) }
+        ensures rest { IfOk result (KeepsTheRest self.now (Node replacement)) }
+        ensures own { StandsAt self.now replacement → IfOk result (λ n. n ≡ self.now.root) }
+        ensures err { IfErr result (WhyNoReplacement self.now (Node replacement)) }
     {
-        L::kind_from_raw(self.raw.kind())
+        self.raw.replace_with(replacement)
     }
 
     /// Where the node's text lies in the text of the root, in bytes.
@@ -111,6 +122,15 @@ impl<L: Language> SyntaxNode<L> {
     {
         self.raw.text()
     }
+}
+
+impl<L: Language> SyntaxNode<L> {
+    /// The kind of the node.
+    pub fn kind(&self) -> L::Kind
+        ensures { option_map L.meaning (kind self.now) ≡ Some result }
+    {
+        L::kind_from_raw(self.raw.kind())
+    }
 
     /// The node and all that is in it as text, a line for each node and token in the order of the source. A line has two
     /// spaces for each level below this node, the name of the kind and the range, as `KIND@start..end` with offsets in the
@@ -123,7 +143,7 @@ impl<L: Language> SyntaxNode<L> {
     }
 }
 
-impl<L: Language> From<cursor::SyntaxNode> for SyntaxNode<L> {
+impl<L> From<cursor::SyntaxNode> for SyntaxNode<L> {
     ghost from_gives = { λ raw node. node ≡ raw };
 
     fn from(raw: cursor::SyntaxNode) -> SyntaxNode<L> {
@@ -134,7 +154,7 @@ impl<L: Language> From<cursor::SyntaxNode> for SyntaxNode<L> {
     }
 }
 
-impl<L: Language> From<SyntaxNode<L>> for cursor::SyntaxNode {
+impl<L> From<SyntaxNode<L>> for cursor::SyntaxNode {
     ghost from_gives = { λ node raw. raw ≡ node };
 
     fn from(node: SyntaxNode<L>) -> cursor::SyntaxNode {

@@ -1,5 +1,5 @@
 //! A walk through a node and the nodes below it, event by event.
-use crate::api::{Language, SyntaxNode};
+use crate::api::SyntaxNode;
 use rowan_cursor::cursor;
 use rowan_green::fault::Fault;
 use rowan_green::utility_types::WalkEvent;
@@ -51,7 +51,7 @@ impl<L> Preorder<L> {
     }
 }
 
-impl<L: Language> Iterator for Preorder<L> {
+impl<L> Iterator for Preorder<L> {
     type Item = Result<WalkEvent<SyntaxNode<L>>, Fault>;
 
     ghost use Rattle.std.specs.Iterator.{at_most};

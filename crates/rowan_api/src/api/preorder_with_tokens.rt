@@ -1,5 +1,5 @@
 //! A walk through a node and all that is below it, event by event.
-use crate::api::{Language, SyntaxElement, element};
+use crate::api::{SyntaxElement, element};
 use rowan_cursor::cursor;
 use rowan_green::fault::Fault;
 use rowan_green::utility_types::WalkEvent;
@@ -52,7 +52,7 @@ impl<L> PreorderWithTokens<L> {
     }
 }
 
-impl<L: Language> Iterator for PreorderWithTokens<L> {
+impl<L> Iterator for PreorderWithTokens<L> {
     type Item = Result<WalkEvent<SyntaxElement<L>>, Fault>;
 
     ghost use Rattle.std.specs.Iterator.{at_most};

@@ -1,14 +1,16 @@
 ghost use Rattle.std.specs.Prelude.{◌≡◌, IfOk, IfErr, Some};
 ghost use Rattle.std.specs.Option.{option_map};
+ghost use Rattle.rowan_green.specs.declared.utility_types.NodeOrToken.TheVariants.{Token};
 ghost use Rattle.rowan_cursor.specs.Cursor.{StandsAtToken, index, kind, text_range, text_at};
 ghost use Rattle.rowan_cursor.specs.Moves.{tree_top, parent, next_sibling_or_token, prev_sibling_or_token, next_token, prev_token, parent_ancestors, siblings_with_tokens};
+ghost use Rattle.rowan_cursor.specs.Replacement.{IsReplacement, KeepsTheRest, WhyNoReplacement};
 
 use crate::api::typed_elements::TypedElements;
 use crate::api::typed_nodes::TypedNodes;
 use crate::api::{Ancestors, Language, SiblingsWithTokens, SyntaxElement, SyntaxNode, element};
 use rowan_cursor::cursor;
 use rowan_green::fault::Fault;
-use rowan_green::green::GreenToken;
+use rowan_green::green::{GreenNode, GreenToken};
 use rowan_green::text::TextRange;
 use rowan_green::utility_types::Direction;
 use std::alloc::AllocError;
@@ -41,7 +43,7 @@ impl<L> Model for SyntaxToken<L> {
     ghost inverse = { λ c. record { raw = c; language = record {} } };
 }
 
-impl<L: Language> SyntaxToken<L> {
+impl<L> SyntaxToken<L> {
     // The token that a move of the raw cursor found, if it found one.
     pub(super) fn found(raw: Option<cursor::SyntaxToken>) -> Option<SyntaxToken<L>>
         ensures { result ≡ raw }
@@ -52,11 +54,20 @@ impl<L: Language> SyntaxToken<L> {
         }
     }
 
-    /// The kind of the token.
-    pub fn kind(&self) -> L::Kind
-        ensures { option_map L.meaning (kind self.now) ≡ Some result }
+    /// The root of a new tree: of the tree of this cursor, with another green token in place of the one at this cursor. For each
+    /// ancestor one new node is made, and all other children are shared. Nothing is changed in place: this tree and all its
+    /// cursors answer as before.
+    ///
+    /// `Err(Fault::OtherKind)` where the replacement has another raw kind, also one that means the same kind of the language;
+    /// this is looked at before all else. `Err(Fault::TextTooLong)` where a node of the new tree would have more than
+    /// 4,294,967,295 bytes of text; `Err(Fault::Memory)` for want of memory.
+    pub fn replace_with(&self, replacement: GreenToken) -> Result<GreenNode, Fault>
+        ensures ok { IfOk result (IsReplacement self.now (Token replacement)) }
+        ensures rest { IfOk result (KeepsTheRest self.now (Token replacement)) }
+        ensures own { StandsAtToken self.now replacement → IfOk result (λ n. n ≡ self.now.root) }
+        ensures err { IfErr result (WhyNoReplacement self.now (Token replacement)) }
     {
-        L::kind_from_raw(self.raw.kind())
+        self.raw.replace_with(replacement)
     }
 
     /// Where the token's text lies in the text of the root, in bytes.
@@ -169,7 +180,16 @@ impl<L: Language> SyntaxToken<L> {
     }
 }
 
-impl<L: Language> From<cursor::SyntaxToken> for SyntaxToken<L> {
+impl<L: Language> SyntaxToken<L> {
+    /// The kind of the token.
+    pub fn kind(&self) -> L::Kind
+        ensures { option_map L.meaning (kind self.now) ≡ Some result }
+    {
+        L::kind_from_raw(self.raw.kind())
+    }
+}
+
+impl<L> From<cursor::SyntaxToken> for SyntaxToken<L> {
     ghost from_gives = { λ raw token. token ≡ raw };
 
     fn from(raw: cursor::SyntaxToken) -> SyntaxToken<L> {
@@ -180,7 +200,7 @@ impl<L: Language> From<cursor::SyntaxToken> for SyntaxToken<L> {
     }
 }
 
-impl<L: Language> From<SyntaxToken<L>> for cursor::SyntaxToken {
+impl<L> From<SyntaxToken<L>> for cursor::SyntaxToken {
     ghost from_gives = { λ token raw. raw ≡ token };
 
     fn from(token: SyntaxToken<L>) -> cursor::SyntaxToken {

@@ -1,5 +1,5 @@
 //! The elements that a raw iterator gives, with the kinds of a language.
-use crate::api::{Language, SyntaxElement, element};
+use crate::api::{SyntaxElement, element};
 use rowan_cursor::cursor;
 use rowan_green::fault::Fault;
 use std::alloc::AllocError;
@@ -42,8 +42,7 @@ impl<L, I> TypedElements<L, I> {
     }
 }
 
-impl<L: Language, I: Iterator<Item = Result<cursor::SyntaxElement, Fault>>> Iterator
-    for TypedElements<L, I> {
+impl<L, I: Iterator<Item = Result<cursor::SyntaxElement, Fault>>> Iterator for TypedElements<L, I> {
     type Item = Result<SyntaxElement<L>, Fault>;
 
     ghost can_next = { I.can_next };

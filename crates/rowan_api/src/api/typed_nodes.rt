@@ -1,5 +1,5 @@
 //! The nodes that a raw iterator gives, with the kinds of a language.
-use crate::api::{Language, SyntaxNode};
+use crate::api::SyntaxNode;
 use rowan_cursor::cursor;
 use rowan_green::fault::Fault;
 use std::alloc::AllocError;
@@ -45,8 +45,7 @@ impl<L, I> TypedNodes<L, I> {
     }
 }
 
-impl<L: Language, I: Iterator<Item = Result<cursor::SyntaxNode, Fault>>> Iterator
-    for TypedNodes<L, I> {
+impl<L, I: Iterator<Item = Result<cursor::SyntaxNode, Fault>>> Iterator for TypedNodes<L, I> {
     type Item = Result<SyntaxNode<L>, Fault>;
 
     ghost can_next = { I.can_next };

@@ -6,12 +6,12 @@ use super::SyntaxNode;
 use crate::api::typed_elements::TypedElements;
 use crate::api::typed_nodes::TypedNodes;
 use crate::api::{
-    Ancestors, Language, Siblings, SiblingsWithTokens, SyntaxElementChildren, SyntaxNodeChildren,
+    Ancestors, Siblings, SiblingsWithTokens, SyntaxElementChildren, SyntaxNodeChildren,
 };
 use rowan_green::fault::Fault;
 use rowan_green::utility_types::Direction;
 
-impl<L: Language> SyntaxNode<L> {
+impl<L> SyntaxNode<L> {
     /// The node and the nodes above it, up to the root.
     /// An item is `Err(Fault::Memory)` where the tree cannot be shared once more; then the iterator ends.
     pub fn ancestors(&self) -> Ancestors<L>

@@ -2,10 +2,10 @@
 ghost use Rattle.std.specs.Prelude.{◌≡◌, IfOk, IfErr};
 ghost use Rattle.rowan_cursor.specs.Moves.{tree_top, parent, first_child, last_child, first_child_or_token, last_child_or_token, child_or_token_at_index, next_sibling, prev_sibling, next_sibling_or_token, prev_sibling_or_token, first_token, last_token};
 
-use crate::api::{Language, SyntaxElement, SyntaxNode, SyntaxToken, element};
+use crate::api::{SyntaxElement, SyntaxNode, SyntaxToken, element};
 use rowan_green::fault::Fault;
 
-impl<L: Language> SyntaxNode<L> {
+impl<L> SyntaxNode<L> {
     /// The root of the tree.
     /// `Err(Fault::Memory)` where the tree cannot be shared once more.
     pub fn tree_top(&self) -> Result<SyntaxNode<L>, Fault>

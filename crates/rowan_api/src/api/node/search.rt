@@ -9,13 +9,13 @@ ghost use Rattle.rowan_cursor.specs.Moves.{child_count};
 ghost use Rattle.rowan_cursor.specs.Search.{LiesIn, FindsChild, IsCovering, tokens_at};
 
 use super::SyntaxNode;
-use crate::api::{Language, SyntaxElement, SyntaxToken, element};
+use crate::api::{SyntaxElement, SyntaxToken, element};
 use rowan_green::fault::Fault;
 use rowan_green::steps::Steps;
 use rowan_green::text::{TextRange, TextSize};
 use rowan_green::utility_types::TokenAtOffset;
 
-impl<L: Language> SyntaxNode<L> {
+impl<L> SyntaxNode<L> {
     /// The child at a range of the root's text, in bytes: the child that has all bytes of the range. An empty range is a place
     /// between bytes. The child there is the one with bytes on both sides of it, else the last one that ends there, else the
     /// first one, if it begins there. `None` where no child has the whole range. Refused only for want of memory, where the tree

@@ -5,10 +5,10 @@ ghost use Rattle.rowan_cursor.specs.Preorder.{preorder, preorder_with_tokens, de
 use super::SyntaxNode;
 use crate::api::typed_elements::TypedElements;
 use crate::api::typed_nodes::TypedNodes;
-use crate::api::{Descendants, DescendantsWithTokens, Language, Preorder, PreorderWithTokens};
+use crate::api::{Descendants, DescendantsWithTokens, Preorder, PreorderWithTokens};
 use rowan_green::fault::Fault;
 
-impl<L: Language> SyntaxNode<L> {
+impl<L> SyntaxNode<L> {
     /// A walk through the node and the nodes below it: each is entered before those below it, and left after.
     /// An item is `Err(Fault::Memory)` where the tree cannot be shared once more; then the iterator ends.
     pub fn preorder(&self) -> Preorder<L>
