@@ -26,7 +26,7 @@ usage: rowan_bench depth parse|compare|show LEVELS
        rowan_bench search shared|own CHILDREN TIMES
        rowan_bench edit shared|own CHILDREN TIMES
        rowan_bench cursors fill|whole|walk|move|nodes TURNS
-       rowan_bench walks events|offset|cover|copy|equal TURNS
+       rowan_bench walks events|offset|cover|copy|find|equal TURNS
 
 depth   parses that many lists, one in the other, and then
           parse    drops the tree
@@ -52,6 +52,7 @@ walks   parses the s-expressions of standard input, makes a cursor at the root, 
           offset   searches the tokens at 10,000 offsets, which are drawn
           cover    searches the elements that cover 10,000 ranges of 0 to 63 bytes, which are drawn
           copy     copies the text
+          find     searches a character that the text has not
           equal    compares the text with an equal one";
 
 fn main(rt: HostRuntime) -> ExitCode {
@@ -196,7 +197,7 @@ fn move_cursors(rt: &HostRuntime, words: &[String]) -> Result<()> {
 
 fn walk(rt: &HostRuntime, words: &[String]) -> Result<()> {
     let operation = walks::Operation::from_word(word_at(words, 1)).context(
-        "events, offset, cover, copy or equal is missing",
+        "events, offset, cover, copy, find or equal is missing",
     )?;
     let turns = number_at(words, 2)?;
     let text = io::read_to_string(rt.alloc(), rt.reader())?;

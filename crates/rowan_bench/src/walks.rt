@@ -14,6 +14,9 @@ const SEARCHES: usize = 10_000;
 /// A range whose covering element is searched is shorter than this many bytes.
 const RANGE_LIMIT: usize = 64;
 
+/// A character that no text here has.
+const ABSENT: char = '\u{1}';
+
 /// What is timed, in each of many turns.
 #[derive(Clone, Copy)]
 pub enum Operation {
@@ -25,6 +28,8 @@ pub enum Operation {
     Cover,
     /// The text is copied.
     Copy,
+    /// A character is searched that the text has not.
+    Find,
     /// The text is compared with an equal one.
     Equal,
 }
@@ -37,6 +42,7 @@ impl Operation {
             "offset" => Some(Operation::Offset),
             "cover" => Some(Operation::Cover),
             "copy" => Some(Operation::Copy),
+            "find" => Some(Operation::Find),
             "equal" => Some(Operation::Equal),
             _ => None,
         }
@@ -108,6 +114,7 @@ enum Turn<'a> {
     Offset(Vec<TextSize>),
     Cover(Vec<TextRange>),
     Copy,
+    Find,
     Equal(&'a str),
 }
 
@@ -140,6 +147,7 @@ impl<'a> Turn<'a> {
             Operation::Offset => Ok(Turn::Offset(drawn_offsets(alloc, len)?)),
             Operation::Cover => Ok(Turn::Cover(drawn_ranges(alloc, len)?)),
             Operation::Copy => Ok(Turn::Copy),
+            Operation::Find => Ok(Turn::Find),
             Operation::Equal => Ok(Turn::Equal(text)),
         }
     }
@@ -150,6 +158,7 @@ impl<'a> Turn<'a> {
             Turn::Offset(offsets) => Ok(Made::Number(search_offsets(root, offsets.as_slice())?)),
             Turn::Cover(ranges) => Ok(Made::Number(search_ranges(root, ranges.as_slice())?)),
             Turn::Copy => Ok(Made::Text(root.text()?.to_text()?)),
+            Turn::Find => Ok(Made::Number(u64::from(root.text()?.find_char(ABSENT).is_some()))),
             Turn::Equal(text) => Ok(Made::Number(u64::from(root.text()?.eq_str(text)))),
         }
     }

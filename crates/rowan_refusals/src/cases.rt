@@ -5,8 +5,12 @@ use crate::calls::Way;
 use crate::edits::Edit;
 use crate::making::Make;
 use crate::moving::{Listing, Move};
+use crate::searches::Search;
 use crate::step::{Case, Step};
+use crate::texts::{Question, Slice};
 use crate::transcript::Phase;
+use crate::walks::Walk;
+use crate::walks::WalkCall::{Next, Skip};
 use rowan::Direction;
 
 const WHITESPACE: u16 = 0;
@@ -138,13 +142,50 @@ const TWINS: [Call; 7] = [
     Finish,
 ];
 
+/// A list with a token, and a token.
+const LIST_AND_TOKEN: [Call; 6] = [
+    Start(ROOT),
+    Start(LIST),
+    Token(WORD, "a"),
+    Finish,
+    Token(WORD, "b"),
+    Finish,
+];
+
+/// A root over `ab` and `cd`.
+const TWO_WORDS: [Call; 4] = [Start(ROOT), Token(WORD, "ab"), Token(WORD, "cd"), Finish];
+
+/// A root over `ab`, an empty token and `cd`.
+const AROUND_EMPTY_TOKEN: [Call; 5] = [
+    Start(ROOT),
+    Token(WORD, "ab"),
+    Token(WORD, ""),
+    Token(WORD, "cd"),
+    Finish,
+];
+
+/// A root over three parts of `helloworld`.
+const IN_THREE: [Call; 5] = [
+    Start(ROOT),
+    Token(WORD, "hel"),
+    Token(WORD, "lowo"),
+    Token(WORD, "rld"),
+    Finish,
+];
+
+/// A root over `helloworld`.
+const IN_ONE: [Call; 3] = [Start(ROOT), Token(WORD, "helloworld"), Finish];
+
+/// A root over a token with characters of more than one byte, and another such token.
+const PAST_ASCII: [Call; 4] = [Start(ROOT), Token(WORD, "aé"), Token(WORD, "日"), Finish];
+
 const SUM: &str = "(+ (* 15 2) 62)";
 
 const MAKING: Step = Step::Phase(Phase::Making);
 
 const MOVING: Step = Step::Phase(Phase::Moving);
 
-pub const CASES: [Case; 17] = [
+pub const CASES: [Case; 27] = [
     Case {
         name: "math_operations",
         steps: &[Step::Build(&MATH)],
@@ -195,12 +236,12 @@ pub const CASES: [Case; 17] = [
             Step::Make(Make::Tree(&AROUND_EMPTY)),
             MOVING,
             Step::Lengths,
-            Step::Search(0, 0),
-            Step::Search(1, 1),
-            Step::Search(2, 2),
-            Step::Search(4, 4),
-            Step::Search(2, 4),
-            Step::Search(1, 3),
+            Step::ChildAt(0, 0),
+            Step::ChildAt(1, 1),
+            Step::ChildAt(2, 2),
+            Step::ChildAt(4, 4),
+            Step::ChildAt(2, 4),
+            Step::ChildAt(1, 3),
         ],
     },
     Case {
@@ -286,6 +327,204 @@ pub const CASES: [Case; 17] = [
             Step::Go(Move::FirstChild),
             Step::Go(Move::FirstChild),
             Step::Look(Move::NextSibling),
+        ],
+    },
+    Case {
+        name: "skips_in_walk",
+        steps: &[
+            Step::Make(Make::Tree(&LIST_AND_TOKEN)),
+            Step::Make(Make::Root),
+            MOVING,
+            Step::GoToRoot(0),
+            Step::Walk(Walk::WithTokens(&[Next, Next, Skip, Next, Skip])),
+            Step::Walk(Walk::WithTokens(&[Skip])),
+            Step::Walk(Walk::Nodes(&[Next, Next, Skip, Next, Skip])),
+            Step::Walk(Walk::Nodes(&[Skip])),
+            Step::Tree,
+        ],
+    },
+    Case {
+        name: "walks_of_twins, and skips_are_one",
+        steps: &[
+            Step::Make(Make::Tree(&TWINS)),
+            Step::Make(Make::Root),
+            MOVING,
+            Step::GoToRoot(0),
+            Step::Walk(Walk::WithTokens(&[])),
+            Step::Walk(Walk::Nodes(&[])),
+            Step::Walk(Walk::WithTokens(&[Next, Skip, Skip, Next, Skip, Next, Skip])),
+            Step::Walk(Walk::Nodes(&[Next, Skip, Skip, Next, Skip, Next, Skip])),
+            Step::List(Listing::Descendants),
+            Step::List(Listing::DescendantsWithTokens),
+            Step::Go(Move::FirstChild),
+            Step::Walk(Walk::WithTokens(&[])),
+            Step::Walk(Walk::Nodes(&[])),
+            Step::Tree,
+        ],
+    },
+    Case {
+        name: "walks through the sum",
+        steps: &[
+            Step::Make(Make::Parsed(SUM)),
+            Step::Make(Make::Root),
+            Step::Make(Make::Syntax),
+            MOVING,
+            Step::GoToRoot(0),
+            Step::Walk(Walk::WithTokens(&[Next, Next, Next, Next, Next, Skip, Next, Next, Skip])),
+            Step::Walk(Walk::Nodes(&[Next, Next, Next, Skip, Next, Next, Skip, Next, Next])),
+            Step::Go(Move::FirstChild),
+            Step::Clones,
+            Step::List(Listing::Descendants),
+            Step::List(Listing::DescendantsWithTokens),
+            Step::Typed,
+            Step::Tree,
+        ],
+    },
+    Case {
+        name: "searches_at_empty_ranges, from a cursor",
+        steps: &[
+            Step::Make(Make::Tree(&AROUND_EMPTY)),
+            Step::Make(Make::Root),
+            MOVING,
+            Step::GoToRoot(0),
+            Step::Search(Search::ChildAt(0, 0)),
+            Step::Search(Search::ChildAt(1, 1)),
+            Step::Search(Search::ChildAt(2, 2)),
+            Step::Search(Search::ChildAt(4, 4)),
+            Step::Search(Search::ChildAt(2, 4)),
+            Step::Search(Search::ChildAt(1, 3)),
+            Step::Search(Search::ChildAt(3, 9)),
+            Step::Search(Search::Covering(2, 2)),
+            Step::Tree,
+        ],
+    },
+    Case {
+        name: "searches_in_sum",
+        steps: &[
+            Step::Make(Make::Tree(&AROUND_EMPTY_TOKEN)),
+            Step::Make(Make::Root),
+            Step::Make(Make::Parsed(SUM)),
+            Step::Make(Make::Root),
+            MOVING,
+            Step::GoToRoot(0),
+            Step::Search(Search::TokensAt(2)),
+            Step::GoToRoot(1),
+            Step::Search(Search::TokensAt(3)),
+            Step::Search(Search::TokensAt(7)),
+            Step::Search(Search::TokensAt(0)),
+            Step::Search(Search::TokensAt(15)),
+            Step::Search(Search::Covering(6, 9)),
+            Step::Go(Move::FirstChild),
+            Step::Search(Search::ChildAt(1, 3)),
+            Step::Tree,
+        ],
+    },
+    Case {
+        name: "slices_by_five_ranges",
+        steps: &[
+            Step::Make(Make::Tree(&TWO_WORDS)),
+            Step::Make(Make::Root),
+            MOVING,
+            Step::GoToRoot(0),
+            Step::Text,
+            Step::Slice(Slice::From(1)),
+            Step::Text,
+            Step::Slice(Slice::To(3)),
+            Step::Text,
+            Step::Slice(Slice::Full),
+            Step::Slice(Slice::TextRange(1, 3)),
+            Step::Ask(Question::Chunks),
+            Step::Text,
+            Step::Slice(Slice::Range(1, 4)),
+            Step::Slice(Slice::Range(1, 2)),
+            Step::Ask(Question::Shown),
+            MAKING,
+            Step::Make(Make::Copy),
+            MOVING,
+            Step::Text,
+            Step::Slice(Slice::Range(0, 2)),
+            Step::Ask(Question::Chunks),
+            Step::Text,
+            Step::Slice(Slice::Range(2, 2)),
+            Step::Ask(Question::Chunks),
+            Step::Ask(Question::Len),
+            MAKING,
+            Step::Make(Make::Copy),
+            Step::Tree,
+        ],
+    },
+    Case {
+        name: "fold_over_chunks",
+        steps: &[
+            Step::Make(Make::Tree(&AROUND_EMPTY_TOKEN)),
+            Step::Make(Make::Root),
+            MOVING,
+            Step::GoToRoot(0),
+            Step::Text,
+            Step::Ask(Question::Count(3)),
+            Step::Ask(Question::Count(4)),
+            Step::Ask(Question::Chunks),
+            Step::Tree,
+        ],
+    },
+    Case {
+        name: "chunks_and_text_equality",
+        steps: &[
+            Step::Make(Make::Tree(&IN_THREE)),
+            Step::Make(Make::Root),
+            Step::Make(Make::Tree(&IN_ONE)),
+            Step::Make(Make::Root),
+            Step::Make(Make::Tree(&TWO_WORDS)),
+            Step::Make(Make::Root),
+            MOVING,
+            Step::GoToRoot(0),
+            Step::Text,
+            Step::SameText(1),
+            Step::SameText(2),
+            Step::Ask(Question::Is("helloworld")),
+            Step::Ask(Question::Is("helloworl")),
+            Step::Ask(Question::Len),
+            MAKING,
+            Step::Make(Make::Copy),
+            Step::Tree,
+        ],
+    },
+    Case {
+        name: "text_past_ascii",
+        steps: &[
+            Step::Make(Make::Tree(&PAST_ASCII)),
+            Step::Make(Make::Root),
+            MOVING,
+            Step::GoToRoot(0),
+            Step::Text,
+            Step::Ask(Question::FindChar('日')),
+            Step::Ask(Question::FindChar('b')),
+            Step::Ask(Question::CharAt(1)),
+            Step::Ask(Question::CharAt(2)),
+            Step::Ask(Question::IsBorder(2)),
+            Step::Ask(Question::IsBorder(3)),
+            Step::Slice(Slice::Range(1, 3)),
+            Step::Ask(Question::Shown),
+            MAKING,
+            Step::Make(Make::Copy),
+            Step::Tree,
+        ],
+    },
+    Case {
+        name: "the text of the sum",
+        steps: &[
+            Step::Make(Make::Parsed(SUM)),
+            Step::Make(Make::Root),
+            MOVING,
+            Step::GoToRoot(0),
+            Step::Text,
+            Step::Ask(Question::Shown),
+            Step::Ask(Question::Chunks),
+            Step::Ask(Question::Is(SUM)),
+            Step::Ask(Question::FindChar('6')),
+            MAKING,
+            Step::Make(Make::Copy),
+            Step::Tree,
         ],
     },
     Case {

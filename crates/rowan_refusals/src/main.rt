@@ -16,7 +16,9 @@ mod searches;
 mod shape;
 mod state;
 mod step;
+mod texts;
 mod transcript;
+mod walks;
 
 use cases::CASES;
 use state::State;

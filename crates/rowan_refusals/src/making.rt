@@ -35,6 +35,8 @@ pub enum Make {
     Printed,
     /// The text of the typed root.
     Text,
+    /// A copy of the text that the case reads.
+    Copy,
     /// The words of a command line.
     Words(&'static [&'static str]),
     /// Room for an output of so many bytes, so that what is written there is never refused.
@@ -62,6 +64,7 @@ impl Make {
             Make::Syntax => "syntax",
             Make::Printed => "debug_tree",
             Make::Text => "to_string",
+            Make::Copy => "to_text",
             Make::Words(_) => "arguments",
             Make::Room(_) => "room for the output",
             Make::Written(_) => "run, with drops",

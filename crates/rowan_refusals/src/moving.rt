@@ -89,6 +89,8 @@ pub enum Listing {
     Ancestors,
     Siblings(Direction),
     SiblingsWithTokens(Direction),
+    Descendants,
+    DescendantsWithTokens,
 }
 
 impl Listing {
@@ -113,6 +115,10 @@ impl Listing {
                     node.siblings_with_tokens(direction),
                 )
             }
+            Listing::Descendants => tell_each(log, "descendant", node.descendants()),
+            Listing::DescendantsWithTokens => {
+                tell_each(log, "descendant", node.descendants_with_tokens())
+            }
         }
     }
 
@@ -131,7 +137,8 @@ impl Listing {
     }
 }
 
-fn tell_each<T: Debug + Drop, I>(log: &Transcript<'_>, name: &str, items: I) -> Result<(), Stop>
+/// Says which items an iterator gives.
+pub fn tell_each<T: Debug + Drop, I>(log: &Transcript<'_>, name: &str, items: I) -> Result<(), Stop>
 where
     I: Iterator<Item = Result<T, Fault>> + Drop,
     requires can { I.can_next items }

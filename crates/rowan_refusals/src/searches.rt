@@ -1,7 +1,8 @@
-//! Searches among the children of a green node.
+//! Searches by place, in green nodes and from cursors.
 
 use crate::transcript::{Stop, Transcript};
-use rowan::{GreenNode, Steps, TextRange, TextSize};
+use rowan::cursor::{SyntaxElement, SyntaxNode};
+use rowan::{Fault, GreenNode, NodeOrToken, Steps, TextRange, TextSize};
 
 /// Says how long the text of each child is, in bytes.
 pub fn tell_lengths(log: &Transcript<'_>, node: &GreenNode) -> Result<(), Stop> {
@@ -22,4 +23,58 @@ pub fn index_at(node: &GreenNode, start: u32, end: u32) -> Option<usize> {
         Some((index, _, _)) => Some(index),
         None => None,
     }
+}
+
+/// A search from a node. Offsets count from the start of the root's text.
+#[derive(Clone, Copy)]
+pub enum Search {
+    ChildAt(u32, u32),
+    Covering(u32, u32),
+    TokensAt(u32),
+}
+
+impl Search {
+    /// Says what is found. Where the range or the offset does not lie in the node nothing is searched.
+    pub fn tell(self, log: &Transcript<'_>, from: &SyntaxElement) -> Result<(), Stop> {
+        let NodeOrToken::Node(node) = from else {
+            return Err(Stop::Refused(Fault::NotFound));
+        };
+        match self {
+            Search::ChildAt(start, end) => tell_child(log, node, range(start, end)?),
+            Search::Covering(start, end) => tell_covering(log, node, range(start, end)?),
+            Search::TokensAt(offset) => tell_tokens(log, node, TextSize::from(offset)),
+        }
+    }
+}
+
+fn range(start: u32, end: u32) -> Result<TextRange, Fault> {
+    if end < start {
+        return Err(Fault::NotFound);
+    }
+    Ok(TextRange::new(TextSize::from(start), TextSize::from(end)))
+}
+
+/// Says what is the child at a range, and how many comparisons found it.
+fn tell_child(log: &Transcript<'_>, node: &SyntaxNode, range: TextRange) -> Result<(), Stop> {
+    log.tell(
+        "child_or_token_at_range",
+        &node.child_or_token_at_range(range),
+    )?;
+    let mut steps = Steps::new();
+    let found = node.child_or_token_at_range_counted(range, &mut steps)?;
+    log.tell("comparisons", &(found.is_some(), steps.comparisons()))
+}
+
+fn tell_covering(log: &Transcript<'_>, node: &SyntaxNode, range: TextRange) -> Result<(), Stop> {
+    if !node.text_range().contains_range(range) {
+        return Err(Stop::Refused(Fault::NotFound));
+    }
+    log.tell("covering_element", &node.covering_element(range))
+}
+
+fn tell_tokens(log: &Transcript<'_>, node: &SyntaxNode, offset: TextSize) -> Result<(), Stop> {
+    if !node.text_range().contains_inclusive(offset) {
+        return Err(Stop::Refused(Fault::NotFound));
+    }
+    log.tell("token_at_offset", &node.token_at_offset(offset))
 }

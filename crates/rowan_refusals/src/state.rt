@@ -8,9 +8,11 @@ use crate::moving::{Move, compare};
 use crate::searches::{index_at, tell_lengths};
 use crate::shape::Shape;
 use crate::step::Step;
+use crate::texts::Slice;
 use crate::transcript::{Stop, Transcript};
+use crate::walks::{tell_clones, tell_typed};
 use rowan::cursor::{SyntaxElement, SyntaxNode};
-use rowan::{Fault, GreenNode, GreenToken, NodeCache, NodeOrToken, SyntaxKind};
+use rowan::{Fault, GreenNode, GreenToken, NodeCache, NodeOrToken, SyntaxKind, SyntaxText};
 use rowan_tool::program;
 use rowan_tool::sexp::{Lang, Parse, lex, parse, parse_with};
 use std::alloc::Global;
@@ -21,6 +23,7 @@ pub struct State {
     cache: NodeCache,
     made: Vec<Made>,
     place: Option<SyntaxElement>,
+    text: Option<SyntaxText>,
     words: Vec<String>,
     output: Vec<u8>,
 }
@@ -32,6 +35,7 @@ impl State {
             cache: NodeCache::new(alloc),
             made: Vec::new(alloc),
             place: None,
+            text: None,
             words: Vec::new(alloc),
             output: Vec::new(alloc),
         }
@@ -49,7 +53,7 @@ impl State {
             Step::Tree => log.tell("tree", &Shape(self.tree()?)),
             Step::Equal => self.tell_equal(log),
             Step::Lengths => tell_lengths(log, self.tree()?),
-            Step::Search(start, end) => {
+            Step::ChildAt(start, end) => {
                 log.tell(
                     "index of child_at_range",
                     &index_at(self.tree()?, start, end),
@@ -59,6 +63,14 @@ impl State {
             Step::Go(way) => self.go(log, way),
             Step::GoToRoot(number) => self.go_to_root(log, number),
             Step::List(listing) => listing.tell(log, self.place()?),
+            Step::Walk(walk) => walk.tell(log, self.place()?),
+            Step::Clones => tell_clones(log, self.node_here()?),
+            Step::Typed => tell_typed(log, self.syntax()?),
+            Step::Search(search) => search.tell(log, self.place()?),
+            Step::Text => self.read(log),
+            Step::Slice(slice) => self.cut(log, slice),
+            Step::Ask(question) => question.tell(log, self.text()?),
+            Step::SameText(number) => self.tell_same_text(log, number),
             Step::Compare(way) => compare(log, self.place()?, &self.found(way)?),
             Step::CompareRoot(number) => compare(log, self.place()?, &self.root(number)?),
         }
@@ -101,6 +113,7 @@ impl State {
             Make::Syntax => Ok(Made::Syntax(self.parse()?.syntax(alloc)?)),
             Make::Printed => Ok(Made::Text(self.syntax()?.debug_tree(alloc)?)),
             Make::Text => Ok(Made::Text(self.syntax()?.to_string(alloc)?)),
+            Make::Copy => Ok(Made::Text(self.text()?.to_text()?)),
             Make::Words(words) => self.set_words(words),
             Make::Room(bytes) => self.set_room(bytes),
             Make::Written(text) => self.run_program(text),
@@ -120,10 +133,7 @@ impl State {
 
     /// A copy of what is below the place.
     fn subtree(&self) -> Result<SyntaxNode, Fault> {
-        match &self.place {
-            Some(NodeOrToken::Node(node)) => node.clone_subtree(),
-            _ => Err(Fault::NotFound),
-        }
+        self.node_here()?.clone_subtree()
     }
 
     fn set_words(&mut self, words: &[&str]) -> Result<Made, Fault> {
@@ -171,6 +181,30 @@ impl State {
         Ok(())
     }
 
+    /// Reads the text of the place.
+    fn read(&mut self, log: &Transcript<'_>) -> Result<(), Stop> {
+        let text = self.node_here()?.text()?;
+        log.tell("text", &text)?;
+        self.text = Some(text);
+        Ok(())
+    }
+
+    /// Reads a slice of the text from now on.
+    fn cut(&mut self, log: &Transcript<'_>, slice: Slice) -> Result<(), Stop> {
+        let part = slice.cut(self.text()?)?;
+        log.tell("slice", &part)?;
+        self.text = Some(part);
+        Ok(())
+    }
+
+    /// Says whether the text is that of the cursor of that number.
+    fn tell_same_text(&self, log: &Transcript<'_>, number: usize) -> Result<(), Stop> {
+        let NodeOrToken::Node(root) = self.root(number)? else {
+            return Err(Stop::Refused(Fault::NotFound));
+        };
+        log.tell("same text", &(*self.text()? == root.text()?))
+    }
+
     /// Where a move from the place leads.
     fn found(&self, way: Move) -> Result<SyntaxElement, Fault> {
         way.make(self.place()?)?.ok_or(Fault::NotFound)
@@ -214,6 +248,18 @@ impl State {
 
     fn place(&self) -> Result<&SyntaxElement, Fault> {
         self.place.as_ref().ok_or(Fault::NotFound)
+    }
+
+    /// The node where the case stands.
+    fn node_here(&self) -> Result<&SyntaxNode, Fault> {
+        match &self.place {
+            Some(NodeOrToken::Node(node)) => Ok(node),
+            _ => Err(Fault::NotFound),
+        }
+    }
+
+    fn text(&self) -> Result<&SyntaxText, Fault> {
+        self.text.as_ref().ok_or(Fault::NotFound)
     }
 
     fn tree(&self) -> Result<&GreenNode, Fault> {

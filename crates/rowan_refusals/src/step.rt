@@ -3,7 +3,10 @@
 use crate::calls::{Call, Way};
 use crate::making::Make;
 use crate::moving::{Listing, Move};
+use crate::searches::Search;
+use crate::texts::{Question, Slice};
 use crate::transcript::Phase;
+use crate::walks::Walk;
 
 /// A step of a case. The tree, the parse and so on is the last one that was made; the place is where the last step went.
 #[derive(Clone, Copy)]
@@ -26,7 +29,7 @@ pub enum Step {
     /// How long the texts of the tree's children are.
     Lengths,
     /// Which child of the tree is at a range.
-    Search(u32, u32),
+    ChildAt(u32, u32),
     /// Where a move from the place leads.
     Look(Move),
     /// Goes there.
@@ -35,6 +38,22 @@ pub enum Step {
     GoToRoot(usize),
     /// The elements around the place.
     List(Listing),
+    /// A walk from the place.
+    Walk(Walk),
+    /// What a clone of each iterator at the place gives first.
+    Clones,
+    /// What the iterators at the typed root give.
+    Typed,
+    /// What is found at a range or an offset.
+    Search(Search),
+    /// Reads the text of the place.
+    Text,
+    /// Reads a slice of the text from now on.
+    Slice(Slice),
+    /// What the text answers.
+    Ask(Question),
+    /// Whether the text is that of the cursor of that number.
+    SameText(usize),
     /// How the place is like the one where a move leads.
     Compare(Move),
     /// How the place is like the cursor of that number.

@@ -1,7 +1,7 @@
 //! What the program prints: a line for each call, with its answer.
 
 use rowan::Fault;
-use std::alloc::Global;
+use std::alloc::{AllocError, Global};
 use std::fmt::{self, Debug, Display};
 use std::io;
 
@@ -10,7 +10,7 @@ use std::io;
 pub enum Phase {
     /// It makes values. The call whose request is refused answers `Memory`.
     Making,
-    /// It moves and searches in values that are made. Nothing asks for memory.
+    /// It moves, walks, searches and reads texts in values that are made. Nothing asks for memory.
     Moving,
     /// It drops values. A drop may ask for memory, and does without what is refused.
     Dropping,
@@ -38,6 +38,12 @@ pub enum Stop {
 impl From<Fault> for Stop {
     fn from(fault: Fault) -> Stop {
         Stop::Refused(fault)
+    }
+}
+
+impl From<AllocError> for Stop {
+    fn from(_error: AllocError) -> Stop {
+        Stop::Refused(Fault::Memory)
     }
 }
 
@@ -86,6 +92,11 @@ impl<'a> Transcript<'a> {
     /// Says what a value is.
     pub fn tell<T: Debug>(&self, name: &str, value: &T) -> Result<(), Stop> {
         Ok(println!(self.rt; "{name}: {value:?}")?)
+    }
+
+    /// Says how a value is shown.
+    pub fn show<T: Display>(&self, name: &str, value: &T) -> Result<(), Stop> {
+        Ok(println!(self.rt; "{name}: {value}")?)
     }
 
     /// Says what a call answered.
