@@ -17,7 +17,12 @@ fn with_own_cache(alloc: Global, calls: &[Call]) -> Result<Session, Fault> {
 
 fn with_cache(alloc: Global, calls: &[Call], cache: &mut NodeCache) -> Result<Session, Fault> {
     let steps = [Step::FirstToken, Step::NextToken];
-    session(alloc, GreenNodeBuilder::with_cache(alloc, cache), calls, steps.as_slice())
+    session(
+        alloc,
+        GreenNodeBuilder::with_cache(alloc, cache),
+        calls,
+        steps.as_slice(),
+    )
 }
 
 /// Whether the session has the outcomes and the tree of the run, and went to the tree's first two tokens.

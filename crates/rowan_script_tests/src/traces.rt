@@ -105,7 +105,11 @@ fn trace_of_sum(rt: HostRuntime) -> Result<(), Fail> {
 #[test]
 fn another_kind_is_refused(rt: HostRuntime) -> Result<(), Fail> {
     let steps = vec![in rt.alloc(); at(6), put(rt.alloc(), ATOM, "7")?, Step::PrevToken]?;
-    let answers = [Moved(WORD, 6, 8), Refused(Fault::OtherKind), Moved(SPACE, 5, 6)];
+    let answers = [
+        Moved(WORD, 6, 8),
+        Refused(Fault::OtherKind),
+        Moved(SPACE, 5, 6),
+    ];
     assert!(rt; is_reported(rt.alloc(), steps.as_slice(), answers.as_slice())?);
     Ok(())
 }
@@ -122,11 +126,17 @@ fn last_root(alloc: Global, steps: &[Step]) -> Result<GreenNode, Fault> {
 #[test]
 fn separate_replacements(rt: HostRuntime) -> Result<(), Fail> {
     let steps = vec![in rt.alloc();
-        at(6), put(rt.alloc(), WORD, "7")?, at(11), put(rt.alloc(), WORD, "100")?,
+        at(6),
+        put(rt.alloc(), WORD, "7")?,
+        at(11),
+        put(rt.alloc(), WORD, "100")?,
     ]?;
     let in_order = last_root(rt.alloc(), steps.as_slice())?;
     let steps = vec![in rt.alloc();
-        at(12), put(rt.alloc(), WORD, "100")?, at(6), put(rt.alloc(), WORD, "7")?,
+        at(12),
+        put(rt.alloc(), WORD, "100")?,
+        at(6),
+        put(rt.alloc(), WORD, "7")?,
     ]?;
     let in_reverse = last_root(rt.alloc(), steps.as_slice())?;
     assert!(rt; in_order == in_reverse);
