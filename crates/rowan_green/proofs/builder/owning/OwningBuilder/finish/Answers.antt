@@ -32,7 +32,7 @@ unreachable-requires-in-Token c =
     let one = one_element s.parents.items s.finished.items c.args.self.word c.in_default.field-0.now (ap (λ b. b.word) c.self.view_is) c.in_default.ensures.ok in
     let long = one-long s.finished.items c.in_default.field-0.now one in
     let other : Node c.in_default.field-0.now ∷ [] ≡ Token c.in-Token.field-0 ∷ [] =
-        sym one ∙ elements-last s.finished.items c.pop.new.self.items c.in-Some.last (Token c.in-Token.field-0) long c.in-Some.ensures.items c.in-Token.is in
+    sym one ∙ elements-last s.finished.items c.pop.new.self.items c.in-Some.last (Token c.in-Token.field-0) long c.in-Some.ensures.items c.in-Token.is in
     cc
 
 pub returns-clause-ok : goal.returns-clause-ok
