@@ -15,5 +15,5 @@ returns-clause-range c = λ e steps reports q trace apart.
 
 pub returns-clause-new : goal.returns-clause-new
 returns-clause-new c = λ e steps reports before r after trace cut apart.
-    subterm-new (tree_of e) before r after (last_tree e reports)
+    subterm-new (tree_of e) before after r (last_tree e reports)
     (subst (λ rs. Makes (tree_of e) rs (last_tree e reports)) cut (turns-make steps reports e trace.in_turn)) apart
