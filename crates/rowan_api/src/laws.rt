@@ -1,5 +1,8 @@
 //! Laws of languages and of typed cursors, each as the contract of a function.
-ghost use Rattle.std.specs.Prelude.{◌≡◌};
+ghost use Rattle.std.specs.Prelude.{◌≡◌, Some};
+ghost use Rattle.std.specs.Option.{option_map};
+ghost use Rattle.rowan_cursor.specs.Cursor.{kind};
+ghost use Rattle.rowan_cursor.specs.Moves.{place_of};
 
 use crate::api::{Language, SyntaxElement, TypedElementCalls};
 use rowan_cursor::cursor;
@@ -11,11 +14,17 @@ pub fn raw_kind_means_its_kind<L: Language>(kind: L::Kind) -> L::Kind
     L::kind_from_raw(L::kind_to_raw(kind))
 }
 
-/// A node or token that is given the kinds of a language is the same cursor: it has the same root, and the same path in it.
-pub fn typed_element_is_the_raw_one<L: Language>(raw: cursor::SyntaxElement) -> SyntaxElement<L>
-    ensures { result ≡ raw }
+/// A node or token that is given the kinds of a language is the same cursor, with the same root and the same path in it, and has
+/// the kind that its raw kind means.
+pub fn typed_element_is_the_raw_one<L: Language>(
+    raw: cursor::SyntaxElement,
+) -> (SyntaxElement<L>, L::Kind)
+    ensures cursor { result.0 ≡ raw }
+    ensures kind { option_map L.meaning (kind (place_of raw)) ≡ Some result.1 }
 {
-    SyntaxElement::from_raw(raw)
+    let typed = SyntaxElement::<L>::from_raw(raw);
+    let kind = typed.kind();
+    (typed, kind)
 }
 
 /// A node or token that loses the kinds of its language is the same cursor. So the two conversions undo each other.

@@ -152,8 +152,9 @@ impl<L> SyntaxToken<L> {
         Ok(SyntaxToken::found(self.raw.prev_token()?))
     }
 
-    /// The nodes above the token: its parent, and so on up to the root. [`SyntaxToken::parent_ancestors`] says so by its name.
+    /// The nodes above the token: its parent, and so on up to the root.
     /// An item is `Err(Fault::Memory)` where the tree cannot be shared once more; then the iterator ends.
+    #[deprecated = "use `SyntaxToken::parent_ancestors` instead"]
     pub fn ancestors(&self) -> Ancestors<L>
         ensures ok { IfOk result (λ list. list ≡ parent_ancestors self.now) }
         ensures err { IfErr result (λ e. e ≡ Fault.Memory) }
