@@ -1,17 +1,22 @@
 //! Laws of runs, each as the contract of a function that does nothing; and the laws of green trees and of cursors.
-ghost use Rattle.std.specs.Prelude.{◌≡◌, List, [], ◌++◌};
+ghost use Rattle.std.specs.Prelude.{◌≡◌, List, [], ◌∷◌, ◌++◌, Some, IsPermutation};
 ghost use Rattle.rowan_green.specs.Builder.{BuilderValue};
 ghost use Rattle.rowan_green.specs.Cache.{first_seen};
-ghost use Rattle.rowan_green.specs.Path.{tokens};
+ghost use Rattle.rowan_green.specs.Path.{Path, subterm, range, tokens};
+ghost use Rattle.rowan_green.specs.Replacements.{Replacement, Makes, SeparateFromAll, PairwiseSeparate, moved_in_turn};
 ghost use Rattle.rowan_green.specs.Stream.{intern_all, BuildsOn};
 ghost use Rattle.rowan_green.specs.Term.{NodeTerm};
 ghost use Rattle.rowan_green.specs.Word.{Symbol, IsFinished, word_text, word_tokens};
 ghost use Rattle.rowan_green.specs.declared.utility_types.NodeOrToken.TheVariants.{Node};
 ghost use Rattle.rowan.specs.declared.script.calls.Call.{Call};
 ghost use Rattle.rowan.specs.declared.script.calls.Outcome.{Outcome};
+ghost use Rattle.rowan_cursor.specs.Moves.{Element};
+ghost use Rattle.rowan.specs.declared.script.steps.Report.{Report};
+ghost use Rattle.rowan.specs.declared.script.steps.Step.{Step};
 ghost use Rattle.rowan.specs.Rewriting.{Rewrites};
 ghost use Rattle.rowan.specs.Requests.{stream, accepted_tokens, accepted_text};
 ghost use Rattle.rowan.specs.Run.{Run};
+ghost use Rattle.rowan.specs.Trace.{Trace, tree_of, last_tree, replacements};
 
 pub use rowan_cursor::laws as cursor;
 pub use rowan_green::laws as green;
@@ -70,4 +75,44 @@ pub fn tree_has_the_accepted_tokens()
 pub fn run_builds_on()
     ensures { (old new : BuilderValue) (calls : List Call) (outcomes : List Outcome)
         → Run old calls outcomes new → BuildsOn old new }
+{}
+
+/// The replacements of a trace that were accepted, one after the other, make its last tree of its first.
+pub fn trace_makes_its_replacements()
+    ensures { (e : Element) (steps : List Step) (reports : List Report)
+        → Trace e steps reports
+        → Makes (tree_of e) (replacements e steps reports) (last_tree e reports) }
+{}
+
+/// What stands at a path that is separate from those of all accepted replacements of a trace stands in its last tree, too, and the
+/// range there is the old one, moved with each replacement in turn. What a replacement put stands in the last tree, if all later
+/// ones were at separate paths.
+pub fn trace_leaves_what_stands_apart()
+    ensures subterm { (e : Element) (steps : List Step) (reports : List Report) (q : Path)
+        → Trace e steps reports
+        → SeparateFromAll q (replacements e steps reports)
+        → subterm (last_tree e reports) q ≡ subterm (tree_of e) q }
+    ensures range { (e : Element) (steps : List Step) (reports : List Report) (q : Path)
+        → Trace e steps reports
+        → SeparateFromAll q (replacements e steps reports)
+        → range (last_tree e reports) q
+        ≡ moved_in_turn (tree_of e) (replacements e steps reports) q (range (tree_of e) q) }
+    ensures new { (e : Element) (steps : List Step) (reports : List Report)
+        (before : List Replacement) (r : Replacement) (after : List Replacement)
+        → Trace e steps reports
+        → replacements e steps reports ≡ before ++ r ∷ after
+        → SeparateFromAll r.path after
+        → subterm (last_tree e reports) r.path ≡ Some r.new }
+{}
+
+/// Two traces from one tree whose accepted replacements are the same, in any order, end with equal trees, if those are at pairwise
+/// separate paths.
+pub fn order_of_a_traces_replacements_is_free()
+    ensures { (e d : Element) (steps steps' : List Step) (reports reports' : List Report)
+        → tree_of e ≡ tree_of d
+        → PairwiseSeparate (replacements e steps reports)
+        → IsPermutation (replacements e steps reports) (replacements d steps' reports')
+        → Trace e steps reports
+        → Trace d steps' reports'
+        → last_tree e reports ≡ last_tree d reports' }
 {}

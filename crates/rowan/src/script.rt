@@ -1,6 +1,11 @@
-//! Scripts: builder calls as values, their replay on a builder, and the elements of a tree by their places.
+//! Scripts: builder calls as values and their replay on a builder, steps through a tree as values and their trace, sessions of both,
+//! and the elements of a tree by their places.
+mod answers;
 mod calls;
 mod places;
+mod sessions;
+mod steps;
+mod traces;
 
 ghost use Rattle.std.specs.Prelude.{◌≡◌, IfOk, IfErr, OnErr};
 ghost use Rattle.rowan_green.specs.Loan.{value_of, word_of, loan_of};
@@ -10,9 +15,13 @@ ghost use Rattle.rowan.specs.Run.{Advances, Run};
 
 use crate::builder::{CacheHome, Checkpoint, GreenNodeBuilder};
 use crate::fault::Fault;
+pub use answers::Session;
 pub use calls::{Call, Outcome};
 pub use places::element_at;
+pub use sessions::session;
 use std::alloc::Global;
+pub use steps::{Report, Step};
+pub use traces::trace;
 
 /// Makes the calls on the builder, in order, and gives the outcome of each. A refused call leaves the builder as it was and
 /// ends nothing: the next call is made.

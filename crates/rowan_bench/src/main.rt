@@ -6,10 +6,12 @@ mod cursors;
 mod depth;
 mod draws;
 mod timed;
+mod walks;
 
 use anyhow::{Context, Result, bail};
 use children::{Edit, Memory};
 use depth::Operation;
+use rowan::cursor::SyntaxNode;
 use rowan::{GreenElement, NodeCache, Steps, TextSize};
 use rowan_tool::sexp;
 use std::process::ExitCode;
@@ -24,6 +26,7 @@ usage: rowan_bench depth parse|compare|show LEVELS
        rowan_bench search shared|own CHILDREN TIMES
        rowan_bench edit shared|own CHILDREN TIMES
        rowan_bench cursors fill|whole|walk|move|nodes TURNS
+       rowan_bench walks events|offset|cover|copy|equal TURNS
 
 depth   parses that many lists, one in the other, and then
           parse    drops the tree
@@ -43,7 +46,13 @@ cursors parses the s-expressions of standard input, and then in each turn
           whole    makes one, walks through the tree, and drops it
           walk     walks through the tree from a cursor that is there
           move     makes 1,000,000 moves from it between nodes and tokens, drawn from five
-          nodes    makes 1,000,000 moves from it between nodes, drawn from three";
+          nodes    makes 1,000,000 moves from it between nodes, drawn from three
+walks   parses the s-expressions of standard input, makes a cursor at the root, and then in each turn
+          events   goes through all events of a walk with tokens
+          offset   searches the tokens at 10,000 offsets, which are drawn
+          cover    searches the elements that cover 10,000 ranges of 0 to 63 bytes, which are drawn
+          copy     copies the text
+          equal    compares the text with an equal one";
 
 fn main(rt: HostRuntime) -> ExitCode {
     match run(&rt) {
@@ -70,6 +79,7 @@ fn run(rt: &HostRuntime) -> Result<()> {
         "search" => search(rt, words),
         "edit" => edit(rt, words),
         "cursors" => move_cursors(rt, words),
+        "walks" => walk(rt, words),
         _ => bail!("there is no such command"),
     }
 }
@@ -181,6 +191,19 @@ fn move_cursors(rt: &HostRuntime, words: &[String]) -> Result<()> {
         Some(it) => println!(rt; "{nanos} ns, {} places, last at {:?}", it.places, it.last)?,
         None => println!(rt; "{nanos} ns")?,
     }
+    Ok(())
+}
+
+fn walk(rt: &HostRuntime, words: &[String]) -> Result<()> {
+    let operation = walks::Operation::from_word(word_at(words, 1)).context(
+        "events, offset, cover, copy or equal is missing",
+    )?;
+    let turns = number_at(words, 2)?;
+    let text = io::read_to_string(rt.alloc(), rt.reader())?;
+    let parsed = sexp::parse(rt.alloc(), text.as_str())?;
+    let root = SyntaxNode::new_root(rt.alloc(), parsed.green().clone()?)?;
+    let (total, number) = walks::time(rt, &root, text.as_str(), operation, turns)?;
+    println!(rt; "{} ns, {number}", total.as_nanos())?;
     Ok(())
 }
 

@@ -11,18 +11,18 @@ use Rattle.rowan_green.specs.declared.utility_types.NodeOrToken.TheVariants.{Nod
 use Rattle.rowan_green.specs.Fits.{byte_limit}
 use Rattle.rowan_green.specs.Span.{Span}
 use Rattle.rowan_green.specs.Term.{NodeTerm, TokenTerm, Term}
-use Rattle.rowan_green.specs.Path.{Path, subterm, offset, len_of, text_of, begins}
+use Rattle.rowan_green.specs.Path.{Path, subterm, len_of, text_of, begins}
 use Rattle.rowan_cursor.specs.declared.table.Table.{Table}
 use Rattle.rowan_cursor.specs.declared.table.chunks.ChunkWalk.{ChunkWalk}
 use Rattle.rowan_cursor.specs.Chunks.{texts_at, remaining_leaves, remaining_texts, IsTokenInside, MayCut, IsWalk, slice_of, IsSliceOf}
 use Rattle.rowan_cursor.specs.Moves.{children_of, is_node, is_node_at, first_at}
 use Rattle.rowan_cursor.specs.Pass.{of_some, after, since, since_child, leaf_list, first_inside}
-use Rattle.rowan_cursor.specs.SyntaxText.{slice_text, token_texts, meets, common_part, cut_chunks, IsBorder, IsTextSlice}
-use Rattle.rowan_cursor.specs.TableView.{IsWithin, root_of, path_at}
+use Rattle.rowan_cursor.specs.SyntaxText.{slice_text, token_texts, meets, common_part, cut_chunks}
+use Rattle.rowan_cursor.specs.TableView.{root_of, path_at}
 use Rattle.rowan_cursor.proofs.LeafLemmas.{find-first, since_child-none}
 use Rattle.rowan_cursor.proofs.SliceLemmas.{slice_text-len}
 use Rattle.rowan_cursor.proofs.TableLemmas.{slice_get-some, is_entry}
-use Rattle.rowan_cursor.proofs.TextLemmas.{texts_at-below, text-tokens}
+use Rattle.rowan_cursor.proofs.TextLemmas.{texts_at-below}
 use Rattle.rowan_cursor.proofs.TokenLemmas.{all_below, after-outside, found_token, stands_at}
 
 -- Leaves that are left.
@@ -101,29 +101,13 @@ cut-back s t at o m =
     }
 
 -- The first of a walk.
-len-text : (t : Option Term) → length (text_of t) ≡ len_of t
+pub len-text : (t : Option Term) → length (text_of t) ≡ len_of t
 len-text None = refl
 len-text (Some t) = refl
 
 pub remaining_texts-start : (table : Table) (top : ℕ) (next : Option ℕ) → remaining_leaves table top next ≡ remaining_leaves table top (Some top) → remaining_texts table top next ≡ token_texts (subterm (Node (root_of table)) (path_at table top))
 remaining_texts-start table top next left =
     ap (texts_at (root_of table)) (left ∙ inside-own (root_of table) (path_at table top)) ∙ texts_at-below (root_of table) (path_at table top)
-
-pub walk_start : (table : Table) → (walk : ChunkWalk) → IsWithin table walk.node → IsTextSlice (slice_of table walk.node walk.range) → IfSome walk.next (IsTokenInside table walk.node) → remaining_leaves table walk.node walk.next ≡ remaining_leaves table walk.node (Some walk.node) → walk.at ≡ offset (Node (root_of table)) (path_at table walk.node) → IsWalk table walk
-walk_start table walk within slice token left at =
-    let e = slice_get-some table.entries.items walk.node within in
-    let entry = is_entry table.entries.items table.complete walk.node e.0 e.1 in
-    let u = subterm (Node (root_of table)) (path_at table walk.node) in
-    let text : concat (remaining_texts table walk.node walk.next) ≡ text_of u = ap concat (remaining_texts-start table walk.node walk.next left) ∙ text-tokens u in
-    let cut : (o : ℕ) → IsBorder (text_of u) (o - offset (Node (root_of table)) (path_at table walk.node)) → MayCut (concat (remaining_texts table walk.node walk.next)) walk.at o =
-    λ o b. record { border = λ l h. subst (λ v. IsCharBoundary v (o - walk.at)) (sym text) (subst (λ a. IsBorder (text_of u) (o - a)) (sym at) b (omega arith)) } in
-    record {
-      within = within;
-      token = token;
-      limit = omega (arith, ap length text, len-text u, at, entry.start, entry.end);
-      start_cut = cut walk.range.start slice.start_border;
-      end_cut = cut walk.range.end slice.end_border;
-    }
 
 -- a slice has no more bytes than an offset counts
 pub slice_fits : (table : Table) (n : ℕ) (range : Span) → IsSliceOf table n range → length (slice_text (slice_of table n range)) ≤ byte_limit

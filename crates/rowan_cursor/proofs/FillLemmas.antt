@@ -7,17 +7,17 @@ use Rattle.std.proofs.lemmas.List.{take-append-le, take_all, take-map, length-ta
 use Rattle.std.proofs.lemmas.List.Sums.{sum_by-cons}
 use Rattle.std.proofs.lemmas.Option.{slice_get_within, same_Some, get_or_from_slice_get}
 use Rattle.rowan_green.specs.declared.utility_types.NodeOrToken.TheVariants.{Node, Token}
-use Rattle.rowan_green.specs.Fits.{byte_limit, Fits, FitsNode}
+use Rattle.rowan_green.specs.Fits.{byte_limit, FitsNode}
 use Rattle.rowan_green.specs.Lent.{into_node}
 use Rattle.rowan_green.specs.Search.{child_start}
 use Rattle.rowan_green.specs.Sizes.{term_size, terms_size}
-use Rattle.rowan_green.specs.Term.{NodeTerm, node, Term, node_children, term_len, sum_of_lens}
+use Rattle.rowan_green.specs.Term.{NodeTerm, Term, node_children, term_len, sum_of_lens}
 use Rattle.rowan_green.proofs.CacheLemmas.{slice_get-grown, slice_get-cases}
 use Rattle.rowan_green.proofs.Drops.{terms_size-node_children}
 use Rattle.rowan_green.proofs.SearchLemmas.{child_start-le_all}
+use Rattle.rowan_green.proofs.Terms.{Fits-len}
 use Rattle.rowan_cursor.specs.Table.{IsDraft, GrowsBy, node_in, root_node, green_of, offset_of, green_in, offset_in, children_in, len_in, counts, IsTop, IsChildOf}
 use Rattle.rowan_cursor.specs.declared.table.Entry.{Entry}
-use Rattle.rowan_cursor.proofs.PathLemmas.{node_len-children}
 use Rattle.rowan_cursor.proofs.TableLemmas.{counts-more, child_end, sum_of_lens-children}
 
 -- ---- lists
@@ -60,12 +60,6 @@ counts-front : (es ds : List Entry) (gs : List (Option NodeTerm)) (n : ℕ) → 
 counts-front es ds gs n within h = counts-greens (take n es) (take n ds) (
     sym (take-map green_of n ds) ∙ ap (take n) h
     ∙ take-append-le n (map green_of es) gs (omega (arith, length-map es green_of)) ∙ take-map green_of n es)
-
--- ---- lengths
-
-pub Fits-len : (t : Term) → Fits t → term_len t ≤ byte_limit
-Fits-len (Node (node k f)) h = omega (arith, h.0.text, node_len-children (node k f))
-Fits-len (Token t) h = h
 
 -- ---- one more entry
 

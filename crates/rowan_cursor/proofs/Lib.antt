@@ -16,9 +16,11 @@ pub mod RowViews
 pub mod SameLemmas
 pub mod SearchLemmas
 pub mod SizeLemmas
+pub mod SkipLemmas
 pub mod SliceLemmas
 pub mod TableLemmas
 pub mod TextLemmas
 pub mod TokenLemmas
 pub mod TouchLemmas
 pub mod TraversalLemmas
+pub mod WordLaws

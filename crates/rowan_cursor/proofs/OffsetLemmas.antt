@@ -40,7 +40,7 @@ fill-join t p u there start (q ∷ qs) end h =
 
 -- ---- the leaves of a term
 
-drop-first : (m : ℕ) (ts : List Term) (t : Term) (us : List Term) → drop m ts ≡ t ∷ us → (slice_get ts m ≡ Some t) × (drop (suc m) ts ≡ us)
+pub drop-first : (m : ℕ) (ts : List Term) (t : Term) (us : List Term) → drop m ts ≡ t ∷ us → (slice_get ts m ≡ Some t) × (drop (suc m) ts ≡ us)
 drop-first zero [] t us h = absurd cc
 drop-first zero (s ∷ ts) t us h = (cc, cc)
 drop-first (suc m) [] t us h = absurd cc
@@ -81,7 +81,7 @@ mutual
       fill-to (Node n) 0 (leaf_list (Node n)) (sum_of_lens (node_children n)) (node_len n) (sym (node_len-children n))
       (subst (λ qs. Fill (Node n) 0 qs (sum_of_lens (node_children n))) (sym (leaf_list-node n)) (row-fills n 0 f refl))
 
-  row-fills : (n : NodeTerm) (m : ℕ) (f : Forest) → drop m (node_children n) ≡ terms f → Fill (Node n) (child_start (node_children n) m) (below_children leaf_list m (terms f)) (sum_of_lens (node_children n))
+  pub row-fills : (n : NodeTerm) (m : ℕ) (f : Forest) → drop m (node_children n) ≡ terms f → Fill (Node n) (child_start (node_children n) m) (below_children leaf_list m (terms f)) (sum_of_lens (node_children n))
   row-fills n m empty h = ap sum_of_lens (take_all m (node_children n) (drop-none m (node_children n) h))
   row-fills n m (node_then c f) h =
       let ts = node_children n in

@@ -1,15 +1,15 @@
 -- Laws of paths: the offset of a child, and the steps of the moves.
-use Rattle.std.proofs.Common.{◌≡◌, ℕ, zero, suc, ◌+◌, ◌<◌, true, false, ◌&&◌, List, [], ◌∷◌, ◌++◌, length, Option, Some, None, refl, sym, ◌∙◌, ap, arith, ◌-◌, reverse, ◌⊎◌, inl, inr}
+use Rattle.std.proofs.Common.{◌≡◌, ℕ, zero, suc, ◌+◌, ◌<◌, false, List, [], ◌∷◌, ◌++◌, length, Option, Some, None, refl, sym, ◌∙◌, ap, arith, ◌-◌, reverse, ◌⊎◌, inl, inr}
 use Rattle.std.specs.Prelude.{slice_get}
-use Rattle.std.proofs.lemmas.Bool.{cases_order, true≢false, eq-eqb, ne_eqb}
 use Rattle.std.specs.Option.{option_map, option_map_or}
 use Rattle.rowan_green.specs.declared.utility_types.NodeOrToken.TheVariants.{Node, Token}
-use Rattle.rowan_green.specs.Term.{NodeTerm, node, Term, terms, node_children, node_len, sum_of_lens}
+use Rattle.rowan_green.specs.Term.{NodeTerm, node, Term, node_children, node_len}
 use Rattle.rowan_green.specs.Path.{Path, term_children, subterm_of, subterm, begins, offset, len_of}
 use Rattle.rowan_green.specs.Search.{child_start}
 use Rattle.rowan_green.proofs.OffsetLemmas.{offset_of, lens_before-node, offset-lens, offset-join}
-use Rattle.rowan_green.proofs.Paths.{offset-empty}
-use Rattle.rowan_green.proofs.Terms.{forest-terms, node_len-node_of}
+use Rattle.rowan_green.proofs.Paths.{offset-empty, begins-other}
+pub use Rattle.rowan_green.proofs.Paths.{subterm_of-append, subterm_of-here, begins-same, begins-own, begins-self, begins-rest}
+pub use Rattle.rowan_green.proofs.Terms.{node_len-children}
 use Rattle.rowan_cursor.specs.Cursor.{last_index}
 use Rattle.rowan_cursor.specs.Moves.{parent_path, children_of, numbers, below, child_count, first_at, following, preceding}
 
@@ -29,7 +29,7 @@ offset-child root p i h = at (subterm (Node root) p) refl h
     at (Some (Token t)) e h = absurd (omega arith)
     at (Some (Node n)) e h = offset-node_child (Node root) p i n e
 
--- Where the next child starts, and the length of a node by its children.
+-- where the next child starts
 pub child_start-next : (ts : List Term) (i : ℕ) → i < length ts → child_start ts (i + 1) ≡ child_start ts i + len_of (slice_get ts i)
 child_start-next [] i h = absurd (omega arith)
 child_start-next (t ∷ ts) zero h = omega arith
@@ -37,19 +37,7 @@ child_start-next (t ∷ ts) (suc i) h =
     let next : suc i + 1 ≡ suc (i + 1) = omega arith in
     omega (arith, ap (child_start (t ∷ ts)) next, child_start-next ts i (omega arith))
 
-pub node_len-children : (n : NodeTerm) → node_len n ≡ sum_of_lens (node_children n)
-node_len-children (node k f) = ap (λ g. node_len (node k g)) (sym (forest-terms f)) ∙ node_len-node_of k (terms f)
-
--- Going down: the subterm at a longer path, and at a child.
-pub subterm_of-append : (t : Option Term) (p q : Path) → subterm_of t (p ++ q) ≡ subterm_of (subterm_of t p) q
-subterm_of-append None p q = refl
-subterm_of-append (Some t) [] q = refl
-subterm_of-append (Some t) (i ∷ p) q = subterm_of-append (slice_get (term_children t) i) p q
-
-pub subterm_of-here : (t : Option Term) → subterm_of t [] ≡ t
-subterm_of-here None = refl
-subterm_of-here (Some t) = refl
-
+-- going down to a child
 pub subterm-child : (t : Option Term) (p : Path) (i : ℕ) → subterm_of t (p ++ i ∷ []) ≡ slice_get (children_of (subterm_of t p)) i
 subterm-child t p i = subterm_of-append t p (i ∷ []) ∙ below (subterm_of t p)
   where
@@ -90,29 +78,6 @@ pub last-split : (p : Path) → (p ≡ []) ⊎ ((q : Path) × (i : ℕ) × (p �
 last-split [] = inl refl
 last-split (i ∷ p) = inr (elim (last-split p) [ inl e ↦ ([], i, ap (λ q. i ∷ q) e) | inr s ↦ (i ∷ s.0, s.1, ap (λ q. i ∷ q) s.2) ])
 
--- Paths with a common beginning.
-pub begins-same : (i : ℕ) (p q : Path) → begins (i ∷ p) (i ∷ q) ≡ begins p q
-begins-same i p q = ap (λ b. b && begins p q) (eq-eqb i i refl)
-
-pub begins-own : (p q : Path) → begins p (p ++ q) ≡ true
-begins-own [] q = refl
-begins-own (i ∷ p) q = begins-same i p (p ++ q) ∙ begins-own p q
-
+-- paths that differ in the first place
 pub not-begins : (i j : ℕ) (p q : Path) → (i < j) ⊎ (j < i) → begins (i ∷ p) (j ∷ q) ≡ false
-not-begins i j p q h = elim h [
-  | inl l ↦ ap (λ b. b && begins p q) (ne_eqb i j (λ e. omega (arith, l, e)))
-  | inr l ↦ ap (λ b. b && begins p q) (ne_eqb i j (λ e. omega (arith, l, e)))
-]
-
--- What begins with a path goes on from it.
-pub begins-rest : (p q : Path) → begins p q ≡ true → (r : Path) × (q ≡ p ++ r)
-begins-rest [] q h = (q, refl)
-begins-rest (i ∷ p) [] h = absurd (true≢false (sym h))
-begins-rest (i ∷ p) (j ∷ q) h = elim (cases_order i j) [
-  | inl e ↦ (let s = begins-rest p q (sym (begins-same j p q) ∙ ap (λ k. begins (k ∷ p) (j ∷ q)) (sym e) ∙ h) in (s.0, ap (λ k. k ∷ q) (sym e) ∙ ap (λ u. i ∷ u) s.1))
-  | inr r ↦ absurd (true≢false (sym h ∙ not-begins i j p q r))
-]
-
-pub begins-self : (p : Path) → begins p p ≡ true
-begins-self [] = refl
-begins-self (i ∷ p) = begins-same i p p ∙ begins-self p
+not-begins i j p q h = begins-other i j p q (λ e. elim h [ inl l ↦ omega (arith, e, l) | inr l ↦ omega (arith, e, l) ])

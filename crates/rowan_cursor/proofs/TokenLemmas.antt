@@ -36,7 +36,7 @@ nearest : (p : Path) (n : ℕ) → first_at (below p (reverse (numbers 0 n))) �
 nearest p n = ap first_at (map-reverse (λ i. p ++ i ∷ []) (numbers 0 n))
 
 -- Inside an element.
-begins-longer : (top p q : Path) → begins top p ≡ true → begins top (p ++ q) ≡ true
+pub begins-longer : (top p q : Path) → begins top p ≡ true → begins top (p ++ q) ≡ true
 begins-longer top p q h =
     let r = begins-rest top p h in
     ap (λ u. begins top (u ++ q)) r.1 ∙ ap (begins top) (append_assoc top r.0 q) ∙ begins-own top (r.0 ++ q)

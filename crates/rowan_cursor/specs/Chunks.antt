@@ -9,6 +9,7 @@ use Rattle.rowan_green.specs.Term.{NodeTerm}
 use Rattle.rowan_green.specs.Path.{Path, subterm, text_of, begins}
 use Rattle.rowan_cursor.specs.declared.table.Table.{Table}
 use Rattle.rowan_cursor.specs.declared.table.chunks.ChunkWalk.{ChunkWalk}
+use Rattle.rowan_cursor.specs.Equal.{start_of}
 use Rattle.rowan_cursor.specs.Pass.{since, leaf_list}
 use Rattle.rowan_cursor.specs.SyntaxText.{TextSlice, cut_chunks, IsTextSlice}
 use Rattle.rowan_cursor.specs.TablePass.{StandsInside}
@@ -49,6 +50,15 @@ pub record IsWalk (table : Table) (walk : ChunkWalk) : Type 0 where
 -- the chunks that are still to come
 abbrev pub remaining_chunks : Table → ChunkWalk → List (List ℕ)
 remaining_chunks table walk = cut_chunks walk.range walk.at (remaining_texts table walk.node walk.next)
+
+-- of the tokens inside the element with the number top, those before the element with the number n
+-- end before an offset
+pub record SkipsTo (table : Table) (x top n : ℕ) : Type 0 where
+  pub place : StandsInside table top n
+  pub texts : List (List ℕ)
+  pub parts : remaining_texts table top (Some top) ≡ texts ++ remaining_texts table top (Some n)
+  pub start : start_of (cursor_of table n) ≡ start_of (cursor_of table top) + length (concat texts)
+  pub early : 0 < length texts → start_of (cursor_of table n) < x
 
 -- a range of the text of the node with this number, as a slice
 abbrev pub slice_of : Table → ℕ → Span → TextSlice

@@ -10,10 +10,11 @@ use Rattle.rowan_green.specs.declared.utility_types.NodeOrToken.TheVariants.{Nod
 use Rattle.rowan_green.specs.declared.utility_types.WalkEvent.{WalkEvent}
 use Rattle.rowan_green.specs.declared.utility_types.WalkEvent.TheVariants.{Enter, Leave}
 use Rattle.rowan_green.specs.WalkEvent.{event_value}
-use Rattle.rowan_green.specs.Term.{NodeTerm, node, Forest, empty, node_then, token_then, Term}
+use Rattle.rowan_green.specs.Term.{NodeTerm, node, Forest, empty, node_then, token_then, Term, node_kind}
+use Rattle.rowan_green.specs.Word.{Symbol, Open, Leaf, Close}
 use Rattle.rowan_green.specs.Path.{Path, subterm, begins}
-use Rattle.rowan_cursor.specs.Cursor.{Cursor}
-use Rattle.rowan_cursor.specs.Moves.{Element, cursor_at, element_at, is_node_at, nodes_at}
+use Rattle.rowan_cursor.specs.Cursor.{Cursor, term_at}
+use Rattle.rowan_cursor.specs.Moves.{Element, cursor_at, element_at, place_of, is_node_at, nodes_at}
 use Rattle.rowan_cursor.specs.Pass.{element_list}
 use Rattle.rowan_cursor.specs.Yields.{Rest}
 
@@ -77,6 +78,25 @@ descendants_with_tokens c = map (element_at c.root) (descendant_paths c.root c.p
 -- a cursor and all nodes below it
 abbrev pub descendants : Cursor → List Cursor
 descendants c = map (cursor_at c.root) (nodes_at c.root (descendant_paths c.root c.path))
+
+-- ---- words
+
+-- the symbol where the word of a term begins: the opening of a node, a token itself
+abbrev pub opening : Option Term → List Symbol
+opening None = []
+opening (Some (Node n)) = Open (node_kind n) ∷ []
+opening (Some (Token t)) = Leaf t ∷ []
+
+-- the symbol where the word of a node ends; the end of a token has none
+abbrev pub closing : Option Term → List Symbol
+closing None = []
+closing (Some (Node n)) = Close ∷ []
+closing (Some (Token t)) = []
+
+-- an event as a symbol: an Enter as where its element's word begins, a Leave as where it ends
+abbrev pub event_symbols : WalkEvent Element → List Symbol
+event_symbols (Enter e) = opening (term_at (place_of e))
+event_symbols (Leave e) = closing (term_at (place_of e))
 
 -- ---- skips
 

@@ -1,4 +1,5 @@
--- Searches by place: the child at a range of the root's text, the element that covers a range, and the tokens at an offset.
+-- Searches by place: the child at a range of the root's text, the element that covers a range, and the tokens at an offset;
+--     and the last child that starts before an offset, by which a search for the first token of a range goes down.
 --     The chain of a range goes from an element to its child at the range, to that one's child, and so on, until there is none.
 --     The covering element is the last of it.
 --     The leaves that touch an offset are those with bytes in whose range the offset lies, the ends of the range included.
@@ -10,7 +11,7 @@ use Rattle.rowan_green.specs.Path.{Path, subterm, begins, offset, range}
 use Rattle.rowan_green.specs.Search.{IsChildAt}
 use Rattle.rowan_green.specs.Span.{Span}
 use Rattle.rowan_cursor.specs.Cursor.{Cursor}
-use Rattle.rowan_cursor.specs.Moves.{Element, element_at, cursor_at, children_of, leaf_paths}
+use Rattle.rowan_cursor.specs.Moves.{Element, element_at, cursor_at, children_of, child_count, leaf_paths}
 
 -- one range lies in another
 abbrev pub LiesIn : Span → Span → Type 0
@@ -41,6 +42,14 @@ pub record Covers (root : NodeTerm) (span : Span) (p q : Path) : Type 0 where
   pub chain : List Path
   pub is : IsChain root span p chain
   pub last : q ≡ chain_end p chain
+
+-- the element at q is the last child of that at p that starts before an offset; the first child, if none starts before it
+pub record IsChildBefore (root : NodeTerm) (x : ℕ) (p q : Path) : Type 0 where
+  pub place : ℕ
+  pub path : q ≡ p ++ place ∷ []
+  pub count : place < child_count root p
+  pub before : 0 < place → offset (Node root) q < x
+  pub behind : (j : ℕ) → place < j → j < child_count root p → x ≤ offset (Node root) (p ++ j ∷ [])
 
 -- whether the text at a path has bytes, and the offset lies in its range or is an end of it
 abbrev pub touches : NodeTerm → ℕ → Path → Bool

@@ -1,13 +1,14 @@
 //! Laws of cursors, each as the contract of a function that does nothing.
 ghost use Rattle.std.specs.Prelude.{◌≡◌, ℕ, ◌<◌, false, List, [], ◌∷◌, ◌++◌, ◌↔◌, IsTrue, Some, None, length};
-ghost use Rattle.std.specs.List.{concat};
+ghost use Rattle.std.specs.List.{concat, flat_map};
 ghost use Rattle.rowan_green.specs.declared.utility_types.NodeOrToken.TheVariants.{Node};
 ghost use Rattle.rowan_green.specs.Path.{Path, offset};
 ghost use Rattle.rowan_green.specs.Span.{Span};
 ghost use Rattle.rowan_green.specs.Term.{Term};
+ghost use Rattle.rowan_green.specs.Word.{term_word};
 ghost use Rattle.rowan_cursor.specs.Cursor.{Cursor, term_at, text_at, text_range};
 ghost use Rattle.rowan_cursor.specs.Equal.{same_place, start_of};
-ghost use Rattle.rowan_cursor.specs.Preorder.{preorder_with_tokens, preorder, descendants_with_tokens, descendants, entered_by};
+ghost use Rattle.rowan_cursor.specs.Preorder.{preorder_with_tokens, preorder, descendants_with_tokens, descendants, entered_by, event_symbols};
 ghost use Rattle.rowan_cursor.specs.PreorderRuns.{WalkCall, output_of, rest_after, LeavesAll};
 ghost use Rattle.rowan_cursor.specs.Moves.{Element, place_of, cursor_at};
 ghost use Rattle.rowan_cursor.specs.Search.{LiesIn, IsCovering, FindsChild, IsLeafOver, tokens_at};
@@ -40,6 +41,12 @@ pub fn walks_enter_the_descendants()
     ensures with_tokens { (c : Cursor) →
         entered_by (preorder_with_tokens c) ≡ descendants_with_tokens c }
     ensures nodes { (c : Cursor) → entered_by (preorder c) ≡ descendants c }
+{}
+
+/// The events of a walk with tokens, read as symbols, are the word of the subtree.
+pub fn walks_spell_the_subtree()
+    ensures { (c : Cursor) (t : Term) → term_at c ≡ Some t
+        → flat_map event_symbols (preorder_with_tokens c) ≡ term_word t }
 {}
 
 /// The element that covers a range has it, and has no child at the range.

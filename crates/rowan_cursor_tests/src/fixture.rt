@@ -35,6 +35,39 @@ pub const MIXED: [Call; 10] = [
     Call::Close,
 ];
 
+/// The tree of `(+ (* 15 2) 62)`.
+pub const SUM: [Call; 29] = [
+    Call::Open(ROOT),
+    Call::Open(LIST),
+    Call::Word("("),
+    Call::Open(ATOM),
+    Call::Word("+"),
+    Call::Close,
+    Call::Word(" "),
+    Call::Open(LIST),
+    Call::Word("("),
+    Call::Open(ATOM),
+    Call::Word("*"),
+    Call::Close,
+    Call::Word(" "),
+    Call::Open(ATOM),
+    Call::Word("15"),
+    Call::Close,
+    Call::Word(" "),
+    Call::Open(ATOM),
+    Call::Word("2"),
+    Call::Close,
+    Call::Word(")"),
+    Call::Close,
+    Call::Word(" "),
+    Call::Open(ATOM),
+    Call::Word("62"),
+    Call::Close,
+    Call::Word(")"),
+    Call::Close,
+    Call::Close,
+];
+
 fn make<H: CacheHome>(builder: &mut GreenNodeBuilder<'_, H>, call: Call) -> Result<(), Fault> {
     match call {
         Call::Open(kind) => builder.start_node(SyntaxKind(kind)),

@@ -12,6 +12,10 @@ mod example;
 #[cfg(test)]
 mod fixture;
 #[cfg(test)]
+mod limits;
+#[cfg(test)]
+mod replacements;
+#[cfg(test)]
 mod searches;
 #[cfg(test)]
 mod table;

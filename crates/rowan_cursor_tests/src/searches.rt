@@ -1,5 +1,5 @@
 //! Searches at ranges and offsets.
-use crate::fixture::{ATOM, Call, LIST, ROOT, Shown, WORD, element, root_of, token};
+use crate::fixture::{ATOM, Call, LIST, ROOT, SUM, Shown, WORD, element, root_of, token};
 use rowan::cursor::SyntaxNode;
 use rowan::{Fault, TextRange, TextSize};
 use std::test::Fail;
@@ -20,39 +20,6 @@ const AROUND_A_TOKEN: [Call; 5] = [
     Call::Word("ab"),
     Call::Word(""),
     Call::Word("cd"),
-    Call::Close,
-];
-
-/// The tree of `(+ (* 15 2) 62)`.
-const SUM: [Call; 29] = [
-    Call::Open(ROOT),
-    Call::Open(LIST),
-    Call::Word("("),
-    Call::Open(ATOM),
-    Call::Word("+"),
-    Call::Close,
-    Call::Word(" "),
-    Call::Open(LIST),
-    Call::Word("("),
-    Call::Open(ATOM),
-    Call::Word("*"),
-    Call::Close,
-    Call::Word(" "),
-    Call::Open(ATOM),
-    Call::Word("15"),
-    Call::Close,
-    Call::Word(" "),
-    Call::Open(ATOM),
-    Call::Word("2"),
-    Call::Close,
-    Call::Word(")"),
-    Call::Close,
-    Call::Word(" "),
-    Call::Open(ATOM),
-    Call::Word("62"),
-    Call::Close,
-    Call::Word(")"),
-    Call::Close,
     Call::Close,
 ];
 

@@ -9,6 +9,7 @@ use Rattle.rowan_green.specs.Path.{Path, term_children, subterm_of, subterm, wit
 use Rattle.rowan_green.specs.Term.{NodeTerm, Term, terms, forest, node_of, node_kind, node_children, term_kind, term_len, sum_of_lens}
 use Rattle.rowan_green.proofs.EditLaws.{replaced-within, replaced-itself, replaced-absent}
 use Rattle.rowan_green.proofs.EditLemmas.{replaced-past}
+use Rattle.rowan_green.proofs.Paths.{subterm_of-append}
 use Rattle.rowan_green.proofs.SeparateLemmas.{Part, part-separate, separate-sym}
 use Rattle.rowan_green.proofs.Terms.{terms-forest}
 
@@ -98,11 +99,6 @@ child-put t i u p w h = let c = child-of (slice_get (term_children t) i) p w h i
 
 -- ---- what stands where
 
-pub subterm_of-join : (t : Option Term) (p q : Path) → subterm_of t (p ++ q) ≡ subterm_of (subterm_of t p) q
-subterm_of-join None p q = refl
-subterm_of-join (Some t) [] q = refl
-subterm_of-join (Some t) (i ∷ p) q = subterm_of-join (slice_get (term_children t) i) p q
-
 put_of-here : (t : Option Term) (u : Term) → put_of t [] u ≡ u
 put_of-here None u = refl
 put_of-here (Some t) u = refl
@@ -150,7 +146,7 @@ subterm-apart t p q u r = at (subterm t p) refl
 
 -- below the path stands what stands in the new subterm
 pub subterm-put_below : (t : Term) (p q : Path) (u w : Term) → subterm t p ≡ Some w → subterm (put t p u) (p ++ q) ≡ subterm u q
-subterm-put_below t p q u w h = subterm_of-join (Some (put t p u)) p q ∙ ap (λ o. subterm_of o q) (subterm-put t p u w h)
+subterm-put_below t p q u w h = subterm_of-append (Some (put t p u)) p q ∙ ap (λ o. subterm_of o q) (subterm-put t p u w h)
 
 -- a replacement further down is one in the subterm on the way
 put_of-join : (t : Option Term) (p q : Path) (u v : Term) → subterm_of t p ≡ Some v → put_of t (p ++ q) u ≡ put_of t p (put v q u)

@@ -9,8 +9,7 @@ use Rattle.rowan_green.specs.Path.{Path, term_children, subterm_of, subterm, wit
 use Rattle.rowan_green.specs.Term.{NodeTerm, node, Forest, empty, node_then, token_then, Term, terms, node_kind, node_children, term_len, sum_of_lens}
 use Rattle.rowan_green.proofs.EditLemmas.{not_within}
 use Rattle.rowan_green.proofs.PutLemmas.{replaced-set, get-set, subterm-put, put-child}
-use Rattle.rowan_green.proofs.PutRanges.{node_len-children}
-use Rattle.rowan_green.proofs.Terms.{terms-forest, node_len-node_of, FitsNode-node_of}
+use Rattle.rowan_green.proofs.Terms.{terms-forest, node_len-node_of, FitsNode-node_of, Fits-len}
 
 -- ---- what is in a term that fits
 
@@ -42,11 +41,6 @@ Fits-subterm t (i ∷ p) w e h = at (λ c. Fits-subterm c p w) (slice_get (term_
     at : ((c : Term) → subterm c p ≡ Some w → Fits c → Fits w) → (o : Option Term) → slice_get (term_children t) i ≡ o → subterm_of o p ≡ Some w → Fits w
     at below None is there = absurd cc
     at below (Some c) is there = below c there (fits-child t i c is h)
-
--- a term that fits has at most as many bytes as the limit
-pub Fits-len : (t : Term) → Fits t → term_len t ≤ byte_limit
-Fits-len (Node (node k f)) h = omega (arith, h.0.text, node_len-children (node k f))
-Fits-len (Token t) h = h
 
 -- ---- what a replacement that fits has in it
 

@@ -30,9 +30,9 @@ subterm-made t (r ∷ rs) last q m h =
     ∙ subterm-apart t r.path q r.new (first-of (λ s. separate s.path q ≡ true) r rs h)
 
 -- a new subterm, if the later ones are all at separate paths
-pub subterm-new : (t : Term) (before : List Replacement) (r : Replacement) (after : List Replacement) (last : Term) → Makes t (before ++ r ∷ after) last → SeparateFromAll r.path after → subterm last r.path ≡ Some r.new
-subterm-new t [] r after last m h = subterm-made (put t r.path r.new) after last r.path m.2 h ∙ subterm-put t r.path r.new m.0 m.1
-subterm-new t (s ∷ before) r after last m h = subterm-new (put t s.path s.new) before r after last m.2 h
+pub subterm-new : (t : Term) (before after : List Replacement) (r : Replacement) (last : Term) → Makes t (before ++ r ∷ after) last → SeparateFromAll r.path after → subterm last r.path ≡ Some r.new
+subterm-new t [] after r last m h = subterm-made (put t r.path r.new) after last r.path m.2 h ∙ subterm-put t r.path r.new m.0 m.1
+subterm-new t (s ∷ before) after r last m h = subterm-new (put t s.path s.new) before after r last m.2 h
 
 -- where the range of a path goes that is separate from all
 pub range-made : (t : Term) (rs : List Replacement) (last : Term) (q : Path) → Makes t rs last → SeparateFromAll q rs → range last q ≡ moved_in_turn t rs q (range t q)

@@ -8,17 +8,14 @@ use Rattle.rowan_green.specs.Edits.{replaced}
 use Rattle.rowan_green.specs.Path.{Path, subterm_of, subterm, stands_before, len_of, offset, range, with_child, put_of, put, separate, shifted, moved, moved_range}
 use Rattle.rowan_green.specs.Search.{child_start}
 use Rattle.rowan_green.specs.Span.{Span, EndsBefore}
-use Rattle.rowan_green.specs.Term.{NodeTerm, node, Term, terms, node_of, node_kind, node_children, node_len, term_len, sum_of_lens}
+use Rattle.rowan_green.specs.Term.{NodeTerm, Term, node_of, node_kind, node_children, term_len, sum_of_lens}
 use Rattle.rowan_green.proofs.OffsetLemmas.{before_at_less, before_at_same, before_at_greater, offset_of, offset-lens, lens_before-node, offset_of-within}
 use Rattle.rowan_green.proofs.Paths.{offset-empty}
 use Rattle.rowan_green.proofs.PutLemmas.{child-of, replaced-set, get-set, get-set_other, sum-set, term_children-with_child, put-absent, subterm-apart}
 use Rattle.rowan_green.proofs.SeparateLemmas.{Part, part-separate}
-use Rattle.rowan_green.proofs.Terms.{forest-terms, node_len-node_of}
+use Rattle.rowan_green.proofs.Terms.{node_len-node_of, node_len-children}
 
 -- ---- lengths
-
-pub node_len-children : (n : NodeTerm) → node_len n ≡ sum_of_lens (node_children n)
-node_len-children (node k f) = ap (λ g. node_len (node k g)) (sym (forest-terms f)) ∙ node_len-node_of k (terms f)
 
 -- the length of a node with another child
 len-with_child : (n : NodeTerm) (i : ℕ) (x : Term) → term_len (with_child (Node n) i x) ≡ sum_of_lens (set (node_children n) i x)

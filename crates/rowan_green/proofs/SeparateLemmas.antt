@@ -1,23 +1,18 @@
 -- Paths beside one another, below one another, and in order: how `separate`, `begins` and `stands_before` answer.
-use Rattle.std.proofs.Common.{◌≡◌, ◌≢◌, ℕ, Bool, true, false, not, ◌&&◌, [], ◌∷◌, ◌++◌, ◌⊎◌, inl, inr, refl, sym, ◌∙◌, ap, true≢false, eq-eqb, ne_eqb}
+use Rattle.std.proofs.Common.{◌≡◌, ◌≢◌, ℕ, Bool, true, false, not, ◌&&◌, [], ◌∷◌, ◌++◌, ◌⊎◌, inl, inr, refl, sym, ◌∙◌, ap, true≢false}
 use Rattle.std.proofs.Math.Bool.{and_comm}
 use Rattle.std.proofs.lemmas.Bool.{cases_eq, cases_order}
 use Rattle.rowan_green.specs.Path.{Path, begins, separate, stands_before}
+use Rattle.rowan_green.proofs.Paths.{begins-same, begins-other}
 use Rattle.rowan_green.proofs.OffsetLemmas.{before_at_less, before_at_same, before_at_greater}
 
 -- Tests of the first place.
-begins_at_same : (i : ℕ) (p q : Path) → begins (i ∷ p) (i ∷ q) ≡ begins p q
-begins_at_same i p q = ap (λ b. b && begins p q) (eq-eqb i i refl)
-
-begins_at_other : (i j : ℕ) (p q : Path) → i ≢ j → begins (i ∷ p) (j ∷ q) ≡ false
-begins_at_other i j p q n = ap (λ b. b && begins p q) (ne_eqb i j n)
-
 separate_at_same : (i : ℕ) (p q : Path) → separate (i ∷ p) (i ∷ q) ≡ separate p q
-separate_at_same i p q = ap (λ b. not b && not (begins (i ∷ q) (i ∷ p))) (begins_at_same i p q) ∙ ap (λ b. not (begins p q) && not b) (begins_at_same i q p)
+separate_at_same i p q = ap (λ b. not b && not (begins (i ∷ q) (i ∷ p))) (begins-same i p q) ∙ ap (λ b. not (begins p q) && not b) (begins-same i q p)
 
 separate_at_other : (i j : ℕ) (p q : Path) → i ≢ j → separate (i ∷ p) (j ∷ q) ≡ true
 separate_at_other i j p q n =
-    ap (λ b. not b && not (begins (j ∷ q) (i ∷ p))) (begins_at_other i j p q n) ∙ ap (λ b. not false && not b) (begins_at_other j i q p (λ e. n (sym e)))
+    ap (λ b. not b && not (begins (j ∷ q) (i ∷ p))) (begins-other i j p q n) ∙ ap (λ b. not false && not b) (begins-other j i q p (λ e. n (sym e)))
 
 -- separate paths, by the place at which they part
 abbrev pub Part : Path → Path → Type 0

@@ -1,8 +1,8 @@
 -- Laws of terms: the two forms of a list of children, and the lengths of what is joined.
-use Rattle.std.proofs.Common.{◌≡◌, ℕ, ◌+◌, List, [], ◌∷◌, ◌++◌, length, refl, ◌∙◌, ap, arith, length-append}
+use Rattle.std.proofs.Common.{◌≡◌, ℕ, ◌+◌, List, [], ◌∷◌, ◌++◌, length, ◌≤◌, refl, sym, ◌∙◌, ap, arith, length-append}
 use Rattle.rowan_green.specs.declared.utility_types.NodeOrToken.TheVariants.{Node, Token}
-use Rattle.rowan_green.specs.Term.{Forest, empty, node_then, token_then, Term, terms, forest, node_of, forest_text, term_text, joined_text, node_len, term_len, sum_of_lens}
-use Rattle.rowan_green.specs.Fits.{AreWithin, Fits, FitsNode, FitForest, AllFit}
+use Rattle.rowan_green.specs.Term.{NodeTerm, node, Forest, empty, node_then, token_then, Term, terms, forest, node_of, node_children, forest_text, term_text, joined_text, node_len, term_len, sum_of_lens}
+use Rattle.rowan_green.specs.Fits.{byte_limit, AreWithin, Fits, FitsNode, FitForest, AllFit}
 
 pub terms-forest : (ts : List Term) → terms (forest ts) ≡ ts
 terms-forest [] = refl
@@ -28,6 +28,9 @@ length-joined_text (t ∷ ts) = length-append (term_text t) (joined_text ts) ∙
 pub node_len-node_of : (k : ℕ) (ts : List Term) → node_len (node_of k ts) ≡ sum_of_lens ts
 node_len-node_of k ts = ap length (forest_text-forest ts) ∙ length-joined_text ts
 
+pub node_len-children : (n : NodeTerm) → node_len n ≡ sum_of_lens (node_children n)
+node_len-children (node k f) = ap (λ g. node_len (node k g)) (sym (forest-terms f)) ∙ node_len-node_of k (terms f)
+
 pub sum_of_lens-append : (ts us : List Term) → sum_of_lens (ts ++ us) ≡ sum_of_lens ts + sum_of_lens us
 sum_of_lens-append [] us = omega arith
 sum_of_lens-append (t ∷ ts) us = omega (arith, sum_of_lens-append ts us)
@@ -43,3 +46,8 @@ FitsNode-node_of k ts w h = (let P : List Term → Type 0 = AreWithin in rw term
 pub AllFit-push : (ts : List Term) (t : Term) → AllFit ts → Fits t → AllFit (ts ++ t ∷ [])
 AllFit-push [] t h f = (f, tt)
 AllFit-push (u ∷ ts) t h f = (h.0, AllFit-push ts t h.1 f)
+
+-- a term that fits has at most as many bytes as the limit
+pub Fits-len : (t : Term) → Fits t → term_len t ≤ byte_limit
+Fits-len (Node (node k f)) h = omega (arith, h.0.text, node_len-children (node k f))
+Fits-len (Token t) h = h

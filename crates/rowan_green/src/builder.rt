@@ -271,6 +271,17 @@ impl<H: CacheHome> GreenNodeBuilder<'_, H> {
         self.inner.start_node_at(checkpoint, kind)
     }
 
+    /// Lends the tree that `finish` would give. A function that has only a `&mut` of the builder, as in `run`, reads it by this
+    /// call. Takes no memory.
+    ///
+    /// An `Err` with `NotOneElement` where there is no element or more than one, and with `NotANode` where the one is a token.
+    pub fn tree(&self) -> Result<&GreenNode, Fault>
+        ensures ok { IfOk result (λ tree. IsFinished (word_of self.now) tree.now) }
+        ensures err { IfErr result (WhyUnfinished (word_of self.now)) }
+    {
+        self.inner.tree()
+    }
+
     /// The cache, for its counts. Takes no memory.
     pub fn cache(&self) -> &NodeCache
         ensures { result.now ≡ cache_of self.now }

@@ -142,8 +142,8 @@ pub fn what_stands_apart_stays()
     // at a path that is separate from that of the replacement
     ensures subterm { (t : Term) (p q : Path) (u : Term) → separate p q ≡ true
         → subterm (put t p u) q ≡ subterm t q }
-    ensures range { (t : Term) (p q : Path) (u w : Term) → subterm t p ≡ Some w → separate p q ≡ true
-        → range (put t p u) q ≡ moved_range t p u q }
+    ensures range { (t : Term) (p q : Path) (u w : Term) → subterm t p ≡ Some w
+        → separate p q ≡ true → range (put t p u) q ≡ moved_range t p u q }
 
     // at the path of the replacement
     ensures new { (t : Term) (p : Path) (u w : Term) → subterm t p ≡ Some w
@@ -154,7 +154,8 @@ pub fn what_stands_apart_stays()
 /// Putting back what stood at a path restores the term, and so does putting it in place of itself. Of two replacements at one path
 /// the later one counts. Where nothing stands at the path the term stays; at the empty path the new term takes its place.
 pub fn putting_back_restores()
-    ensures back { (t : Term) (p : Path) (u w : Term) → subterm t p ≡ Some w → put (put t p u) p w ≡ t }
+    ensures back { (t : Term) (p : Path) (u w : Term) → subterm t p ≡ Some w
+        → put (put t p u) p w ≡ t }
     ensures itself { (t : Term) (p : Path) (w : Term) → subterm t p ≡ Some w → put t p w ≡ t }
     ensures again { (t : Term) (p : Path) (u v : Term) → put (put t p u) p v ≡ put t p v }
 
@@ -169,9 +170,9 @@ pub fn replacements_commute()
         → put (put t p u) q v ≡ put (put t q v) p u }
 {}
 
-/// In a term within the limits, a replacement by a term within the limits is so, too, exactly where the whole text is not too long.
-/// Whatever term it is: where the whole is within the limits, so are the new subterm and all others, and it is not where the children
-/// of a node pass a limit with the new child among them.
+/// Where a term and what is put into it are within the limits, the new term is within them exactly where its text is not too long.
+/// Whatever is put: a term within the limits has only subterms within them, the new one too, and is not within them where the
+/// children of a node, with the new one among them, pass a limit.
 pub fn replacement_fits_by_its_length()
     ensures fits { (t : Term) (p : Path) (u w : Term) → subterm t p ≡ Some w → Fits t → Fits u
         → Fits (put t p u) ↔ term_len (put t p u) ≤ byte_limit }
@@ -187,8 +188,8 @@ pub fn replacement_fits_by_its_length()
 /// So the length changes as that of the subterm does.
 pub fn replacement_exchanges_the_text()
     ensures text { (t : Term) (p : Path) (u w : Term) → subterm t p ≡ Some w
-        → term_text (put t p u)
-        ≡ take (range t p).start (term_text t) ++ term_text u ++ drop (range t p).end (term_text t) }
+        → term_text (put t p u) ≡ take (range t p).start (term_text t)
+        ++ term_text u ++ drop (range t p).end (term_text t) }
     ensures len { (t : Term) (p : Path) (u w : Term) → subterm t p ≡ Some w
         → term_len (put t p u) + term_len w ≡ term_len t + term_len u }
 {}
@@ -228,8 +229,8 @@ pub fn what_stands_apart_from_all_stays()
     ensures range { (t : Term) (rs : List Replacement) (last : Term) (q : Path)
         → Makes t rs last → SeparateFromAll q rs
         → range last q ≡ moved_in_turn t rs q (range t q) }
-    ensures new { (t : Term) (before : List Replacement) (r : Replacement) (after : List Replacement)
-        (last : Term) → Makes t (before ++ r ∷ after) last → SeparateFromAll r.path after
+    ensures new { (t : Term) (before after : List Replacement) (r : Replacement) (last : Term)
+        → Makes t (before ++ r ∷ after) last → SeparateFromAll r.path after
         → subterm last r.path ≡ Some r.new }
 {}
 

@@ -12,7 +12,7 @@ use std::test::Fail;
 
 /// The answer to a call.
 #[derive(Clone, Copy)]
-enum Answer {
+pub enum Answer {
     Accepted,
     /// The checkpoint that counts so many elements.
     Marked(usize),
@@ -23,7 +23,7 @@ use Answer::{Accepted, Marked, Refused};
 
 const BLANK: Step = Token(WHITESPACE, " ");
 
-const MATH_OPERATIONS: [(Step, Answer); 23] = [
+pub const MATH_OPERATIONS: [(Step, Answer); 23] = [
     (Start(ROOT), Accepted),
     (Mark, Marked(0)),
     (Token(NUMBER, "1"), Accepted),
@@ -57,7 +57,8 @@ const UNTAKEN_MARK: [(Step, Answer); 5] = [
     (Finish, Accepted),
 ];
 
-fn calls(alloc: Global, answered: &[(Step, Answer)]) -> Result<Vec<Call>, Fault> {
+/// The calls that are answered.
+pub fn calls(alloc: Global, answered: &[(Step, Answer)]) -> Result<Vec<Call>, Fault> {
     let mut steps = Vec::new(alloc);
     for (step, _) in answered {
         steps.push(*step)?;
@@ -74,15 +75,15 @@ fn outcome(answer: Answer, checkpoints: &Checkpoints) -> Result<Outcome, Fault> 
 }
 
 /// What a run of the calls has to answer.
-fn expected(
+pub fn expected(
     alloc: Global,
     answered: &[(Step, Answer)],
     symbols: &[Symbol],
-    checkpoints: &Checkpoints,
 ) -> Result<Run, Fault> {
+    let checkpoints = Checkpoints::new(alloc, 3)?;
     let mut outcomes = Vec::new(alloc);
     for (_, answer) in answered {
-        outcomes.push(outcome(*answer, checkpoints)?)?;
+        outcomes.push(outcome(*answer, &checkpoints)?)?;
     }
     let finished = Ok(tree(alloc, symbols)?);
     Ok(Run { outcomes, finished })
@@ -94,9 +95,8 @@ fn is_answered(
     answered: &[(Step, Answer)],
     symbols: &[Symbol],
 ) -> Result<bool, Fault> {
-    let checkpoints = Checkpoints::new(alloc, 3)?;
     let calls = calls(alloc, answered)?;
-    let expected = expected(alloc, answered, symbols, &checkpoints)?;
+    let expected = expected(alloc, answered, symbols)?;
     let mut cache = NodeCache::new(alloc);
     Ok(
         with_own_cache(alloc, calls.as_slice())? == expected

@@ -13,7 +13,7 @@ use std::alloc::AllocError;
 use std::{cmp, fmt};
 
 /// A walk over the chunks of a slice: the node, the range, and how far it has come: to a token, or to the end, and to where
-/// the texts that are left start. It begins at the first token of the node, so it passes all tokens up to the slice's end.
+/// the texts that are left start. It begins at the first token that meets the slice, which a search finds, going down.
 #[derive(Clone, Copy)]
 pub(crate) struct ChunkWalk {
     node: usize,
@@ -49,11 +49,12 @@ impl Table {
         ensures walk { IsWalk self.now result }
         ensures chunks { remaining_chunks self.now result ≡ chunks (slice_of self.now node range) }
     {
+        let first = self.skip_to(node, range.start());
         ChunkWalk {
             node,
             range,
-            next: self.token_from(node, node),
-            at: self.text_range(node).start(),
+            next: self.token_from(first, node),
+            at: self.start(first),
         }
     }
 

@@ -6,9 +6,10 @@ ghost use Rattle.rowan_green.specs.Search.{digits};
 ghost use Rattle.rowan_green.specs.Span.{Holds};
 ghost use Rattle.rowan_green.specs.Steps.{count_limit};
 ghost use Rattle.rowan_green.specs.TokenAtOffset.{tokens_of};
+ghost use Rattle.rowan_cursor.specs.Chunks.{SkipsTo};
 ghost use Rattle.rowan_cursor.specs.Cursor.{text_range};
 ghost use Rattle.rowan_cursor.specs.Moves.{child_count};
-ghost use Rattle.rowan_cursor.specs.Search.{IsRangeChild, Covers, IsLeafOver, touching};
+ghost use Rattle.rowan_cursor.specs.Search.{IsRangeChild, Covers, IsChildBefore, IsLeafOver, touching};
 
 use super::{Content, Table};
 use rowan_green::steps::Steps;
@@ -67,6 +68,44 @@ impl Table {
             covering = child;
         }
         covering
+    }
+
+    // The last child that starts before an offset of the root's text, or the first child, if none does. By halves.
+    fn child_before(&self, number: usize, offset: TextSize) -> Option<usize>
+        requires { IsWithin self.now number }
+        ensures child { let here = path_at self.now number in
+            IfSome result (λ n. IsChildBefore (root_of self.now) offset here (path_at self.now n)) }
+        ensures none { IsNone result → child_count (root_of self.now) (path_at self.now number) ≡ 0 }
+        ensures within { IfSome result (IsWithin self.now) }
+        ensures later { IfSome result (λ n. number < n) }
+    {
+        let children = self.child_numbers(number);
+        if children.start == children.end {
+            return None;
+        }
+        let mut child = children.start;
+        let mut end = children.end;
+        while child + 1 < end {
+            let middle = child + (end - child) / 2;
+            if self.start(middle) < offset {
+                child = middle;
+            } else {
+                end = middle;
+            }
+        }
+        Some(child)
+    }
+
+    /// An element at or below that at `top`: of the tokens there, all those before it end before an offset of the root's text.
+    pub(crate) fn skip_to(&self, top: usize, offset: TextSize) -> usize
+        requires { IsWithin self.now top }
+        ensures { SkipsTo self.now offset top result }
+    {
+        let mut number = top;
+        while let Some(child) = self.child_before(number, offset) {
+            number = child;
+        }
+        number
     }
 
     // The token that has a byte of the root's text, at or below an entry that has it.

@@ -158,17 +158,28 @@ impl OwningBuilder {
         &self.cache
     }
 
+    // The finished tree, or why there is none.
+    pub(super) fn tree(&self) -> Result<&GreenNode, Fault>
+        ensures ok { IfOk result (λ tree. IsFinished self.now.word tree.now) }
+        ensures err { IfErr result (WhyUnfinished self.now.word) }
+    {
+        if self.finished.len() != 1 {
+            return Err(Fault::NotOneElement);
+        }
+        match &self.finished[0].element {
+            NodeOrToken::Node(node) => Ok(node),
+            NodeOrToken::Token(_) => Err(Fault::NotANode),
+        }
+    }
+
     // The finished tree and the cache; or the builder, and why it has none.
     pub(super) fn finish(self) -> Result<(GreenNode, NodeCache), (OwningBuilder, Fault)>
         ensures ok { IfOk result (λ p. IsFinished self.word p.0 × (p.1 ≡ self.cache)) }
         ensures text { IfOk result (λ p. node_text p.0 ≡ word_text self.word) }
         ensures err { IfErr result (λ p. (p.0 ≡ self) × WhyUnfinished self.word p.1) }
     {
-        if self.finished.len() != 1 {
-            return Err((self, Fault::NotOneElement));
-        }
-        if let NodeOrToken::Token(_) = &self.finished[0].element {
-            return Err((self, Fault::NotANode));
+        if let Err(fault) = self.tree() {
+            return Err((self, fault));
         }
         let OwningBuilder {
             parents: _,

@@ -1,6 +1,5 @@
-use Rattle.std.proofs.Common.{◌+◌, ◌≤◌, length, ◌∙◌, ap, subst, rules, arith}
+use Rattle.std.proofs.Common.{◌+◌, length, ◌∙◌, ap, subst, rules, arith}
 use Rattle.std.specs.List.{concat}
-use Rattle.rowan_green.specs.Fits.{byte_limit}
 use Rattle.rowan_cursor.specs.Chunks.{slice_of, remaining_chunks}
 use Rattle.rowan_cursor.specs.SyntaxText.{slice_text}
 use Rattle.rowan_cursor.proofs.CharLemmas.{HasPassed, nothing_passed, next_fits, pass_chunk, first_in_chunk, all_passed}
