@@ -4,6 +4,7 @@
 //! [`SyntaxNode`] is a place in the tree.
 #![tactic(auto)]
 
+pub mod ast;
 pub mod laws;
 pub mod script;
 
