@@ -1,5 +1,5 @@
 -- How a pointer is resolved, node by node: what is found from a node on, and the steps that this takes.
-use Rattle.std.proofs.Common.{◌≡◌, ℕ, suc, ◌+◌, ◌-◌, ◌<◌, ◌≤◌, List, [], ◌∷◌, length, Option, Some, None, refl, sym, ◌∙◌, ap, subst, arith, inl, inr, Bool, true, false, cond, ◌&&◌, if◌then◌else◌}
+use Rattle.std.proofs.Common.{length-append, ◌≡◌, ℕ, suc, ◌+◌, ◌-◌, ◌<◌, ◌≤◌, List, [], ◌∷◌, length, Option, Some, None, refl, sym, ◌∙◌, ap, subst, arith, inl, inr, Bool, true, false, cond, ◌&&◌, if◌then◌else◌}
 use Rattle.std.specs.Prelude.{min, nat_eq, IsSome}
 use Rattle.std.specs.List.{find}
 use Rattle.std.proofs.lemmas.Bool.{cases_lt, eq-eqb, true≢false}
@@ -11,11 +11,12 @@ use Rattle.rowan_green.specs.Span.{Span}
 use Rattle.rowan_green.specs.Steps.{Tally, count_limit, one_more}
 use Rattle.rowan_green.specs.Term.{NodeTerm, node_kind, Term, term_kind}
 use Rattle.rowan_cursor.specs.Cursor.{Cursor}
-use Rattle.rowan_cursor.specs.Moves.{child_count, is_node, is_node_at, nodes_at, Element, element_if, cursor_at, parent, parent_path}
+use Rattle.rowan_cursor.specs.Moves.{children_of, child_count, is_node, is_node_at, nodes_at, Element, element_if, cursor_at, parent, parent_path}
 use Rattle.rowan_cursor.specs.Search.{IsRangeChild, IsChain, StandsWhere, FindsChild}
-use Rattle.rowan_cursor.proofs.PathLemmas.{parent_path-child, last-split}
+use Rattle.rowan_cursor.proofs.PathLemmas.{parent_path-child, last-split, subterm-child}
+use Rattle.rowan_cursor.proofs.TableLemmas.{slice_get-some}
 use Rattle.rowan.specs.Pointer.{Pointer, means_kind, is_node_of, is_meant, up_to, digits_at, IsFirstMeant, CountsVisits, resolves_from, counts_from, Resolves, CountsResolving}
-use Rattle.rowan.proofs.ChainLemmas.{none-some, follows, token-ends, size_at, range_child-smaller}
+use Rattle.rowan.proofs.ChainLemmas.{none-some, follows, token-ends, size_at, range_child-smaller, range_child-place}
 
 -- of an element and what follows it, the nodes up to the first that is meant
 abbrev pub visited : (Path → Bool) → NodeTerm → Path → List Path → List Path
@@ -251,3 +252,39 @@ inside-counts means span c d old new e same = by c.path e
     by : (p : Path) → option_map (cursor_at c.root) (parent_path p) ≡ Some d → counts_from p means span c.root old new
     by [] e = absurd (none-some d e)
     by (i ∷ p) e = same
+
+-- ---- depth
+
+filter-shorter : (root : NodeTerm) (q : Path) (qs : List Path) → length (nodes_at root (q ∷ qs)) ≤ suc (length (nodes_at root qs))
+filter-shorter root q qs = by (is_node_at root q)
+  where
+    by : (b : Bool) → length (cond b (q ∷ nodes_at root qs) (nodes_at root qs)) ≤ suc (length (nodes_at root qs))
+    by true = omega arith
+    by false = omega arith
+
+chain-stands : (root : NodeTerm) (span : Span) (p q : Path) → IsRangeChild root span p q → (t : Term) × (subterm (Node root) q ≡ Some t) × (length q ≡ suc (length p))
+chain-stands root span p q c =
+    let t = slice_get-some (children_of (subterm (Node root) p)) c.place (range_child-place root span p q c) in (
+      t.0,
+      ap (subterm (Node root)) c.path ∙ subterm-child (Some (Node root)) p c.place ∙ t.1,
+      omega (arith, ap length c.path, length-append p (c.place ∷ [])),
+    )
+
+visited-deep : (holds : Path → Bool) (root : NodeTerm) (span : Span) (d : ℕ) → ((q : Path) (t : Term) → subterm (Node root) q ≡ Some t → length q ≤ d) → (chain : List Path) (p : Path) (t : Term) → subterm (Node root) p ≡ Some t → IsChain root span p chain
+    → length (nodes_at root (up_to holds (p ∷ chain))) + length p ≤ suc d
+visited-deep holds root span d deep [] p t there c = by (holds p)
+  where
+    by : (b : Bool) → length (nodes_at root (if b then p ∷ [] else p ∷ [])) + length p ≤ suc d
+    by true = omega (arith, filter-shorter root p [], deep p t there)
+    by false = omega (arith, filter-shorter root p [], deep p t there)
+visited-deep holds root span d deep (q ∷ qs) p t there c =
+    let s = chain-stands root span p q c.0 in
+    by (holds p) s.2 (visited-deep holds root span d deep qs q s.0 s.1 c.1)
+  where
+    by : (b : Bool) → length q ≡ suc (length p) → length (nodes_at root (up_to holds (q ∷ qs))) + length q ≤ suc d → length (nodes_at root (if b then p ∷ [] else p ∷ up_to holds (q ∷ qs))) + length p ≤ suc d
+    by true next rest = omega (arith, filter-shorter root p [], deep p t there)
+    by false next rest = omega (arith, filter-shorter root p (up_to holds (q ∷ qs)), next, rest)
+
+-- a search visits at most one node more than the longest path has places
+pub visited-depth : (holds : Path → Bool) (root : NodeTerm) (span : Span) (chain : List Path) (d : ℕ) → IsChain root span [] chain → ((q : Path) (t : Term) → subterm (Node root) q ≡ Some t → length q ≤ d) → length (nodes_at root (up_to holds ([] ∷ chain))) ≤ d + 1
+visited-depth holds root span chain d c deep = omega (arith, visited-deep holds root span d deep chain [] (Node root) refl c)

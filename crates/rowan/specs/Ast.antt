@@ -1,7 +1,7 @@
 -- Wrappers of nodes: which nodes cast to a wrapper, and how those among the children come one after the other. And children that
 -- are tokens of a kind.
 use Rattle.std.specs.Prelude.{◌≡◌, ℕ, ◌<◌, if◌then◌else◌, Bool, false, List, [], ◌∷◌, length, filter, Option, Some, None, Result, Ok, Err}
-use Rattle.std.specs.Option.{option_map_or}
+use Rattle.std.specs.Option.{option_map, option_map_or}
 use Rattle.rowan_green.specs.declared.fault.Fault.{Fault}
 use Rattle.rowan_green.specs.declared.fault.Fault.TheVariants.{Memory}
 use Rattle.rowan_green.specs.declared.utility_types.NodeOrToken.TheVariants.{Node, Token}
@@ -11,7 +11,7 @@ use Rattle.rowan_cursor.specs.Yields.{Rest}
 
 -- whether the node has a kind that casts, by what raw kinds mean
 abbrev pub casts_at : {K : Type 0} → (ℕ → K) → (K → Bool) → Cursor → Bool
-casts_at meaning casts c = option_map_or (λ raw. casts (meaning raw)) (kind c) false
+casts_at meaning casts c = option_map_or casts (option_map meaning (kind c)) false
 
 -- the node, if it casts
 abbrev pub if_casts : (Cursor → Bool) → Cursor → Option Cursor

@@ -2,12 +2,12 @@
 --     A pointer is resolved on the chain of its range, which begins with the root and goes on with the child at the range, that
 --     one's child, and so on: it resolves to the first node on this chain that has its range, and a raw kind that means its kind.
 --     An edit of the text moves what stands behind it, and leaves what stands before.
-use Rattle.std.specs.Prelude.{◌≡◌, ℕ, ◌+◌, ◌-◌, ◌≤◌, if◌then◌else◌, ◌&&◌, Bool, false, List, [], ◌∷◌, length, min, nat_le, nat_eq, Option, Some, None}
+use Rattle.std.specs.Prelude.{◌≡◌, ℕ, ◌+◌, ◌-◌, ◌≤◌, if◌then◌else◌, ◌&&◌, Bool, true, false, List, [], ◌∷◌, length, min, nat_le, nat_eq, Option, Some, None}
 use Rattle.std.specs.List.{find}
 use Rattle.std.specs.Option.{option_map}
 use Rattle.rowan_green.specs.declared.utility_types.NodeOrToken.TheVariants.{Node, Token}
 use Rattle.rowan_green.specs.Fits.{byte_limit}
-use Rattle.rowan_green.specs.Path.{Path, subterm, range, shifted}
+use Rattle.rowan_green.specs.Path.{Path, subterm, begins, range, shifted}
 use Rattle.rowan_green.specs.Search.{digits}
 use Rattle.rowan_green.specs.Span.{Span}
 use Rattle.rowan_green.specs.Steps.{Tally, count_limit}
@@ -87,6 +87,14 @@ Resolves means span c found = resolves_from c.path means span c.root found
 
 abbrev pub CountsResolving : (ℕ → Bool) → Span → Cursor → Tally → Tally → Type 0
 CountsResolving means span c old new = counts_from c.path means span c.root old new
+
+-- what is found is the node at q, or a node above it, of a raw kind that is meant and of the range
+pub record LeadsAbove (means : ℕ → Bool) (span : Span) (root : NodeTerm) (q : Path) (found : Option Cursor)
+    : Type 0 where
+  pub path : Path
+  pub is : found ≡ Some (cursor_at root path)
+  pub above : begins path q ≡ true
+  pub meant : is_meant means span root path ≡ true
 
 -- ---- edits
 

@@ -10,6 +10,10 @@ mod lexer;
 #[cfg(test)]
 mod parser;
 #[cfg(test)]
+mod pointers;
+#[cfg(test)]
 mod program;
 #[cfg(test)]
 mod streams;
+#[cfg(test)]
+mod wrappers;
