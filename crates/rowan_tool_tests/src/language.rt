@@ -1,5 +1,6 @@
 //! Printed trees of a language with two kinds, of which one has many raw kinds, and of one in which both have.
-use rowan::{Fault, GreenNode, GreenNodeBuilder, Language, SyntaxKind, SyntaxNode};
+use rowan::ast::SyntaxNodePtr;
+use rowan::{Fault, GreenNode, GreenNodeBuilder, Language, Steps, SyntaxKind, SyntaxNode};
 use std::alloc::Global;
 use std::test::Fail;
 
@@ -192,5 +193,28 @@ const NUMBERED: &str = r#"EVEN@0..4
 fn shows_what_even_and_odd_kinds_mean(rt: HostRuntime) -> Result<(), Fail> {
     let root: SyntaxNode<Numbers> = SyntaxNode::new_root(rt.alloc(), numbered(rt.alloc())?)?;
     assert!(rt; root.debug_tree(rt.alloc())?.as_str() == NUMBERED);
+    Ok(())
+}
+
+/// A node in a node of the same text, whose raw kinds differ and mean one kind.
+fn twice_even(alloc: Global) -> Result<SyntaxNode<Numbers>, Fault> {
+    let mut builder = GreenNodeBuilder::new(alloc);
+    builder.start_node(SyntaxKind(2))?;
+    builder.start_node(SyntaxKind(4))?;
+    builder.token(SyntaxKind(7), "a")?;
+    builder.finish_node()?;
+    builder.finish_node()?;
+    SyntaxNode::new_root(alloc, builder.finish()?)
+}
+
+#[test]
+fn pointer_leads_to_the_outermost_of_equal_kind(rt: HostRuntime) -> Result<(), Fail> {
+    let root = twice_even(rt.alloc())?;
+    let Some(inner) = root.first_child()? else {
+        return Err(Fail::from(Fault::NotFound));
+    };
+    let mut steps = Steps::new();
+    let found = SyntaxNodePtr::new(&inner).try_to_node_counted(&root, &mut steps)?;
+    assert!(rt; found == Some(root) && steps.visits() == 1);
     Ok(())
 }

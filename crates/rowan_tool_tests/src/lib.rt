@@ -10,8 +10,12 @@ mod lexer;
 #[cfg(test)]
 mod parser;
 #[cfg(test)]
+mod pointers;
+#[cfg(test)]
 mod program;
 #[cfg(test)]
 mod streams;
 #[cfg(test)]
 mod typed;
+#[cfg(test)]
+mod wrappers;
