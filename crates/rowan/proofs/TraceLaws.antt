@@ -71,8 +71,8 @@ found-stays (ChildAtRange span) c e h = stays-stands c.root _ e h
 found-stays (Covering span) c e h = stays-stands c.root _ e h
 found-stays (LeftTokenAt offset) c e h = stays-first c.root (touching c.root offset c.path) e h
 found-stays (RightTokenAt offset) c e h = stays-last c.root None (touching c.root offset c.path) e h
-found-stays (ReplaceNode node) c e h = absurd h
-found-stays (ReplaceToken token) c e h = absurd h
+found-stays (ReplaceNode green) c e h = absurd h
+found-stays (ReplaceToken green) c e h = absurd h
 
 -- ---- replacements
 

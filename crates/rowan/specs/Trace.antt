@@ -66,13 +66,13 @@ IsFound (LeftTokenAt offset) c found =
     found ≡ option_map Token (slice_get (tokens_at offset c) 0)
 IsFound (RightTokenAt offset) c found =
     found ≡ option_map Token (last_or None (tokens_at offset c))
-IsFound (ReplaceNode node) c found = ⊥
-IsFound (ReplaceToken token) c found = ⊥
+IsFound (ReplaceNode green) c found = ⊥
+IsFound (ReplaceToken green) c found = ⊥
 
 -- what a replacement puts in the place of an element
 abbrev pub new_term : Step → Option Term
-new_term (ReplaceNode node) = Some (Node node)
-new_term (ReplaceToken token) = Some (Token token)
+new_term (ReplaceNode green) = Some (Node green)
+new_term (ReplaceToken green) = Some (Token green)
 new_term step = None
 
 -- the step is a replacement of what stands at c, and d is the root of the new tree
