@@ -116,9 +116,10 @@ pointer-carried {K} meaning root new p q u w n is fits h k r some =
     let there : subterm (Node new) q ≡ Some (Node n) = ap (λ t. subterm t q) (sym is) ∙ subterm-apart (Node root) p q u r ∙ k in
     let goes : range_after (range (Node root) p) (term_len u) (range (Node root) q) ≡ Some (range (Node new) q) =
     range-carried (Node root) p q u (Node n) w h k r some (omega (arith, ap term_len is, fits)) ∙ ap (λ t. Some (range t q)) is in
-    let at = λ (root : NodeTerm) (o : Option Term). option_map (λ raw. record { kind = meaning raw; range = range (Node root) q }) (option_map term_kind o) in
+    let at : NodeTerm → Option Term → Option (Pointer K) = λ root o. option_map (λ raw. record { kind = meaning raw; range = range (Node root) q }) (option_map term_kind o) in
+    let with_range : Span → Pointer K = λ s. record { kind = meaning (node_kind n); range = s } in
     ap (λ o. option_and_then (carried {K = K} (range (Node root) p) (term_len u)) (at root o)) k
-    ∙ ap (option_map (λ s. record { kind = meaning (node_kind n); range = s })) goes
+    ∙ ap (option_map with_range) goes
     ∙ sym (ap (at new) there)
 
 -- ---- where a pointer leads
