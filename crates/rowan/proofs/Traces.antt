@@ -1,32 +1,10 @@
--- Traces: one more step, and the tokens of a token.
-use Rattle.std.proofs.Common.{◌≡◌, ℕ, ◌<◌, ◌+◌, List, [], ◌∷◌, ◌++◌, map, length, take, get_or, refl, sym, ◌∙◌, ap, subst}
-use Rattle.std.specs.Prelude.{Some}
-use Rattle.std.specs.Option.{option_map}
-use Rattle.std.proofs.lemmas.List.{append-nil, take_more}
-use Rattle.rowan_green.specs.Path.{subterm}
-use Rattle.rowan_green.specs.Term.{TokenTerm}
-use Rattle.rowan_green.specs.declared.utility_types.NodeOrToken.TheVariants.{Node}
-use Rattle.rowan_cursor.specs.Cursor.{Cursor, StandsAtToken}
-use Rattle.rowan_cursor.specs.Moves.{Element, cursor_at, first_at, first_token, last_token}
-use Rattle.rowan_cursor.specs.Pass.{of_some, leaf_list}
-use Rattle.rowan_cursor.proofs.LeafLemmas.{first_leaf-below, last_leaf-below, last_at}
+-- Traces: one more step.
+use Rattle.std.proofs.Common.{◌≡◌, ℕ, ◌<◌, ◌+◌, List, [], ◌∷◌, ◌++◌, length, take, get_or, refl, sym, ◌∙◌, ap, subst}
+use Rattle.std.proofs.lemmas.List.{take_more}
+use Rattle.rowan_cursor.specs.Moves.{Element}
 use Rattle.rowan.specs.declared.script.steps.Report.{Report}
 use Rattle.rowan.specs.declared.script.steps.Step.{Step}
 use Rattle.rowan.specs.Trace.{IsReport, element_after, last_element, ReportsInTurn, Trace}
-
--- ---- a token's first and last token
-
-pub first_token-itself : (c : Cursor) (t : TokenTerm) → StandsAtToken c t → first_token c ≡ Some c
-first_token-itself c t here =
-    ap (option_map (cursor_at c.root)) (first_leaf-below c.root c.path
-    ∙ ap (λ u. first_at (map (λ q. c.path ++ q) (of_some leaf_list u))) here
-    ∙ ap Some (append-nil c.path))
-
-pub last_token-itself : (c : Cursor) (t : TokenTerm) → StandsAtToken c t → last_token c ≡ Some c
-last_token-itself c t here =
-    ap (option_map (cursor_at c.root)) (last_leaf-below c.root c.path
-    ∙ ap (λ u. last_at (map (λ q. c.path ++ q) (of_some leaf_list u))) here
-    ∙ ap Some (append-nil c.path))
 
 -- ---- one more step
 

@@ -1,16 +1,22 @@
 //! Laws of runs, each as the contract of a function that does nothing; and the laws of green trees and of cursors.
-ghost use Rattle.std.specs.Prelude.{◌≡◌, List, [], ◌∷◌, ◌++◌, Some, IsPermutation};
+ghost use Rattle.std.specs.Prelude.{◌≡◌, ℕ, ◌+◌, ◌<◌, ◌≤◌, Bool, true, List, [], ◌∷◌, ◌++◌, length, Option, Some, IsPermutation};
+ghost use Rattle.std.specs.Option.{option_and_then};
 ghost use Rattle.rowan_green.specs.Builder.{BuilderValue};
 ghost use Rattle.rowan_green.specs.Cache.{first_seen};
-ghost use Rattle.rowan_green.specs.Path.{Path, subterm, range, tokens};
+ghost use Rattle.rowan_green.specs.Fits.{byte_limit};
+ghost use Rattle.rowan_green.specs.Path.{Path, subterm, range, tokens, put, separate};
 ghost use Rattle.rowan_green.specs.Replacements.{Replacement, Makes, SeparateFromAll, PairwiseSeparate, moved_in_turn};
+ghost use Rattle.rowan_green.specs.Span.{Span};
 ghost use Rattle.rowan_green.specs.Stream.{intern_all, BuildsOn};
-ghost use Rattle.rowan_green.specs.Term.{NodeTerm};
+ghost use Rattle.rowan_green.specs.Term.{NodeTerm, node_len, Term, term_len};
 ghost use Rattle.rowan_green.specs.Word.{Symbol, IsFinished, word_text, word_tokens};
 ghost use Rattle.rowan_green.specs.declared.utility_types.NodeOrToken.TheVariants.{Node};
+ghost use Rattle.rowan_cursor.specs.Cursor.{Cursor};
+ghost use Rattle.rowan_cursor.specs.Moves.{Element, nodes_at, cursor_at};
+ghost use Rattle.rowan_cursor.specs.Search.{IsChain};
+ghost use Rattle.rowan.specs.Pointer.{Pointer, pointer_to, means_kind, is_meant, up_to, Resolves, LeadsAbove, carried};
 ghost use Rattle.rowan.specs.declared.script.calls.Call.{Call};
 ghost use Rattle.rowan.specs.declared.script.calls.Outcome.{Outcome};
-ghost use Rattle.rowan_cursor.specs.Moves.{Element};
 ghost use Rattle.rowan.specs.declared.script.steps.Report.{Report};
 ghost use Rattle.rowan.specs.declared.script.steps.Step.{Step};
 ghost use Rattle.rowan.specs.Rewriting.{Rewrites};
@@ -18,6 +24,7 @@ ghost use Rattle.rowan.specs.Requests.{stream, accepted_tokens, accepted_text};
 ghost use Rattle.rowan.specs.Run.{Run};
 ghost use Rattle.rowan.specs.Trace.{Trace, tree_of, last_tree, replacements};
 
+use crate::api::Language;
 pub use rowan_cursor::laws as cursor;
 pub use rowan_green::laws as green;
 
@@ -115,4 +122,39 @@ pub fn order_of_a_traces_replacements_is_free()
         → Trace e steps reports
         → Trace d steps' reports'
         → last_tree e reports ≡ last_tree d reports' }
+{}
+
+/// A pointer outlives each replacement beside its node. Where the node has text and the new tree is within the limits, the pointer
+/// carried over the edit is the pointer to that node in the new tree.
+pub fn pointers_outlive_replacements_beside<L: Language>()
+    ensures { (root new : NodeTerm) (p q : Path) (u w : Term) (n : NodeTerm)
+        → put (Node root) p u ≡ Node new → node_len new ≤ byte_limit
+        → subterm (Node root) p ≡ Some w → subterm (Node root) q ≡ Some (Node n)
+        → separate p q ≡ true → 0 < node_len n
+        → option_and_then (carried (range (Node root) p) (term_len u))
+        (pointer_to L.meaning (cursor_at root q)) ≡ pointer_to L.meaning (cursor_at new q) }
+{}
+
+/// The pointer to a node with text leads to that node, or to one above it that has the same range and an equal kind.
+pub fn pointers_lead_to_their_nodes<L: Language>()
+    ensures { (root : NodeTerm) (q : Path) (n : NodeTerm) (pointer : Pointer L.Kind)
+        (found : Option Cursor)
+        → subterm (Node root) q ≡ Some (Node n) → 0 < node_len n
+        → pointer_to L.meaning (cursor_at root q) ≡ Some pointer →
+        let means = means_kind L.meaning L.Kind.eq pointer.kind in
+        Resolves means pointer.range (cursor_at root []) found
+        → LeadsAbove means pointer.range root q found }
+{}
+
+/// One chain of a range begins at each element. A search along that of the root visits one node more at most than the longest path
+/// has places.
+pub fn one_chain_begins_at_each_element()
+    ensures some { (root : NodeTerm) (span : Span) (p : Path)
+        → (chain : List Path) × IsChain root span p chain }
+    ensures one { (root : NodeTerm) (span : Span) (p : Path) (xs ys : List Path)
+        → IsChain root span p xs → IsChain root span p ys → xs ≡ ys }
+    ensures visits { (means : ℕ → Bool) (root : NodeTerm) (span : Span) (chain : List Path) (d : ℕ)
+        → IsChain root span [] chain
+        → ((q : Path) (t : Term) → subterm (Node root) q ≡ Some t → length q ≤ d)
+        → length (nodes_at root (up_to (is_meant means span root) ([] ∷ chain))) ≤ d + 1 }
 {}

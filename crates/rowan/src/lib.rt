@@ -5,6 +5,7 @@
 //! to other places, and answer kinds of the language; those of `cursor` are the same without a language.
 #![tactic(auto)]
 
+pub mod ast;
 pub mod laws;
 pub mod script;
 

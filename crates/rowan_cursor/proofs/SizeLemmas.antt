@@ -17,7 +17,7 @@ get-size (t ∷ ts) zero v e =
     omega arith
 get-size (t ∷ ts) (suc i) v e = omega (arith, get-size ts i v e)
 
-child-smaller : (t : Term) (i : ℕ) (v : Term) → slice_get (term_children t) i ≡ Some v → term_size v < term_size t
+pub child-smaller : (t : Term) (i : ℕ) (v : Term) → slice_get (term_children t) i ≡ Some v → term_size v < term_size t
 child-smaller (Node n) i v e = omega (arith, get-size (node_children n) i v e, terms_size-node_children n)
 child-smaller (Token t) i v e = cc
 

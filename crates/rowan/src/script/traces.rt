@@ -14,7 +14,7 @@ use crate::green::{GreenNode, GreenToken};
 use crate::script::steps::{Report, Step};
 use crate::text::{TextRange, TextSize};
 use crate::utility_types::NodeOrToken;
-use rowan_cursor::cursor::{SyntaxElement, SyntaxNode, SyntaxToken};
+use rowan_cursor::cursor::{ElementCalls, SyntaxElement, SyntaxNode, SyntaxToken};
 use std::alloc::{AllocError, Global};
 
 /// Makes the steps from a node, in order, and gives the report of each. A step makes the call of its name on the element where
@@ -109,7 +109,8 @@ fn step_from_token(alloc: Global, token: &SyntaxToken, step: &Step) -> Report
         Step::TreeTop => Report::from(token.tree_top().map(Some)),
         Step::NextSiblingOrToken => Report::from(token.next_sibling_or_token()),
         Step::PrevSiblingOrToken => Report::from(token.prev_sibling_or_token()),
-        Step::FirstToken | Step::LastToken => Report::from(itself(token)),
+        Step::FirstToken => Report::from(first_token(token)),
+        Step::LastToken => Report::from(last_token(token)),
         Step::NextToken => Report::from(token.next_token()),
         Step::PrevToken => Report::from(token.prev_token()),
         Step::ReplaceToken(new) => replaced(replace_token(alloc, token, new)),
@@ -117,15 +118,20 @@ fn step_from_token(alloc: Global, token: &SyntaxToken, step: &Step) -> Report
     }
 }
 
-// A token is its own first and last token.
-fn itself(token: &SyntaxToken) -> Result<Option<SyntaxToken>, Fault>
-    ensures first { IfOk result (λ found. found ≡ first_token token.now) }
-    ensures last { IfOk result (λ found. found ≡ last_token token.now) }
+// The first token of a token is the token itself.
+fn first_token(token: &SyntaxToken) -> Result<Option<SyntaxToken>, Fault>
+    ensures ok { IfOk result (λ found. found ≡ first_token token.now) }
     ensures err { IfErr result (λ e. e ≡ Fault.Memory) }
 {
-    // Says that a token stands there.
-    let _green = token.green();
-    Ok(Some(token.clone()?))
+    SyntaxElement::from(token.clone()?).first_token()
+}
+
+// The last token of a token is the token itself.
+fn last_token(token: &SyntaxToken) -> Result<Option<SyntaxToken>, Fault>
+    ensures ok { IfOk result (λ found. found ≡ last_token token.now) }
+    ensures err { IfErr result (λ e. e ≡ Fault.Memory) }
+{
+    SyntaxElement::from(token.clone()?).last_token()
 }
 
 // The element that covers a range, where the range lies in the node's.

@@ -1,0 +1,37 @@
+-- Wrappers of nodes: which nodes cast to a wrapper, and how those among the children come one after the other. And children that
+-- are tokens of a kind.
+use Rattle.std.specs.Prelude.{◌≡◌, ℕ, ◌<◌, if◌then◌else◌, Bool, false, List, [], ◌∷◌, length, filter, Option, Some, None, Result, Ok, Err}
+use Rattle.std.specs.Option.{option_map, option_map_or}
+use Rattle.rowan_green.specs.declared.fault.Fault.{Fault}
+use Rattle.rowan_green.specs.declared.fault.Fault.TheVariants.{Memory}
+use Rattle.rowan_green.specs.declared.utility_types.NodeOrToken.TheVariants.{Node, Token}
+use Rattle.rowan_cursor.specs.Cursor.{Cursor, kind}
+use Rattle.rowan_cursor.specs.Moves.{Element}
+use Rattle.rowan_cursor.specs.Yields.{Rest}
+
+-- whether the node has a kind that casts, by what raw kinds mean
+abbrev pub casts_at : {K : Type 0} → (ℕ → K) → (K → Bool) → Cursor → Bool
+casts_at meaning casts c = option_map_or casts (option_map meaning (kind c)) false
+
+-- the node, if it casts
+abbrev pub if_casts : (Cursor → Bool) → Cursor → Option Cursor
+if_casts casts c = if casts c then Some c else None
+
+-- Of the nodes that are left, those that cast come next, the first of them first, each in its wrapper.
+-- In place of one `Memory` may come while nodes are left, and then nothing is left.
+-- Where a refusal is left, it comes next and alone. Where no node is left that casts, nothing comes.
+abbrev pub YieldsWrappers : {N : Type 0} → (Cursor → Bool) → (N → Cursor) → Rest Cursor
+    → Option (Result N Fault) → Rest Cursor → Type 0
+YieldsWrappers casts node_of (Ok cs) None after = (filter casts cs ≡ []) × (after ≡ Ok [])
+YieldsWrappers casts node_of (Ok cs) (Some (Ok x)) after =
+    (ds : List Cursor) × (filter casts cs ≡ node_of x ∷ filter casts ds) × (length ds < length cs)
+    × (after ≡ Ok ds)
+YieldsWrappers casts node_of (Ok cs) (Some (Err e)) after =
+    (e ≡ Memory) × (0 < length cs) × (after ≡ Ok [])
+YieldsWrappers casts node_of (Err f) (Some (Err e)) after = (e ≡ f) × (after ≡ Ok [])
+YieldsWrappers casts node_of (Err f) _ after = ⊥
+
+-- whether it is a token with a raw kind of these
+abbrev pub is_token_of : (ℕ → Bool) → Element → Bool
+is_token_of means (Token c) = option_map_or means (kind c) false
+is_token_of means (Node c) = false
