@@ -75,7 +75,8 @@ impl Table {
         requires { IsWithin self.now number }
         ensures child { let here = path_at self.now number in
             IfSome result (λ n. IsChildBefore (root_of self.now) offset here (path_at self.now n)) }
-        ensures none { IsNone result → child_count (root_of self.now) (path_at self.now number) ≡ 0 }
+        ensures none { IsNone result
+            → child_count (root_of self.now) (path_at self.now number) ≡ 0 }
         ensures within { IfSome result (IsWithin self.now) }
         ensures later { IfSome result (λ n. number < n) }
     {
