@@ -18,6 +18,11 @@ pub char_past : (text : List ℕ) (offset c : ℕ) → length text ≤ offset �
 char_past text offset c past h =
     omega (arith, ap length (sym (drop_all offset text past) ∙ h.begins), length-append (encode_utf8 c) h.rest, length-encode c, (len_utf8_bounds c).0)
 
+-- a byte in one of the chunks stands before the text's end
+pub byte_within : (text : List ℕ) (offset : ℕ) (chunk : List ℕ) (place : ℕ) → IsByteIn text offset chunk place → offset ≤ length text
+byte_within text offset chunk place b =
+    omega (arith, ap length b.parts, length-append b.before (chunk ++ b.after), length-append chunk b.after, b.at, b.within)
+
 -- what follows a byte in the text begins with what follows it in its chunk
 drop_here : (text : List ℕ) (offset : ℕ) (chunk : List ℕ) (place : ℕ) (b : IsByteIn text offset chunk place) → drop offset text ≡ drop place chunk ++ b.after
 drop_here text offset chunk place b =

@@ -1,7 +1,7 @@
 //! Texts of nodes, and slices of them. A text is read in chunks, which the tree lends: one for each token that it meets.
 mod range;
 
-ghost use Rattle.std.specs.Prelude.{◌≡◌, ◌↔◌, ℕ, IfOk, IfErr, IsTrue, string_bytes};
+ghost use Rattle.std.specs.Prelude.{◌≡◌, ◌↔◌, ◌≤◌, ℕ, IfOk, IfErr, IsTrue, string_bytes};
 ghost use Rattle.std.specs.Str.{IsCharBoundary};
 ghost use Rattle.rowan_cursor.specs.TableView.{IsNodeIn, cursor_of};
 ghost use Rattle.rowan_cursor.specs.Folds.{FoldsUntilErr, VisitsUntilErr, VisitsAll};
@@ -80,7 +80,8 @@ impl SyntaxText {
 
     /// Whether an offset is at most the length and not inside a character. Takes no memory.
     pub fn is_border(&self, offset: TextSize) -> bool
-        ensures { IsTrue result ↔ IsCharBoundary (slice_text self.now) offset }
+        ensures border { IsTrue result ↔ IsCharBoundary (slice_text self.now) offset }
+        ensures within { IsTrue result → offset ≤ slice_len self.now }
     {
         self.table.is_border(self.node, self.range, offset)
     }

@@ -1,8 +1,4 @@
 //! Texts of nodes, and slices of them.
-ghost use Rattle.std.specs.Prelude.{◌≤◌, IsTrue};
-ghost use Rattle.std.specs.Str.{IsCharBoundary};
-ghost use Rattle.rowan_cursor.specs.SyntaxText.{slice_len, slice_text};
-
 use crate::fixture::{ATOM, Call, LIST, ROOT, root_of};
 use rowan::{Fault, SyntaxText, TextRange, TextSize};
 use std::alloc::Global;
@@ -23,7 +19,7 @@ fn text_of(alloc: Global, words: &[&'static str]) -> Result<SyntaxText, Fault> {
 fn cut(text: &SyntaxText, start: u32, end: u32) -> Result<SyntaxText, Fault> {
     let start = TextSize::from(start);
     let end = TextSize::from(end);
-    if start <= end && end <= text.len() && text.is_border(start) && text.is_border(end) {
+    if start <= end && text.is_border(start) && text.is_border(end) {
         text.slice(start..end)
     } else {
         Err(Fault::NotFound)
@@ -109,17 +105,10 @@ fn texts_are_equal_however_they_are_cut(rt: HostRuntime) -> Result<(), Fail> {
     Ok(())
 }
 
-/// Whether a text may be cut at an offset.
-fn is_border(text: &SyntaxText, offset: TextSize) -> bool
-    ensures { IsTrue result → (offset ≤ slice_len text.now) × IsCharBoundary (slice_text text.now) offset }
-{
-    offset <= text.len() && text.is_border(offset)
-}
-
 /// The part from an offset on.
 fn part_from(text: &SyntaxText, start: u32) -> Result<SyntaxText, Fault> {
     let start = TextSize::from(start);
-    if is_border(text, start) && is_border(text, text.len()) {
+    if text.is_border(start) && text.is_border(text.len()) {
         text.slice(start..)
     } else {
         Err(Fault::NotFound)
@@ -129,7 +118,7 @@ fn part_from(text: &SyntaxText, start: u32) -> Result<SyntaxText, Fault> {
 /// The part up to an offset.
 fn part_to(text: &SyntaxText, end: u32) -> Result<SyntaxText, Fault> {
     let end = TextSize::from(end);
-    if is_border(text, TextSize::from(0)) && is_border(text, end) {
+    if text.is_border(TextSize::from(0)) && text.is_border(end) {
         text.slice(..end)
     } else {
         Err(Fault::NotFound)
@@ -138,7 +127,7 @@ fn part_to(text: &SyntaxText, end: u32) -> Result<SyntaxText, Fault> {
 
 /// The part in a range.
 fn part_in(text: &SyntaxText, range: TextRange) -> Result<SyntaxText, Fault> {
-    if is_border(text, range.start()) && is_border(text, range.end()) {
+    if text.is_border(range.start()) && text.is_border(range.end()) {
         text.slice(range)
     } else {
         Err(Fault::NotFound)
@@ -147,7 +136,7 @@ fn part_in(text: &SyntaxText, range: TextRange) -> Result<SyntaxText, Fault> {
 
 /// All of it.
 fn whole(text: &SyntaxText) -> Result<SyntaxText, Fault> {
-    if is_border(text, TextSize::from(0)) && is_border(text, text.len()) {
+    if text.is_border(TextSize::from(0)) && text.is_border(text.len()) {
         text.slice(..)
     } else {
         Err(Fault::NotFound)

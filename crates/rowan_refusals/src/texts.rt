@@ -39,7 +39,7 @@ where
 {
     let start = range.start().unwrap_or(TextSize::from(0));
     let end = range.end().unwrap_or(text.len());
-    if start <= end && end <= text.len() && text.is_border(start) && text.is_border(end) {
+    if start <= end && text.is_border(start) && text.is_border(end) {
         text.slice(range)
     } else {
         Err(Fault::NotFound)

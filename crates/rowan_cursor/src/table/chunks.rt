@@ -4,7 +4,7 @@ ghost use Rattle.std.specs.Fmt.{DisplaysOnOk};
 ghost use Rattle.std.specs.Str.{IsCharBoundary};
 ghost use Rattle.rowan_cursor.specs.Chunks.{remaining_leaves, IsTokenInside, MayCut, IsWalk, remaining_chunks, slice_of, IsSliceOf, IsByteIn};
 ghost use Rattle.rowan_cursor.specs.Folds.{FoldsUntilErr, VisitsUntilErr, VisitsAll};
-ghost use Rattle.rowan_cursor.specs.SyntaxText.{meets, common_part, chunks, slice_text, part_of, CanCut, FindsChar, ReadsChar, same_text};
+ghost use Rattle.rowan_cursor.specs.SyntaxText.{meets, common_part, chunks, slice_text, slice_len, part_of, CanCut, FindsChar, ReadsChar, same_text};
 ghost use Rattle.rowan_cursor.specs.TableView.{path_at};
 
 use super::Table;
@@ -308,8 +308,9 @@ impl Table {
     /// Whether an offset of a slice is within its length and not inside a character.
     pub(crate) fn is_border(&self, node: usize, range: TextRange, offset: TextSize) -> bool
         requires { IsSliceOf self.now node range }
-        ensures { let text = slice_text (slice_of self.now node range) in
+        ensures border { let text = slice_text (slice_of self.now node range) in
             IsTrue result ↔ IsCharBoundary text offset }
+        ensures within { IsTrue result → offset ≤ slice_len (slice_of self.now node range) }
     {
         match self.chunk_at(node, range, offset) {
             Some((chunk, place)) => chunk.is_char_boundary(place),

@@ -4,12 +4,13 @@ use Rattle.std.proofs.lemmas.Bool.Decides.{Decides-eqb}
 use Rattle.std.proofs.lemmas.Str.{IsCharBoundary-end}
 use Rattle.rowan_cursor.specs.Chunks.{slice_of}
 use Rattle.rowan_cursor.specs.SyntaxText.{slice_text}
+use Rattle.rowan_cursor.proofs.CharLemmas.{byte_within}
 use Rattle.rowan_cursor.proofs.SliceLemmas.{slice_text-len}
 use Rattle.rowan_cursor.proofs.TokenLemmas.{stands_at}
 use Rattle.rowan_cursor.proofs.table.Table.is_border.Goals as goal
 
-pub returns-in-None : goal.returns-in-None
-returns-in-None c =
+pub returns-in-None-clause-border : goal.returns-in-None-clause-border
+returns-in-None-clause-border c =
     let table = c.args.self.now in
     let there = stands_at table.entries.items table.complete c.args.node c.requires.node.within in
     let slice = slice_of table c.args.node c.args.range in
@@ -18,3 +19,14 @@ returns-in-None c =
       (λ h. subst (IsCharBoundary (slice_text slice)) (sym (test.0 (sym c.eq.ensures ∙ h) ∙ len)) (IsCharBoundary-end (slice_text slice))),
       (λ b. c.eq.ensures ∙ test.1 (omega (arith, b.0, c.in-None.ensures, len))),
     )
+
+pub returns-in-None-clause-within : goal.returns-in-None-clause-within
+returns-in-None-clause-within c h =
+    omega (arith, (Decides-eqb c.args.offset c.len.result).0 (sym c.eq.ensures ∙ h), c.len.ensures.difference)
+
+pub returns-in-Some-clause-within : goal.returns-in-Some-clause-within
+returns-in-Some-clause-within c h =
+    let table = c.args.self.now in
+    let there = stands_at table.entries.items table.complete c.args.node c.requires.node.within in
+    let slice = slice_of table c.args.node c.args.range in
+    omega (arith, byte_within (slice_text slice) c.args.offset _ _ c.in-Some.ensures, slice_text-len slice there.0 there.1 c.requires.slice)
