@@ -1,12 +1,12 @@
 -- Laws of traces: each move stays in its tree, and so the replacements alone make the last tree.
-use Rattle.std.proofs.Common.{◌≡◌, ℕ, List, [], ◌∷◌, ◌++◌, map, refl, sym, ◌∙◌, ap, subst}
+use Rattle.std.proofs.Common.{◌≡◌, List, [], ◌∷◌, ◌++◌, map, refl, sym, ◌∙◌, ap, subst}
 use Rattle.std.specs.Prelude.{Option, Some, None, slice_get}
 use Rattle.std.specs.List.{last_or}
 use Rattle.std.specs.Option.{option_map}
 use Rattle.rowan_green.specs.declared.utility_types.NodeOrToken.TheVariants.{Node, Token}
 use Rattle.rowan_green.specs.Path.{Path}
-use Rattle.rowan_green.specs.Replacements.{Replacement, Makes}
-use Rattle.rowan_green.specs.Term.{NodeTerm, Term}
+use Rattle.rowan_green.specs.Replacements.{Makes}
+use Rattle.rowan_green.specs.Term.{NodeTerm}
 use Rattle.rowan_cursor.specs.Cursor.{Cursor}
 use Rattle.rowan_cursor.specs.Moves.{Element, place_of, element_at, cursor_at}
 use Rattle.rowan_cursor.specs.Search.{StandsWhere, touching}
@@ -15,7 +15,7 @@ use Rattle.rowan.specs.declared.script.steps.Report.{Report}
 use Rattle.rowan.specs.declared.script.steps.Report.TheVariants.{Moved, Nowhere, Replaced, Refused}
 use Rattle.rowan.specs.declared.script.steps.Step.{Step}
 use Rattle.rowan.specs.declared.script.steps.Step.TheVariants.{Parent, TreeTop, FirstChild, LastChild, FirstChildOrToken, LastChildOrToken, NextSibling, PrevSibling, NextSiblingOrToken, PrevSiblingOrToken, FirstToken, LastToken, NextToken, PrevToken, ChildAtRange, Covering, LeftTokenAt, RightTokenAt, ReplaceNode, ReplaceToken}
-use Rattle.rowan.specs.Trace.{IsFound, IsNewRoot, ReportsInTurn, last_element, tree_of, new_term, replacement_of, replacements}
+use Rattle.rowan.specs.Trace.{IsFound, ReportsInTurn, last_element, tree_of, replacement_of, replacements}
 
 -- ---- moves stay in the tree
 
@@ -74,9 +74,14 @@ found-stays (RightTokenAt offset) c e h = stays-last c.root None (touching c.roo
 found-stays (ReplaceNode green) c e h = absurd h
 found-stays (ReplaceToken green) c e h = absurd h
 
+-- what a move finds is in the tree where it was made
+pub root-found : (step : Step) (c : Cursor) (e : Element) → IsFound step c (Some e) → (place_of e).root ≡ c.root
+unfolding StaysIn
+root-found step c e h = found-stays step c e h
+
 -- ---- replacements
 
-there : {A B : Type 0} (f : A → B) (o : Option A) (b : B) → option_map f o ≡ Some b → (a : A) × (o ≡ Some a)
+pub there : {A B : Type 0} (f : A → B) (o : Option A) (b : B) → option_map f o ≡ Some b → (a : A) × (o ≡ Some a)
 there f None b h = cc
 there f (Some a) b h = (a, refl)
 

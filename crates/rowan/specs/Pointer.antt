@@ -4,14 +4,15 @@
 --     An edit of the text moves what stands behind it, and leaves what stands before.
 use Rattle.std.specs.Prelude.{◌≡◌, ℕ, ◌+◌, ◌-◌, ◌≤◌, if◌then◌else◌, ◌&&◌, Bool, true, false, List, [], ◌∷◌, length, min, nat_le, nat_eq, Option, Some, None}
 use Rattle.std.specs.List.{find}
-use Rattle.std.specs.Option.{option_map}
+use Rattle.std.specs.Option.{option_map, option_and_then}
 use Rattle.rowan_green.specs.declared.utility_types.NodeOrToken.TheVariants.{Node, Token}
 use Rattle.rowan_green.specs.Fits.{byte_limit}
-use Rattle.rowan_green.specs.Path.{Path, subterm, begins, range, shifted}
+use Rattle.rowan_green.specs.Path.{Path, subterm, begins, range, put, shifted}
+use Rattle.rowan_green.specs.Replacements.{Replacement}
 use Rattle.rowan_green.specs.Search.{digits}
 use Rattle.rowan_green.specs.Span.{Span}
 use Rattle.rowan_green.specs.Steps.{Tally, count_limit}
-use Rattle.rowan_green.specs.Term.{NodeTerm, node_kind, Term}
+use Rattle.rowan_green.specs.Term.{NodeTerm, node_kind, Term, term_len}
 use Rattle.rowan_cursor.specs.Cursor.{Cursor, kind, text_range}
 use Rattle.rowan_cursor.specs.Moves.{child_count, nodes_at, cursor_at}
 use Rattle.rowan_cursor.specs.Search.{IsChain}
@@ -114,3 +115,10 @@ range_after replaced new range =
 abbrev pub carried : {K : Type 0} → Span → ℕ → Pointer K → Option (Pointer K)
 carried replaced new p =
     option_map (λ range. record { kind = p.kind; range = range }) (range_after replaced new p.range)
+
+-- the pointer over replacements, as they come in turn to t: each takes the range that what it replaces has by then
+abbrev pub carried_in_turn : {K : Type 0} → Term → List Replacement → Pointer K → Option (Pointer K)
+carried_in_turn t [] p = Some p
+carried_in_turn t (r ∷ rs) p =
+    option_and_then (carried_in_turn (put t r.path r.new) rs)
+    (carried (range t r.path) (term_len r.new) p)

@@ -12,7 +12,7 @@ use Rattle.rowan_green.specs.declared.fault.Fault.TheVariants.{Memory}
 use Rattle.rowan_green.specs.declared.utility_types.NodeOrToken.TheVariants.{Node, Token}
 use Rattle.rowan_green.specs.Replacements.{Replacement}
 use Rattle.rowan_green.specs.Span.{Holds}
-use Rattle.rowan_green.specs.Term.{Term}
+use Rattle.rowan_green.specs.Term.{NodeTerm, Term}
 use Rattle.rowan_cursor.specs.Cursor.{Cursor, text_range}
 use Rattle.rowan_cursor.specs.Moves.{Element, place_of, tree_top, parent, first_child, last_child, first_child_or_token, last_child_or_token, next_sibling, prev_sibling, next_sibling_or_token, prev_sibling_or_token, first_token, last_token, next_token, prev_token}
 use Rattle.rowan_cursor.specs.Replacement.{IsReplacement, WhyNoReplacement}
@@ -120,18 +120,24 @@ pub record Trace (e : Element) (steps : List Step) (reports : List Report) : Typ
 
 -- ---- the tree after all steps
 
--- the tree in which an element stands
+-- the root of the tree in which an element stands, and this tree
+abbrev pub root_of : Element → NodeTerm
+root_of e = (place_of e).root
+
 abbrev pub tree_of : Element → Term
-tree_of e = Node (place_of e).root
+tree_of e = Node (root_of e)
 
 -- where a step after the last one would start
 abbrev pub last_element : Element → List Report → Element
 last_element e [] = e
 last_element e (report ∷ reports) = last_element (element_after e report) reports
 
--- the tree after all steps
+-- the root of the tree after all steps, and this tree
+abbrev pub last_root : Element → List Report → NodeTerm
+last_root e reports = root_of (last_element e reports)
+
 abbrev pub last_tree : Element → List Report → Term
-last_tree e reports = tree_of (last_element e reports)
+last_tree e reports = Node (last_root e reports)
 
 -- what a step put in the place of an element, if its report is a new root
 abbrev pub replacement_of : Cursor → Option Term → Report → List Replacement

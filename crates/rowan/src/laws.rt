@@ -14,7 +14,7 @@ ghost use Rattle.rowan_green.specs.declared.utility_types.NodeOrToken.TheVariant
 ghost use Rattle.rowan_cursor.specs.Cursor.{Cursor};
 ghost use Rattle.rowan_cursor.specs.Moves.{Element, nodes_at, cursor_at};
 ghost use Rattle.rowan_cursor.specs.Search.{IsChain};
-ghost use Rattle.rowan.specs.Pointer.{Pointer, pointer_to, means_kind, is_meant, up_to, Resolves, LeadsAbove, carried};
+ghost use Rattle.rowan.specs.Pointer.{Pointer, pointer_to, means_kind, is_meant, up_to, Resolves, LeadsAbove, carried, carried_in_turn};
 ghost use Rattle.rowan.specs.declared.script.calls.Call.{Call};
 ghost use Rattle.rowan.specs.declared.script.calls.Outcome.{Outcome};
 ghost use Rattle.rowan.specs.declared.script.steps.Report.{Report};
@@ -22,7 +22,7 @@ ghost use Rattle.rowan.specs.declared.script.steps.Step.{Step};
 ghost use Rattle.rowan.specs.Rewriting.{Rewrites};
 ghost use Rattle.rowan.specs.Requests.{stream, accepted_tokens, accepted_text};
 ghost use Rattle.rowan.specs.Run.{Run};
-ghost use Rattle.rowan.specs.Trace.{Trace, tree_of, last_tree, replacements};
+ghost use Rattle.rowan.specs.Trace.{Trace, root_of, tree_of, last_root, last_tree, replacements};
 
 use crate::api::Language;
 pub use rowan_cursor::laws as cursor;
@@ -144,6 +144,30 @@ pub fn pointers_lead_to_their_nodes<L: Language>()
         let means = means_kind L.meaning L.Kind.eq pointer.kind in
         Resolves means pointer.range (cursor_at root []) found
         → LeadsAbove means pointer.range root q found }
+{}
+
+/// Pointers outlive whole traces. A pointer to a node with text that stands apart from all accepted replacements of a trace, carried
+/// over each in turn, is the pointer to that node in the last tree; and there it leads to the node, or to one above it that has
+/// the same range and an equal kind.
+pub fn pointers_outlive_traces<L: Language>()
+    ensures carried { (e : Element) (steps : List Step) (reports : List Report)
+        (q : Path) (n : NodeTerm)
+        → Trace e steps reports
+        → SeparateFromAll q (replacements e steps reports)
+        → subterm (tree_of e) q ≡ Some (Node n) → 0 < node_len n
+        → option_and_then (carried_in_turn (tree_of e) (replacements e steps reports))
+        (pointer_to L.meaning (cursor_at (root_of e) q))
+        ≡ pointer_to L.meaning (cursor_at (last_root e reports) q) }
+    ensures leads { (e : Element) (steps : List Step) (reports : List Report)
+        (q : Path) (n : NodeTerm) (first last : Pointer L.Kind) (found : Option Cursor)
+        → Trace e steps reports
+        → SeparateFromAll q (replacements e steps reports)
+        → subterm (tree_of e) q ≡ Some (Node n) → 0 < node_len n
+        → pointer_to L.meaning (cursor_at (root_of e) q) ≡ Some first
+        → carried_in_turn (tree_of e) (replacements e steps reports) first ≡ Some last →
+        let means = means_kind L.meaning L.Kind.eq last.kind in
+        Resolves means last.range (cursor_at (last_root e reports) []) found
+        → LeadsAbove means last.range (last_root e reports) q found }
 {}
 
 /// One chain of a range begins at each element. A search along that of the root visits one node more at most than the longest path
