@@ -6,7 +6,7 @@ use Rattle.rowan_green.specs.declared.fault.Fault.{Fault}
 use Rattle.rowan_green.specs.declared.fault.Fault.TheVariants.{TextTooLong, TooManyChildren, CheckpointPast, CheckpointBefore, NothingOpen, NotOneElement, NotANode, OtherKind, NotFound, Memory, UnknownMark, NotOneList}
 use Rattle.rowan_green.specs.declared.utility_types.NodeOrToken.TheVariants.{Node, Token}
 use Rattle.rowan_green.specs.Fits.{byte_limit, ChildPasses, PassesLimit}
-use Rattle.rowan_green.specs.Term.{TokenTerm, NodeTerm, Term, node_of, node_len, term_text, term_len, joined_text, sum_of_lens}
+use Rattle.rowan_green.specs.Term.{TokenTerm, NodeTerm, Term, node_of, node_kind, node_len, term_text, term_len, joined_text, sum_of_lens}
 use Rattle.rowan_green.specs.Word.{Symbol, Open, Leaf, Close, term_word, Item, Bare, Whole, HasParts, whole_terms, HasTerms, word_text, Closes, WhyNotClosed, WhyUnfinished}
 use Rattle.rowan_green.proofs.Terms.{node_len-node_of, sum_of_lens-append, length-joined_text}
 use Rattle.rowan_green.proofs.WeaveLemmas.{whole_terms-append, whole_terms-open, spelled-close}
@@ -209,20 +209,25 @@ pub IsTree-closes : {m : NodeTerm} (v w : List Symbol) → IsInRoot v 0 → Clos
 IsTree-closes v w h c = from c.before c.kind c.children (parts-unique v (Bare root_kind ∷ h.items) (c.before ++ Bare c.kind ∷ map Whole c.children) h.parts c.parts) (closed_parts v w c)
   where
     from : (before : List Item) (k : ℕ) (ts : List Term) → Bare root_kind ∷ h.items ≡ before ++ Bare k ∷ map Whole ts → HasParts w (before ++ Whole (Node (node_of k ts)) ∷ []) → IsTree w
-    from [] k ts e p = record { root = node_of k ts; parts = p }
+    from [] k ts e p = record { root = node_of k ts; kind = cc; parts = p }
     from (b ∷ before) k ts e p =
         let same : h.items ≡ before ++ Bare k ∷ map Whole ts = cc in
         absurd (omega (arith, ap bare_count same, bare_count-append before (Bare k ∷ map Whole ts), h.opened))
 
+-- the whole terms of a tree are its root
+IsTree-terms : (w : List Symbol) (ts : List Term) (h : IsTree w) → HasTerms w ts → ts ≡ Node h.root ∷ []
+IsTree-terms w ts h k = HasTerms-unique w ts (Node h.root ∷ []) k (record { items = Whole (Node h.root) ∷ []; parts = h.parts; terms = refl })
+
+-- the finished tree has the kind of a root
+pub IsTree-kind : (w : List Symbol) (n : NodeTerm) → IsTree w → HasTerms w (Node n ∷ []) → node_kind n ≡ root_kind
+IsTree-kind w n h k = let e = IsTree-terms w (Node n ∷ []) h k in let same : n ≡ h.root = cc in ap node_kind same ∙ h.kind
+
 pub IsTree-refuses : (w : List Symbol) (f : Fault) → IsTree w → WhyUnfinished w f → ⊥
 IsTree-refuses w f h why = refuted f why
   where
-    only : (ts : List Term) → HasTerms w ts → ts ≡ Node h.root ∷ []
-    only ts k = HasTerms-unique w ts (Node h.root ∷ []) k (record { items = Whole (Node h.root) ∷ []; parts = h.parts; terms = refl })
-
     refuted : (g : Fault) → WhyUnfinished w g → ⊥
-    refuted NotOneElement k = k.2 (ap length (only k.0 k.1))
-    refuted NotANode k = let e = only (Token k.0 ∷ []) k.1 in cc
+    refuted NotOneElement k = k.2 (ap length (IsTree-terms w k.0 h k.1))
+    refuted NotANode k = let e = IsTree-terms w (Token k.0 ∷ []) h k.1 in cc
     refuted TextTooLong k = k
     refuted TooManyChildren k = k
     refuted CheckpointPast k = k

@@ -2,7 +2,7 @@
 -- and between them whole terms that are not empty.
 use Rattle.std.specs.Prelude.{◌≡◌, ℕ, ◌+◌, ◌<◌, ◌≤◌, List, [], ◌∷◌, length}
 use Rattle.rowan_green.specs.declared.utility_types.NodeOrToken.TheVariants.{Node}
-use Rattle.rowan_green.specs.Term.{NodeTerm, Term, term_len}
+use Rattle.rowan_green.specs.Term.{NodeTerm, Term, node_kind, term_len}
 use Rattle.rowan_tool.specs.declared.sexp.lang.SyntaxKind.TheVariants.{ROOT}
 use Rattle.rowan_tool.specs.Sexp.{number_of}
 use Rattle.rowan_green.specs.Word.{Symbol, Item, Bare, Whole, HasParts, whole_terms, word_text}
@@ -44,7 +44,8 @@ pub record IsInRoot (w : List Symbol) (open_lists : ℕ) : Type 0 where
   pub filled : AreFilled (whole_terms items)
   pub ends : EndsWhole items
 
--- all openings are closed, and one node is there
+-- all openings are closed, and the root is there
 pub record IsTree (w : List Symbol) : Type 0 where
   pub root : NodeTerm
+  pub kind : node_kind root ≡ root_kind
   pub parts : HasParts w (Whole (Node root) ∷ [])

@@ -1,9 +1,11 @@
-//! S-expressions: their kinds, their lexer and their parser.
+//! S-expressions: their kinds, their lexer, their parser and the wrappers of their nodes.
+mod ast;
 mod lang;
 mod lexer;
 mod parsed;
 mod parser;
 
+pub use ast::{Atom, List, Root, Sexp};
 pub use lang::{Lang, SyntaxKind};
 pub use lexer::{Token, lex};
 pub use parsed::Parse;

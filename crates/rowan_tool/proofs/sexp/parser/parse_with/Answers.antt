@@ -6,7 +6,7 @@ use Rattle.rowan_green.specs.Stream.{subterms}
 use Rattle.rowan_green.specs.Term.{node_text}
 use Rattle.rowan_green.proofs.StreamLemmas.{InternsWord-starts, InternsWord-finished, intern_all-first_seen}
 use Rattle.rowan_tool.specs.Sexp.{tokens_text}
-use Rattle.rowan_tool.proofs.ParsingLemmas.{IsTree-refuses}
+use Rattle.rowan_tool.proofs.ParsingLemmas.{IsTree-kind, IsTree-refuses}
 use Rattle.rowan_tool.proofs.sexp.parser.parse_with.Goals as goal
 
 pub returns-in-Ok-clause-text : goal.returns-in-Ok-clause-text
@@ -23,6 +23,9 @@ returns-in-Ok-clause-interned c =
     let all = c.cache-in-Ok-2.given.1 (sym (c.build.ensures.loan ∙ c.with_cache-builder.ensures.loan)) ∙ left ∙ InternsWord-finished c.args.cache.now ended c.in-Ok.green intern c.in-Ok.ensures.ok in
     ap (λ d. d.seen) (all ∙ intern_all-first_seen c.args.cache.now (subterms (Node c.in-Ok.green)) c.with_cache-builder.ensures.first)
     ∙ ap (λ n. first_seen c.args.cache.now.limit (c.args.cache.now.seen ++ subterms (Node n))) (sym c.new.ensures)
+
+pub new-requires : goal.new-requires
+new-requires c = IsTree-kind c.build.new.builder.inner.word c.in-Ok.green c.in_ok-build.ensures.ok c.in-Ok.ensures.ok
 
 pub unreachable-requires : goal.unreachable-requires
 unreachable-requires c = IsTree-refuses c.build.new.builder.inner.word c.in-Err._unfinished.fault c.in_ok-build.ensures.ok c.in-Err.ensures.err
