@@ -140,9 +140,10 @@ impl AstNode for Root {
         ensures { let casting = casts_at kind_of is_root in
             option_map (λ root. root) result ≡ if_casts casting syntax }
     {
-        match Root::can_cast(syntax.kind()) {
-            true => Some(Root { syntax }),
-            false => None,
+        if Root::can_cast(syntax.kind()) {
+            Some(Root { syntax })
+        } else {
+            None
         }
     }
 
@@ -175,9 +176,10 @@ impl AstNode for Atom {
         ensures { let casting = casts_at kind_of is_atom in
             option_map (λ atom. atom) result ≡ if_casts casting syntax }
     {
-        match Atom::can_cast(syntax.kind()) {
-            true => Some(Atom { syntax }),
-            false => None,
+        if Atom::can_cast(syntax.kind()) {
+            Some(Atom { syntax })
+        } else {
+            None
         }
     }
 
@@ -210,9 +212,10 @@ impl AstNode for List {
         ensures { let casting = casts_at kind_of is_list in
             option_map (λ list. list) result ≡ if_casts casting syntax }
     {
-        match List::can_cast(syntax.kind()) {
-            true => Some(List { syntax }),
-            false => None,
+        if List::can_cast(syntax.kind()) {
+            Some(List { syntax })
+        } else {
+            None
         }
     }
 
