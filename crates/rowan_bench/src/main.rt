@@ -5,7 +5,9 @@ mod children;
 mod cursors;
 mod depth;
 mod draws;
+mod edits;
 mod timed;
+mod typed;
 mod walks;
 
 use anyhow::{Context, Result, bail};
@@ -27,6 +29,8 @@ usage: rowan_bench depth parse|compare|show LEVELS
        rowan_bench edit shared|own CHILDREN TIMES
        rowan_bench cursors fill|whole|walk|move|nodes TURNS
        rowan_bench walks events|offset|cover|copy|find|equal TURNS
+       rowan_bench typed raw|walk|pointers TURNS
+       rowan_bench edits replace|root|trace|cursors|green TURNS
 
 depth   parses that many lists, one in the other, and then
           parse    drops the tree
@@ -53,7 +57,17 @@ walks   parses the s-expressions of standard input, makes a cursor at the root, 
           cover    searches the elements that cover 10,000 ranges of 0 to 63 bytes, which are drawn
           copy     copies the text
           find     searches a character that the text has not
-          equal    compares the text with an equal one";
+          equal    compares the text with an equal one
+typed   parses the s-expressions of standard input, makes a cursor at the root, and then in each turn
+          raw      counts the words in a walk with tokens, by the numbers of their kinds
+          walk     counts them in the same walk of a tree of a language
+          pointers resolves pointers to the nodes at 10,000 offsets, which are drawn
+edits   parses the s-expressions of standard input, and then in each turn
+          replace  replaces the token in the middle 10,000 times
+          root     makes a cursor at the root of the tree with that replacement
+          trace    replaces tokens at 1,000 offsets, which are drawn, one after the other, by one trace
+          cursors  makes the same replacements, with a cursor at each new root
+          green    makes them in green trees alone, and then a cursor at the last root";
 
 fn main(rt: HostRuntime) -> ExitCode {
     match run(&rt) {
@@ -81,6 +95,8 @@ fn run(rt: &HostRuntime) -> Result<()> {
         "edit" => edit(rt, words),
         "cursors" => move_cursors(rt, words),
         "walks" => walk(rt, words),
+        "typed" => walk_typed(rt, words),
+        "edits" => replace(rt, words),
         _ => bail!("there is no such command"),
     }
 }
@@ -205,6 +221,30 @@ fn walk(rt: &HostRuntime, words: &[String]) -> Result<()> {
     let root = SyntaxNode::new_root(rt.alloc(), parsed.green().clone()?)?;
     let (total, number) = walks::time(rt, &root, text.as_str(), operation, turns)?;
     println!(rt; "{} ns, {number}", total.as_nanos())?;
+    Ok(())
+}
+
+fn walk_typed(rt: &HostRuntime, words: &[String]) -> Result<()> {
+    let operation = typed::Operation::from_word(word_at(words, 1)).context(
+        "raw, walk or pointers is missing",
+    )?;
+    let turns = number_at(words, 2)?;
+    let text = io::read_to_string(rt.alloc(), rt.reader())?;
+    let parsed = sexp::parse(rt.alloc(), text.as_str())?;
+    let (total, number) = typed::time(rt, parsed.green(), operation, turns)?;
+    println!(rt; "{} ns, {number}", total.as_nanos())?;
+    Ok(())
+}
+
+fn replace(rt: &HostRuntime, words: &[String]) -> Result<()> {
+    let operation = edits::Operation::from_word(word_at(words, 1)).context(
+        "replace, root, trace, cursors or green is missing",
+    )?;
+    let turns = number_at(words, 2)?;
+    let text = io::read_to_string(rt.alloc(), rt.reader())?;
+    let parsed = sexp::parse(rt.alloc(), text.as_str())?;
+    let (total, marks) = edits::time(rt, parsed.green(), operation, turns)?;
+    println!(rt; "{} ns, {marks}", total.as_nanos())?;
     Ok(())
 }
 

@@ -50,7 +50,7 @@ impl Operation {
 }
 
 /// The offsets of a turn, in a text of so many bytes.
-fn drawn_offsets(alloc: Global, len: u32) -> Result<Vec<TextSize>, AllocError> {
+pub fn drawn_offsets(alloc: Global, len: u32) -> Result<Vec<TextSize>, AllocError> {
     let mut draws = Draws::new();
     let mut offsets = Vec::with_capacity(alloc, SEARCHES)?;
     for _ in 0..SEARCHES {
