@@ -1,4 +1,6 @@
 //! Printed trees of a language with two kinds, of which one has many raw kinds, and of one in which both have.
+use crate::parts::Part::{self, Close, Leaf, Open};
+use crate::parts::tree;
 use rowan::{Fault, GreenNode, GreenNodeBuilder, Language, SyntaxKind, SyntaxNode};
 use std::alloc::Global;
 use std::test::Fail;
@@ -167,20 +169,18 @@ impl Language for Numbers {
 }
 
 /// A node in a node, each with tokens, where no raw kind comes twice.
-fn numbered(alloc: Global) -> Result<GreenNode, Fault> {
-    let mut builder = GreenNodeBuilder::new(alloc);
-    builder.start_node(SyntaxKind(4))?;
-    builder.token(SyntaxKind(1), "a")?;
-    builder.token(SyntaxKind(65534), "b")?;
-    builder.start_node(SyntaxKind(3))?;
-    builder.token(SyntaxKind(2), "c")?;
-    builder.token(SyntaxKind(65535), "d")?;
-    builder.finish_node()?;
-    builder.finish_node()?;
-    Ok(builder.finish()?)
-}
+const NUMBERED: [Part; 8] = [
+    Open(4),
+    Leaf(1, "a"),
+    Leaf(65534, "b"),
+    Open(3),
+    Leaf(2, "c"),
+    Leaf(65535, "d"),
+    Close,
+    Close,
+];
 
-const NUMBERED: &str = r#"EVEN@0..4
+const NUMBERED_LINES: &str = r#"EVEN@0..4
   ODD@0..1 "a"
   EVEN@1..2 "b"
   ODD@2..4
@@ -190,7 +190,8 @@ const NUMBERED: &str = r#"EVEN@0..4
 
 #[test]
 fn shows_what_even_and_odd_kinds_mean(rt: HostRuntime) -> Result<(), Fail> {
-    let root: SyntaxNode<Numbers> = SyntaxNode::new_root(rt.alloc(), numbered(rt.alloc())?)?;
-    assert!(rt; root.debug_tree(rt.alloc())?.as_str() == NUMBERED);
+    let green = tree(rt.alloc(), &NUMBERED)?;
+    let root: SyntaxNode<Numbers> = SyntaxNode::new_root(rt.alloc(), green)?;
+    assert!(rt; root.debug_tree(rt.alloc())?.as_str() == NUMBERED_LINES);
     Ok(())
 }

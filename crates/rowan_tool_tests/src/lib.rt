@@ -1,6 +1,8 @@
-//! Tests of the typed layer, of the s-expressions and of the program that prints their trees.
+//! Tests of the typed layer, of pointers and wrappers, of the s-expressions and of the program that prints their trees.
 #![tactic(auto)]
 
+#[cfg(test)]
+mod ast;
 #[cfg(test)]
 mod lang;
 #[cfg(test)]
@@ -9,6 +11,8 @@ mod language;
 mod lexer;
 #[cfg(test)]
 mod parser;
+#[cfg(test)]
+mod parts;
 #[cfg(test)]
 mod program;
 #[cfg(test)]

@@ -1,0 +1,157 @@
+//! Nodes in wrappers, and pointers to these.
+use super::wrappers::{AnyNode, EvenNode};
+use super::{Node, child_of, root_of};
+use crate::language::{Numbers, Parity};
+use crate::parts::Part::{self, Close, Leaf, Open};
+use rowan::ast::{AstChildren, AstNode, AstPtr, SyntaxNodePtr, support};
+use rowan::{Fault, TextRange, TextSize};
+use std::alloc::Global;
+use std::test::Fail;
+
+/// A node with an odd and two even children, and with tokens of both kinds.
+const TREE: [Part; 13] = [
+    Open(2),
+    Leaf(5, "a"),
+    Open(1),
+    Leaf(2, "b"),
+    Close,
+    Open(4),
+    Leaf(2, "c"),
+    Close,
+    Leaf(8, "d"),
+    Open(6),
+    Leaf(2, "e"),
+    Close,
+    Close,
+];
+
+/// The places of wrappers among all children, as digits.
+fn places<N>(wrappers: AstChildren<N>) -> Result<usize, Fault>
+where
+    N: AstNode<Language = Numbers> + Drop,
+{
+    let mut places = 0usize;
+    for wrapper in wrappers {
+        let place = wrapper?.syntax().index();
+        places = places.saturating_mul(10).saturating_add(place);
+    }
+    Ok(places)
+}
+
+#[test]
+fn children_that_cast_come_in_order(rt: HostRuntime) -> Result<(), Fail> {
+    let root = root_of(rt.alloc(), &TREE)?;
+    assert!(rt; places(support::children::<EvenNode>(&root)) == Ok(24));
+    assert!(rt; places(support::children::<AnyNode>(&root)) == Ok(124));
+    Ok(())
+}
+
+#[test]
+fn a_clone_keeps_the_rest(rt: HostRuntime) -> Result<(), Fail> {
+    let mut all = support::children::<AnyNode>(&root_of(rt.alloc(), &TREE)?);
+    let _ = all.next();
+    let copy = all.clone()?;
+    let _ = all.next();
+    assert!(rt; places(copy) == Ok(24));
+    assert!(rt; places(all) == Ok(4));
+    Ok(())
+}
+
+/// The first child of an even kind.
+fn first_even(root: &Node) -> Result<EvenNode, Fault> {
+    support::child(root)?.ok_or(Fault::NotFound)
+}
+
+/// The place of the first token of a kind.
+fn first_token(root: &Node, kind: Parity) -> Result<Option<usize>, Fault> {
+    match support::token(root, kind)? {
+        Some(token) => Ok(Some(token.index())),
+        None => Ok(None),
+    }
+}
+
+#[test]
+fn the_first_token_of_a_kind_is_found(rt: HostRuntime) -> Result<(), Fail> {
+    let root = root_of(rt.alloc(), &TREE)?;
+    let child = child_of(&root)?;
+    for (parent, kind, place) in [
+        (&root, Parity::Even, Some(3)),
+        (&root, Parity::Odd, Some(0)),
+        (&child, Parity::Odd, None),
+    ] {
+        assert!(rt; first_token(parent, kind) == Ok(place));
+    }
+    Ok(())
+}
+
+/// Whether a cloned subtree has the same green node, and is a root.
+fn begins_anew(even: &EvenNode) -> Result<bool, Fault> {
+    let copy = even.clone_subtree()?;
+    let is_root = copy.syntax().parent()?.is_none();
+    Ok(is_root && copy.syntax().green() == even.syntax().green())
+}
+
+#[test]
+fn a_cloned_subtree_is_a_root(rt: HostRuntime) -> Result<(), Fail> {
+    let even = first_even(&root_of(rt.alloc(), &TREE)?)?;
+    assert!(rt; even.syntax().index() == 2);
+    assert!(rt; begins_anew(&even) == Ok(true));
+    Ok(())
+}
+
+/// The pointer to a node as any node.
+fn to_any(node: Node) -> Result<AstPtr<AnyNode>, Fault> {
+    match AnyNode::cast(node) {
+        Some(any) => Ok(AstPtr::new(&any)),
+        None => Err(Fault::NotFound),
+    }
+}
+
+#[test]
+fn pointers_cast_as_their_kinds_do(rt: HostRuntime) -> Result<(), Fail> {
+    let root = root_of(rt.alloc(), &TREE)?;
+    let to_odd = to_any(child_of(&root)?)?;
+    let to_even = to_any(root)?;
+    assert!(rt; to_odd.cast::<EvenNode>().is_none());
+    assert!(rt; to_even.cast::<EvenNode>().is_some());
+    Ok(())
+}
+
+/// The pointer to the first child of an even kind.
+fn pointer(root: &Node) -> Result<AstPtr<EvenNode>, Fault> {
+    Ok(AstPtr::new(&first_even(root)?))
+}
+
+#[test]
+fn pointers_to_wrappers_are_those_to_their_nodes(rt: HostRuntime) -> Result<(), Fail> {
+    let typed = pointer(&root_of(rt.alloc(), &TREE)?)?;
+    let raw = typed.syntax_node_ptr();
+    let range = TextRange::new(TextSize::from(2), TextSize::from(3));
+    assert!(rt; (raw.kind(), raw.text_range()) == (Parity::Even, range));
+    assert!(rt; raw.cast::<EvenNode>() == Some(typed.clone()?));
+    assert!(rt; raw.cast::<AnyNode>() == typed.clone()?.cast());
+    assert!(rt; SyntaxNodePtr::from(typed) == raw);
+    Ok(())
+}
+
+/// The place of the wrapper to which a pointer leads.
+fn found(pointer: &AstPtr<EvenNode>, root: &Node) -> Result<usize, Fault> {
+    let wrapper = pointer.to_node(root)?;
+    Ok(wrapper.syntax().index())
+}
+
+#[test]
+fn pointers_lead_to_wrappers(rt: HostRuntime) -> Result<(), Fail> {
+    let root = root_of(rt.alloc(), &TREE)?;
+    let child = child_of(&root)?;
+    let other = child.clone_subtree()?;
+    let pointer = pointer(&root)?;
+    for (root, answer) in [
+        (&root, Ok(2)),
+        (&child, Err(Fault::NotFound)),
+        (&other, Err(Fault::NotFound)),
+    ] {
+        assert!(rt; found(&pointer, root) == answer);
+    }
+    Ok(())
+}
