@@ -2,8 +2,12 @@
 
 use crate::instruction::Event;
 use crate::{cursor, operand, tree};
-use rowan::cursor::SyntaxElement;
-use rowan::{Fault, GreenElement, GreenNode, NodeCache, TextSize, TokenAtOffset, WalkEvent};
+use rowan::ast::SyntaxNodePtr;
+use rowan::cursor::{SyntaxElement, SyntaxNode};
+use rowan::{
+    Fault, GreenElement, GreenNode, Language, NodeCache, TextSize, TokenAtOffset, WalkEvent,
+};
+use rowan_tool::sexp::Lang;
 use std::alloc::{AllocError, Global};
 
 /// The answer to one line.
@@ -24,6 +28,10 @@ pub enum Answer<'a> {
     Green(GreenNode),
     /// The element where a step went.
     Moved(SyntaxElement),
+    /// The root of the new tree.
+    Replaced(SyntaxNode),
+    /// An element that leaves the cursor where it is.
+    Element(SyntaxElement),
     /// The elements that a step lists.
     Elements(Vec<SyntaxElement>),
     /// The tokens at an offset.
@@ -39,6 +47,14 @@ pub enum Answer<'a> {
     Found(Option<TextSize>),
     /// The character at an offset.
     Char(Option<char>),
+    /// The pointer that is kept now.
+    Pointer(SyntaxNodePtr<Lang>),
+    /// A pointer did not outlive an edit.
+    Gone,
+    /// How many nodes were visited, and the node to which a pointer leads.
+    Resolved(u64, Option<SyntaxElement>),
+    /// The printed tree.
+    Lines(String),
     Yes,
     No,
     /// The current cursor or text is kept.
@@ -93,7 +109,9 @@ impl<'a> Answer<'a> {
             Answer::Finished(root) => with_node(alloc, "Finished ", root),
             Answer::Green(node) => with_node(alloc, "Green ", node),
             Answer::Child(index, offset, child) => child_text(alloc, *index, *offset, child),
-            Answer::Moved(element) => moved_text(alloc, element),
+            Answer::Moved(element) => element_text(alloc, "Moved ", element),
+            Answer::Replaced(root) => replaced_text(alloc, root),
+            Answer::Element(element) => element_text(alloc, "Element ", element),
             Answer::Elements(elements) => list_text(alloc, elements.as_slice()),
             Answer::Tokens(tokens) => tokens_text(alloc, tokens),
             Answer::Events(events) => events_text(alloc, events.as_slice()),
@@ -104,6 +122,11 @@ impl<'a> Answer<'a> {
             Answer::Found(Some(offset)) => format!(in alloc; "Found {offset:?}"),
             Answer::Found(None) => String::from_str(alloc, "NotFound"),
             Answer::Char(found) => char_text(alloc, *found),
+            Answer::Pointer(pointer) => pointer_text(alloc, pointer),
+            Answer::Gone => String::from_str(alloc, "Gone"),
+            Answer::Lines(lines) => quoted_text(alloc, "Lines ", lines.as_str()),
+            Answer::Resolved(visits, None) => format!(in alloc; "Unresolved {visits}"),
+            Answer::Resolved(visits, Some(node)) => resolved_text(alloc, *visits, node),
             Answer::Yes => String::from_str(alloc, "Yes"),
             Answer::No => String::from_str(alloc, "No"),
             Answer::Accepted => String::from_str(alloc, "Accepted"),
@@ -135,9 +158,27 @@ fn child_text(
     Ok(text)
 }
 
-fn moved_text(alloc: Global, element: &SyntaxElement) -> Result<String, AllocError> {
+fn element_text(alloc: Global, word: &str, element: &SyntaxElement) -> Result<String, AllocError> {
     let mut text = String::new(alloc);
-    push_element(alloc, &mut text, "Moved ", element)?;
+    push_element(alloc, &mut text, word, element)?;
+    Ok(text)
+}
+
+fn replaced_text(alloc: Global, root: &SyntaxNode) -> Result<String, AllocError> {
+    let range = root.text_range();
+    let mut text = format!(in alloc; "Replaced {range:?} ")?;
+    tree::push_node(alloc, &mut text, root.green())?;
+    Ok(text)
+}
+
+fn pointer_text(alloc: Global, pointer: &SyntaxNodePtr<Lang>) -> Result<String, AllocError> {
+    let (name, range) = (Lang::kind_name(pointer.kind()), pointer.text_range());
+    format!(in alloc; "Ptr {name} {range:?}")
+}
+
+fn resolved_text(alloc: Global, visits: u64, node: &SyntaxElement) -> Result<String, AllocError> {
+    let mut text = format!(in alloc; "Resolved {visits} ")?;
+    cursor::push_element(alloc, &mut text, node)?;
     Ok(text)
 }
 
@@ -201,6 +242,11 @@ fn chunks_text(alloc: Global, chunks: &[String]) -> Result<String, AllocError> {
         text.push_str(operand::quoted(alloc, chunk.as_str())?.as_str())?;
     }
     Ok(text)
+}
+
+fn quoted_text(alloc: Global, word: &str, text: &str) -> Result<String, AllocError> {
+    let quoted = operand::quoted(alloc, text)?;
+    format!(in alloc; "{word}{quoted}")
 }
 
 fn char_text(alloc: Global, found: Option<char>) -> Result<String, AllocError> {

@@ -49,7 +49,10 @@ pub fn build<'cache, 's>(
             },
             Instruction::Parse(text) => return Ok(Built::Parse(line, text.as_str(), rest)),
             Instruction::Counts => Answer::counts(builder.cache()),
-            Instruction::Call(_) | Instruction::Step(_) => Answer::NoTree,
+            Instruction::Call(_)
+            | Instruction::ScriptStep(_)
+            | Instruction::Step(_)
+            | Instruction::UnreadMove => Answer::NoTree,
         };
         answers.push(line.answered(answer))?;
     }

@@ -1,12 +1,15 @@
 //! The instructions of a case.
 mod call;
+mod script_step;
 mod step;
 
 use crate::operand;
 use anyhow::{Result, bail};
 pub use call::Call;
+use rowan::script;
+pub use script_step::copy_of;
 use std::alloc::Global;
-pub use step::{Edit, Event, Listing, Move, Question, Slice, Step, Walk, tokens_at};
+pub use step::{Carrying, Edit, Event, Listing, PointerStep, Question, Slice, Step, Support, Walk};
 
 /// What one line of a case asks for.
 #[derive(Drop)]
@@ -18,8 +21,16 @@ pub enum Instruction {
     Finish,
     /// Gives the tree of a text in place of the builder's.
     Parse(String),
+    /// A step of which scripts are made.
+    ScriptStep(script::Step),
+    /// Another step.
     Step(Step),
+    /// A step of which only the name is read, and which may move the cursor.
+    UnreadMove,
 }
+
+/// The names of the steps that may move the cursor and whose operands are not read.
+const UNREAD_MOVES: [&str; 2] = ["ReparseList", "EditList"];
 
 impl Instruction {
     /// Reads an instruction: its name, a space and its operands. A line is refused where its first word names none, and
@@ -29,6 +40,9 @@ impl Instruction {
         if let Some(call) = Call::parse(alloc, name, operands)? {
             return Ok(Instruction::Call(call));
         }
+        if let Some(step) = script_step::parse(alloc, name, operands)? {
+            return Ok(Instruction::ScriptStep(step));
+        }
         if let Some(step) = Step::parse(alloc, name, operands)? {
             return Ok(Instruction::Step(step));
         }
@@ -36,6 +50,7 @@ impl Instruction {
             ("Counts", "") => Ok(Instruction::Counts),
             ("Finish", "") => Ok(Instruction::Finish),
             ("Parse", _) => Ok(Instruction::Parse(operand::text(alloc, operands)?)),
+            _ if UNREAD_MOVES.iter().any(|unread| *unread == name) => Ok(Instruction::UnreadMove),
             _ => bail!("`{line}` is no instruction"),
         }
     }

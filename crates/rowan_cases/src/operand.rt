@@ -1,7 +1,8 @@
 //! The operands of instructions: words, numbers, kinds and texts.
 
 use anyhow::{Context, Result, bail, ensure};
-use rowan::{Direction, SyntaxKind, TextRange, TextSize};
+use rowan::{Direction, Language, SyntaxKind, TextRange, TextSize};
+use rowan_tool::sexp::{self, Lang};
 use serde_json::Value;
 use std::alloc::{AllocError, Global};
 
@@ -62,6 +63,17 @@ pub fn kind(word: &str) -> Result<SyntaxKind> {
         .parse::<u16>()
         .context(format_args!("`{word}` is no kind"))?;
     Ok(SyntaxKind(raw))
+}
+
+/// The kind of an s-expression that is called so.
+pub fn kind_by_name(word: &str) -> Result<sexp::SyntaxKind> {
+    for raw in 0..8u16 {
+        let kind = Lang::kind_from_raw(SyntaxKind(raw));
+        if Lang::kind_name(kind) == word {
+            return Ok(kind);
+        }
+    }
+    bail!("`{word}` is no kind")
 }
 
 /// A text that is written as a JSON string.

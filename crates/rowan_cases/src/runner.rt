@@ -5,6 +5,7 @@ use crate::building::{Built, build};
 use crate::case_file::{CacheLine, CaseFile, Line};
 use crate::instruction::Instruction;
 use crate::standing::Standing;
+use crate::trace::Trace;
 use rowan::{Fault, GreenNode, GreenNodeBuilder, NodeCache};
 use rowan_tool::sexp;
 use std::alloc::Global;
@@ -136,11 +137,11 @@ fn answer_lines<'s>(
     answers: &mut Vec<Answered<'s>>,
 ) -> Result<(), Fault> {
     match built(alloc, cache, lines, answers)? {
-        Built::Finished(tree, rest) => answer_steps(alloc, cache, Some(tree), rest, answers),
-        Built::Parse(line, text, rest) => {
-            let tree = parse(alloc, cache, line, text, answers)?;
-            answer_steps(alloc, cache, tree, rest, answers)
-        }
+        Built::Finished(tree, rest) => answer_steps(alloc, cache, tree, rest, answers),
+        Built::Parse(line, text, rest) => match parse(alloc, cache, line, text, answers)? {
+            Some(tree) => answer_steps(alloc, cache, tree, rest, answers),
+            None => answer_without_tree(cache, rest, answers),
+        },
         Built::Open => Ok(()),
     }
 }
@@ -160,23 +161,38 @@ fn built<'s>(
     )
 }
 
-/// Answers the lines behind the building part.
+/// Answers the lines behind the building part. Steps of which scripts are made are put off to the next other line.
 fn answer_steps<'s>(
     alloc: Global,
     cache: &NodeCache,
-    tree: Option<GreenNode>,
+    tree: GreenNode,
     lines: &'s [Line],
     answers: &mut Vec<Answered<'s>>,
 ) -> Result<(), Fault> {
-    let mut standing = match tree {
-        Some(tree) => Some(Standing::new(alloc, tree)?),
-        None => None,
-    };
+    let mut standing = Standing::new(alloc, tree)?;
+    let mut trace = Trace::new(alloc);
+    let mut is_lost = false;
     for line in lines {
-        let answer = step(alloc, &mut standing, cache, &line.instruction)?;
+        if let Instruction::ScriptStep(step) = &line.instruction
+            && !is_lost
+        {
+            trace.push(line, step)?;
+            continue;
+        }
+        trace.make(&mut standing.here, answers)?;
+        let answer = match &line.instruction {
+            Instruction::Counts => Answer::counts(cache),
+            Instruction::Step(step) if !is_lost => standing.answer(alloc, step)?,
+            Instruction::ScriptStep(_) | Instruction::Step(_) => Answer::Unsupported,
+            Instruction::UnreadMove => {
+                is_lost = true;
+                Answer::Unsupported
+            }
+            Instruction::Call(_) | Instruction::Finish | Instruction::Parse(_) => Answer::NoBuilder,
+        };
         answers.push(line.answered(answer))?;
     }
-    Ok(())
+    trace.make(&mut standing.here, answers)
 }
 
 /// Parses a text in place of builder calls.
@@ -198,21 +214,21 @@ fn parse<'s>(
     Ok(tree)
 }
 
-/// Answers an instruction behind the building part. A case stands nowhere where a text was refused, and so there is no tree.
-fn step<'s>(
-    alloc: Global,
-    standing: &mut Option<Standing>,
+/// Answers the lines behind a text that was refused.
+fn answer_without_tree<'s>(
     cache: &NodeCache,
-    instruction: &Instruction,
-) -> Result<Answer<'s>, Fault> {
-    match instruction {
-        Instruction::Counts => Ok(Answer::counts(cache)),
-        Instruction::Call(_) | Instruction::Finish | Instruction::Parse(_) => {
-            Ok(Answer::NoBuilder)
-        }
-        Instruction::Step(step) => match standing {
-            Some(standing) => standing.answer(alloc, step),
-            None => Ok(Answer::NoTree),
-        },
+    lines: &'s [Line],
+    answers: &mut Vec<Answered<'s>>,
+) -> Result<(), Fault> {
+    for line in lines {
+        let answer = match &line.instruction {
+            Instruction::Counts => Answer::counts(cache),
+            Instruction::ScriptStep(_) | Instruction::Step(_) | Instruction::UnreadMove => {
+                Answer::NoTree
+            }
+            Instruction::Call(_) | Instruction::Finish | Instruction::Parse(_) => Answer::NoBuilder,
+        };
+        answers.push(line.answered(answer))?;
     }
+    Ok(())
 }

@@ -1,10 +1,12 @@
-//! The steps of a case, behind its building part.
+//! The steps of a case that are made one by one, behind its building part.
 
 use crate::answer::Answer;
-use crate::instruction::{Listing, Move, Step};
-use crate::place::Place;
+use crate::element;
+use crate::instruction::Step;
+use crate::pointers::Pointers;
 use crate::texts::Texts;
-use rowan::cursor::SyntaxNode;
+use rowan::cursor::{SyntaxElement, SyntaxNode};
+use rowan::script::element_at;
 use rowan::{Fault, GreenNode, NodeOrToken};
 use std::alloc::Global;
 use std::collections::BTreeMap;
@@ -13,10 +15,11 @@ use std::collections::BTreeMap;
 #[derive(Drop)]
 pub struct Standing {
     /// The current cursor.
-    pub place: Place,
+    pub here: SyntaxElement,
     /// The cursors that are kept, by the numbers of their slots.
-    pub kept: BTreeMap<u32, Place>,
-    pub texts: Texts,
+    kept: BTreeMap<u32, SyntaxElement>,
+    texts: Texts,
+    pointers: Pointers,
 }
 
 impl Standing {
@@ -24,51 +27,64 @@ impl Standing {
     pub fn new(alloc: Global, root: GreenNode) -> Result<Standing, Fault> {
         let root = SyntaxNode::new_root(alloc, root)?;
         Ok(Standing {
-            place: Place::At(NodeOrToken::Node(root)),
+            here: NodeOrToken::Node(root),
             kept: BTreeMap::new(alloc),
             texts: Texts::new(alloc),
+            pointers: Pointers::new(alloc),
         })
     }
 
     /// Answers a step, and goes where it leads. Refused only for want of memory.
     pub fn answer<'a>(&mut self, alloc: Global, step: &Step) -> Result<Answer<'a>, Fault> {
         match step {
-            Step::GreenChildAt(range) => self.place.search(*range),
-            Step::GreenEdit(edit) => Ok(self.place.edit(edit)),
-            Step::Listing(listing) => self.place.list(alloc, *listing),
-            Step::Move(way) => self.go(way),
+            Step::GreenChildAt(range) => element::search(&self.here, *range),
+            Step::GreenEdit(edit) => Ok(element::edit(&self.here, edit)),
+            Step::ElementAt(path) => self.go_down(path.as_slice()),
+            Step::CloneSubtree => self.clone_subtree(),
+            Step::Listing(listing) => element::list(alloc, &self.here, *listing),
             Step::Save(slot) => self.save(*slot),
             Step::Load(slot) => self.load(*slot),
             Step::Same(slot) => Ok(self.compare(*slot)),
-            Step::TokenAt(offset) => self.place.tokens_at(*offset),
-            Step::Walk(walk) => self.place.walk(alloc, walk),
-            Step::Text => self.texts.read(&self.place),
+            Step::TokenAt(offset) => element::tokens_at(&self.here, *offset),
+            Step::Walk(walk) => element::walk(alloc, &self.here, walk),
+            Step::Text => self.texts.read(&self.here),
             Step::Slice(slice) => self.texts.slice(*slice),
             Step::Ask(question) => self.texts.ask(alloc, question),
             Step::KeepText(slot) => self.texts.keep(*slot),
             Step::EqText(slot) => Ok(self.texts.compare(*slot)),
-            Step::ReplaceNode(_) | Step::ReplaceToken(_) | Step::UnreadMove => {
-                self.place = Place::Unknown;
-                Ok(Answer::Unsupported)
-            }
+            Step::Pointer(step) => self.pointers.answer(&self.here, *step),
+            Step::Support(support) => element::support(alloc, &self.here, *support),
+            Step::DebugTree => element::debug_tree(alloc, &self.here),
             Step::Unread => Ok(Answer::Unsupported),
         }
     }
 
-    fn go<'a>(&mut self, way: &Move) -> Result<Answer<'a>, Fault> {
-        let Place::At(current) = &self.place else {
-            return Ok(Answer::Unsupported);
-        };
-        let Some(found) = way.make(current)? else {
+    fn go_down<'a>(&mut self, path: &[usize]) -> Result<Answer<'a>, Fault> {
+        let NodeOrToken::Node(node) = &self.here else {
             return Ok(Answer::Nowhere);
         };
-        self.place = Place::At(found.clone()?);
+        match element_at(node, path)? {
+            Some(found) => self.go_to(found),
+            None => Ok(Answer::Nowhere),
+        }
+    }
+
+    fn clone_subtree<'a>(&mut self) -> Result<Answer<'a>, Fault> {
+        let NodeOrToken::Node(node) = &self.here else {
+            return Ok(Answer::Nowhere);
+        };
+        let root = node.clone_subtree()?;
+        self.go_to(NodeOrToken::Node(root))
+    }
+
+    fn go_to<'a>(&mut self, found: SyntaxElement) -> Result<Answer<'a>, Fault> {
+        self.here = found.clone()?;
         Ok(Answer::Moved(found))
     }
 
     fn save<'a>(&mut self, slot: u32) -> Result<Answer<'a>, Fault> {
-        let place = self.place.clone()?;
-        self.kept.insert(slot, place)?;
+        let here = self.here.clone()?;
+        self.kept.insert(slot, here)?;
         Ok(Answer::Saved)
     }
 
@@ -76,22 +92,14 @@ impl Standing {
         let Some(kept) = self.kept.get(&slot) else {
             return Ok(Answer::Nowhere);
         };
-        let place = kept.clone()?;
-        let answer = match kept {
-            Place::At(element) => Answer::Moved(element.clone()?),
-            Place::Unknown => Answer::Unsupported,
-        };
-        self.place = place;
-        Ok(answer)
+        let kept = kept.clone()?;
+        self.go_to(kept)
     }
 
     fn compare<'a>(&self, slot: u32) -> Answer<'a> {
-        let Some(kept) = self.kept.get(&slot) else {
-            return Answer::Nowhere;
-        };
-        match (&self.place, kept) {
-            (Place::At(current), Place::At(kept)) => Answer::equality(current == kept),
-            _ => Answer::Unsupported,
+        match self.kept.get(&slot) {
+            Some(kept) => Answer::equality(self.here == *kept),
+            None => Answer::Nowhere,
         }
     }
 }

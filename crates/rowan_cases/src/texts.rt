@@ -2,7 +2,7 @@
 
 use crate::answer::Answer;
 use crate::instruction::{Question, Slice};
-use crate::place::Place;
+use rowan::cursor::SyntaxElement;
 use rowan::{Fault, NodeOrToken, SyntaxText};
 use std::alloc::{AllocError, Global};
 use std::collections::BTreeMap;
@@ -10,89 +10,68 @@ use std::collections::BTreeMap;
 /// The current text of a case, and those that are kept.
 #[derive(Drop)]
 pub struct Texts {
-    current: Reading,
+    current: Option<SyntaxText>,
     /// The texts that are kept, by the numbers of their slots.
-    kept: BTreeMap<u32, Reading>,
-}
-
-/// What was read as a text.
-#[derive(Clone, Drop)]
-enum Reading {
-    Nothing,
-    Text(SyntaxText),
-    /// Nobody knows which text, since nobody knew the place.
-    Unknown,
+    kept: BTreeMap<u32, SyntaxText>,
 }
 
 impl Texts {
     /// No text, and none kept.
     pub fn new(alloc: Global) -> Texts {
         Texts {
-            current: Reading::Nothing,
+            current: None,
             kept: BTreeMap::new(alloc),
         }
     }
 
-    /// The text of the node at a place becomes current.
-    pub fn read<'a>(&mut self, place: &Place) -> Result<Answer<'a>, Fault> {
-        match place {
-            Place::At(NodeOrToken::Node(node)) => self.take(node.text()?),
-            Place::At(NodeOrToken::Token(_)) => Ok(Answer::Nowhere),
-            Place::Unknown => {
-                self.current = Reading::Unknown;
-                Ok(Answer::Unsupported)
-            }
+    /// The text of a node becomes current.
+    pub fn read<'a>(&mut self, element: &SyntaxElement) -> Result<Answer<'a>, Fault> {
+        match element {
+            NodeOrToken::Node(node) => self.take(node.text()?),
+            NodeOrToken::Token(_) => Ok(Answer::Nowhere),
         }
     }
 
     /// A slice of the current text becomes current.
     pub fn slice<'a>(&mut self, slice: Slice) -> Result<Answer<'a>, Fault> {
-        match &self.current {
-            Reading::Nothing => Ok(Answer::Nowhere),
-            Reading::Text(text) => match slice.make(text)? {
-                Some(part) => self.take(part),
-                None => Ok(Answer::Nowhere),
-            },
-            Reading::Unknown => Ok(Answer::Unsupported),
+        let Some(text) = &self.current else {
+            return Ok(Answer::Nowhere);
+        };
+        match slice.make(text)? {
+            Some(part) => self.take(part),
+            None => Ok(Answer::Nowhere),
         }
     }
 
     fn take<'a>(&mut self, text: SyntaxText) -> Result<Answer<'a>, Fault> {
         let answer = Answer::Text(text.len(), text.to_text()?);
-        self.current = Reading::Text(text);
+        self.current = Some(text);
         Ok(answer)
     }
 
     /// Asks the current text.
     pub fn ask<'a>(&self, alloc: Global, question: &Question) -> Result<Answer<'a>, Fault> {
         match &self.current {
-            Reading::Nothing => Ok(Answer::Nowhere),
-            Reading::Text(text) => ask(alloc, text, question),
-            Reading::Unknown => Ok(Answer::Unsupported),
+            Some(text) => ask(alloc, text, question),
+            None => Ok(Answer::Nowhere),
         }
     }
 
     /// Keeps the current text.
     pub fn keep<'a>(&mut self, slot: u32) -> Result<Answer<'a>, Fault> {
-        if let Reading::Nothing = &self.current {
+        let Some(text) = &self.current else {
             return Ok(Answer::Nowhere);
-        }
-        let current = self.current.clone()?;
-        self.kept.insert(slot, current)?;
-        match &self.current {
-            Reading::Text(_) => Ok(Answer::Saved),
-            _ => Ok(Answer::Unsupported),
-        }
+        };
+        let text = text.clone()?;
+        self.kept.insert(slot, text)?;
+        Ok(Answer::Saved)
     }
 
     /// Compares the current and a kept text.
     pub fn compare<'a>(&self, slot: u32) -> Answer<'a> {
         match (&self.current, self.kept.get(&slot)) {
-            (Reading::Nothing, _) | (_, None) => Answer::Nowhere,
-            (Reading::Text(current), Some(Reading::Text(kept))) => {
-                Answer::equality(current == kept)
-            }
-            _ => Answer::Unsupported,
+            (Some(current), Some(kept)) => Answer::equality(current == kept),
+            _ => Answer::Nowhere,
         }
     }
 }

@@ -1,22 +1,22 @@
-//! The steps from a tree.
+//! The steps from a tree that are not made as scripts.
 mod edit;
 mod listing;
-mod moves;
+mod pointing;
 mod question;
-mod search;
 mod slice;
+mod support;
 mod walk;
 
-use crate::{operand, tree};
+use crate::operand;
 use anyhow::Result;
 pub use edit::Edit;
 pub use listing::Listing;
-pub use moves::Move;
+pub use pointing::{Carrying, PointerStep};
 pub use question::Question;
-use rowan::{GreenNode, GreenToken, TextRange, TextSize};
-pub use search::tokens_at;
+use rowan::{TextRange, TextSize};
 pub use slice::Slice;
 use std::alloc::Global;
+pub use support::Support;
 pub use walk::{Event, Walk};
 
 /// A step from the tree of a case.
@@ -24,7 +24,9 @@ pub use walk::{Event, Walk};
 pub enum Step {
     GreenChildAt(TextRange),
     GreenEdit(Edit),
-    Move(Move),
+    /// Goes down by these indexes of children, tokens counted.
+    ElementAt(Vec<usize>),
+    CloneSubtree,
     Listing(Listing),
     /// Keeps the current cursor in this slot.
     Save(u32),
@@ -45,32 +47,15 @@ pub enum Step {
     KeepText(u32),
     /// Compares the current text with the one in this slot.
     EqText(u32),
-    ReplaceNode(GreenNode),
-    ReplaceToken(GreenToken),
-    /// A step of which only the name is read, and which may move the cursor.
-    UnreadMove,
+    Pointer(PointerStep),
+    Support(Support),
+    DebugTree,
     /// A step of which only the name is read, and which leaves the cursor.
     Unread,
 }
 
-/// The names of the steps that may move the cursor and whose operands are not read.
-const UNREAD_MOVES: [&str; 2] = ["ReparseList", "EditList"];
-
-/// The names of the other steps whose operands are not read.
-const UNREAD: [&str; 12] = [
-    "Ptr",
-    "AfterEdit",
-    "Resolve",
-    "ResolveHere",
-    "PtrCast",
-    "SupportChild",
-    "SupportChildren",
-    "SupportToken",
-    "Eval",
-    "DebugLine",
-    "DebugTree",
-    "Json",
-];
+/// The names of the steps that leave the cursor and whose operands are not read.
+const UNREAD: [&str; 3] = ["Eval", "DebugLine", "Json"];
 
 impl Step {
     /// Reads a step. Nothing where the name is that of none.
@@ -78,39 +63,33 @@ impl Step {
         if let Some(edit) = Edit::parse(alloc, name, operands)? {
             return Ok(Some(Step::GreenEdit(edit)));
         }
-        if let Some(way) = Move::parse(alloc, name, operands)? {
-            return Ok(Some(Step::Move(way)));
-        }
         if let Some(listing) = Listing::parse(name, operands)? {
             return Ok(Some(Step::Listing(listing)));
         }
         if let Some(step) = of_text(alloc, name, operands)? {
             return Ok(Some(step));
         }
-        Ok(Some(match name {
-            "GreenChildAt" => Step::GreenChildAt(operand::range(operands)?),
-            "Save" => Step::Save(operand::number(operands)?),
-            "Load" => Step::Load(operand::number(operands)?),
-            "Same" => Step::Same(operand::number(operands)?),
-            "TokenAt" => Step::TokenAt(operand::offset(operands)?),
-            "Walk" => Step::Walk(Walk::Nodes(walk::calls(alloc, operands)?)),
-            "WalkWithTokens" => Step::Walk(Walk::WithTokens(walk::calls(alloc, operands)?)),
-            "ReplaceNode" => Step::ReplaceNode(tree::node(alloc, operands)?),
-            "ReplaceToken" => Step::ReplaceToken(tree::token(alloc, operands)?),
-            _ => return Ok(unread(name)),
+        if let Some(step) = PointerStep::parse(name, operands)? {
+            return Ok(Some(Step::Pointer(step)));
+        }
+        if let Some(support) = Support::parse(name, operands)? {
+            return Ok(Some(Step::Support(support)));
+        }
+        Ok(Some(match (name, operands) {
+            ("GreenChildAt", _) => Step::GreenChildAt(operand::range(operands)?),
+            ("ElementAt", _) => Step::ElementAt(operand::path(alloc, operands)?),
+            ("CloneSubtree", "") => Step::CloneSubtree,
+            ("Save", _) => Step::Save(operand::number(operands)?),
+            ("Load", _) => Step::Load(operand::number(operands)?),
+            ("Same", _) => Step::Same(operand::number(operands)?),
+            ("TokenAt", _) => Step::TokenAt(operand::offset(operands)?),
+            ("Walk", _) => Step::Walk(Walk::Nodes(walk::calls(alloc, operands)?)),
+            ("WalkWithTokens", _) => Step::Walk(Walk::WithTokens(walk::calls(alloc, operands)?)),
+            ("DebugTree", "") => Step::DebugTree,
+            _ if UNREAD.iter().any(|unread| *unread == name) => Step::Unread,
+            _ => return Ok(None),
         }))
     }
-}
-
-/// A step of which only the name is read.
-fn unread(name: &str) -> Option<Step> {
-    if UNREAD_MOVES.iter().any(|unread| *unread == name) {
-        return Some(Step::UnreadMove);
-    }
-    if UNREAD.iter().any(|unread| *unread == name) {
-        return Some(Step::Unread);
-    }
-    None
 }
 
 /// Reads a step that acts on texts. Nothing where the name is that of none.
