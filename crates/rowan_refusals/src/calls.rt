@@ -63,6 +63,18 @@ impl Call {
         }
     }
 
+    /// Makes the call, and says what became of it.
+    pub fn outcome<H: CacheHome>(
+        self,
+        builder: &mut GreenNodeBuilder<'_, H>,
+        marks: &mut Vec<Checkpoint>,
+    ) -> Outcome {
+        match (self, self.make(builder, marks)) {
+            (Mark, Ok(())) => Outcome::Marked(builder.checkpoint()),
+            (_, made) => Outcome::from(made),
+        }
+    }
+
     /// Makes the call by a script, which has this one call.
     pub fn replay<H: CacheHome>(
         self,
@@ -96,6 +108,18 @@ impl Call {
             },
         })
     }
+}
+
+/// The calls as one script.
+pub fn script_of(alloc: Global, calls: &[Call]) -> Result<Vec<script::Call>, Fault> {
+    let mut script = Vec::new(alloc);
+    for call in calls {
+        script.push(match call {
+            StartAtMark(mark, kind) => script::Call::StartNodeAt(*mark, SyntaxKind(*kind)),
+            _ => call.as_script_call(alloc, &[])?,
+        })?;
+    }
+    Ok(script)
 }
 
 /// The tree that the calls build.

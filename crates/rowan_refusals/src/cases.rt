@@ -6,8 +6,10 @@ use crate::edits::Edit;
 use crate::making::Make;
 use crate::moving::{Listing, Move};
 use crate::searches::Search;
+use crate::sessions::Playing;
 use crate::step::{Case, Step};
 use crate::texts::{Question, Slice};
+use crate::traces::Stride;
 use crate::transcript::Phase;
 use crate::walks::Walk;
 use crate::walks::WalkCall::{Next, Skip};
@@ -142,6 +144,17 @@ const TWINS: [Call; 7] = [
     Finish,
 ];
 
+/// A token, a list without children, and an atom without children.
+const LIST_BEFORE_ATOM: [Call; 7] = [
+    Start(ROOT),
+    Token(WORD, "a"),
+    Start(LIST),
+    Finish,
+    Start(ATOM),
+    Finish,
+    Finish,
+];
+
 /// A list with a token, and a token.
 const LIST_AND_TOKEN: [Call; 6] = [
     Start(ROOT),
@@ -179,13 +192,31 @@ const IN_ONE: [Call; 3] = [Start(ROOT), Token(WORD, "helloworld"), Finish];
 /// A root over a token with characters of more than one byte, and another such token.
 const PAST_ASCII: [Call; 4] = [Start(ROOT), Token(WORD, "aé"), Token(WORD, "日"), Finish];
 
+/// An atom over `b`.
+const ATOM_B: [Call; 3] = [Start(ATOM), Token(WORD, "b"), Finish];
+
+/// An atom over `7`.
+const ATOM_SEVEN: [Call; 3] = [Start(ATOM), Token(WORD, "7"), Finish];
+
+/// A root over an atom with `7`.
+const ROOT_SEVEN: [Call; 5] = [Start(ROOT), Start(ATOM), Token(WORD, "7"), Finish, Finish];
+
 const SUM: &str = "(+ (* 15 2) 62)";
+
+/// Twelve lists, one in the other, around an atom.
+const NEST: &str = "((((((((((((a))))))))))))";
+
+/// Where the atom of the nest stands.
+const NEST_ATOM: [usize; 13] = [0, 1, 1, 1, 1, 1, 1, 1, 1, 1, 1, 1, 1];
+
+/// Where its token stands.
+const NEST_TOKEN: [usize; 14] = [0, 1, 1, 1, 1, 1, 1, 1, 1, 1, 1, 1, 1, 0];
 
 const MAKING: Step = Step::Phase(Phase::Making);
 
 const MOVING: Step = Step::Phase(Phase::Moving);
 
-pub const CASES: [Case; 27] = [
+pub const CASES: [Case; 37] = [
     Case {
         name: "math_operations",
         steps: &[Step::Build(&MATH)],
@@ -584,6 +615,229 @@ pub const CASES: [Case; 27] = [
             Step::Make(Make::Words(&["tree"])),
             Step::Make(Make::Room(1_000)),
             Step::Make(Make::Written(SUM)),
+        ],
+    },
+    Case {
+        name: "replaced_token, in the sum",
+        steps: &[
+            Step::Make(Make::Parsed(SUM)),
+            Step::Make(Make::Root),
+            Step::Make(Make::Syntax),
+            MOVING,
+            Step::GoToRoot(0),
+            Step::Go(Move::ElementAt(&[0, 3, 3, 0])),
+            MAKING,
+            Step::Make(Make::Token(WORD, "7")),
+            Step::Make(Make::Replaced),
+            Step::Make(Make::TypedReplaced),
+            Step::Equal,
+            Step::Make(Make::Token(ATOM, "7")),
+            Step::Make(Make::Replaced),
+            Step::Make(Make::TypedReplaced),
+            Step::Make(Make::Printed),
+            Step::Tree,
+            MOVING,
+            Step::GoToRoot(0),
+            Step::List(Listing::DescendantsWithTokens),
+            Step::Text,
+            Step::Ask(Question::Shown),
+        ],
+    },
+    Case {
+        name: "replacements in a nest",
+        steps: &[
+            Step::Make(Make::Parsed(NEST)),
+            Step::Make(Make::Root),
+            Step::Make(Make::Syntax),
+            Step::Make(Make::Token(WORD, "b")),
+            MOVING,
+            Step::GoToRoot(0),
+            Step::Go(Move::ElementAt(&NEST_TOKEN)),
+            MAKING,
+            Step::Make(Make::Replaced),
+            MOVING,
+            Step::GoToRoot(0),
+            Step::Go(Move::ElementAt(&NEST_ATOM)),
+            MAKING,
+            Step::Make(Make::Tree(&ATOM_B)),
+            Step::Make(Make::Replaced),
+            Step::Make(Make::TypedReplaced),
+            Step::Make(Make::Printed),
+            MOVING,
+            Step::GoToRoot(0),
+            Step::Text,
+            Step::Ask(Question::Shown),
+        ],
+    },
+    Case {
+        name: "replacements at the root, and below it",
+        steps: &[
+            Step::Make(Make::Tree(&TWO_WORDS)),
+            Step::Make(Make::Root),
+            Step::Make(Make::Token(WORD, "e")),
+            MOVING,
+            Step::GoToRoot(0),
+            Step::Go(Move::LastToken),
+            MAKING,
+            Step::Make(Make::Replaced),
+            Step::Tree,
+            MOVING,
+            Step::GoToRoot(0),
+            MAKING,
+            Step::Make(Make::Tree(&ROOT_SEVEN)),
+            Step::Make(Make::Replaced),
+            Step::Make(Make::Tree(&ATOM_B)),
+            Step::Make(Make::Replaced),
+            MOVING,
+            Step::List(Listing::DescendantsWithTokens),
+            Step::Text,
+            Step::Ask(Question::Shown),
+        ],
+    },
+    Case {
+        name: "trace_of_sum",
+        steps: &[
+            Step::Make(Make::Parsed(SUM)),
+            Step::Make(Make::Root),
+            MOVING,
+            Step::GoToRoot(0),
+            MAKING,
+            Step::Trace(&[
+                Stride::FirstToken,
+                Stride::NextToken,
+                Stride::NextToken,
+                Stride::Parent,
+                Stride::NextSibling,
+                Stride::RightTokenAt(6),
+                Stride::PutToken(WORD, "7"),
+                Stride::PutToken(WORD, "7"),
+                Stride::LeftTokenAt(20),
+            ]),
+            Step::Tree,
+        ],
+    },
+    Case {
+        name: "separate_replacements, in both orders",
+        steps: &[
+            Step::Make(Make::Parsed(SUM)),
+            Step::Make(Make::Root),
+            MOVING,
+            Step::GoToRoot(0),
+            MAKING,
+            Step::Trace(&[
+                Stride::RightTokenAt(6),
+                Stride::PutToken(WORD, "7"),
+                Stride::RightTokenAt(11),
+                Stride::PutToken(WORD, "100"),
+            ]),
+            Step::Trace(&[
+                Stride::RightTokenAt(12),
+                Stride::PutToken(WORD, "100"),
+                Stride::RightTokenAt(6),
+                Stride::Parent,
+                Stride::PutNode(&ATOM_SEVEN),
+            ]),
+            Step::Tree,
+        ],
+    },
+    Case {
+        name: "the other moves in the sum",
+        steps: &[
+            Step::Make(Make::Parsed(SUM)),
+            Step::Make(Make::Root),
+            MOVING,
+            Step::GoToRoot(0),
+            Step::Look(Move::TreeTop),
+            Step::Look(Move::FirstChildOrToken),
+            Step::Look(Move::LastChildOrToken),
+            Step::Go(Move::ElementAt(&[0, 3])),
+            Step::Look(Move::PrevSibling),
+            Step::Look(Move::NextSiblingOrToken),
+            Step::Go(Move::LastToken),
+            Step::Look(Move::TreeTop),
+            Step::Look(Move::NextSiblingOrToken),
+            Step::Look(Move::PrevSiblingOrToken),
+            Step::Tree,
+        ],
+    },
+    Case {
+        name: "typed calls in the sum",
+        steps: &[
+            Step::Make(Make::Parsed(SUM)),
+            Step::Make(Make::Root),
+            MOVING,
+            Step::GoToRoot(0),
+            Step::TypedMoves,
+            Step::TypedSearch(Search::TokensAt(3)),
+            Step::TypedSearch(Search::Covering(6, 9)),
+            Step::Go(Move::ElementAt(&[0, 3])),
+            Step::TypedMoves,
+            Step::TypedSearch(Search::ChildAt(6, 8)),
+            Step::Conversions,
+            MAKING,
+            Step::Make(Make::TypedSubtree),
+            Step::Make(Make::Printed),
+            Step::Make(Make::Text),
+            MOVING,
+            Step::Go(Move::FirstToken),
+            Step::TypedMoves,
+            Step::Conversions,
+            Step::Tree,
+        ],
+    },
+    Case {
+        name: "pointers and wrappers in the sum",
+        steps: &[
+            Step::Make(Make::Parsed(SUM)),
+            Step::Make(Make::Root),
+            Step::Make(Make::ParsedRoot),
+            MOVING,
+            Step::GoToRoot(0),
+            Step::Pointer(6, 8, 1),
+            Step::Wrappers,
+            Step::Go(Move::ElementAt(&[0, 3])),
+            Step::Pointer(6, 8, 1),
+            Step::Wrappers,
+            MAKING,
+            Step::Make(Make::ListSubtree),
+            Step::Make(Make::Printed),
+            MOVING,
+            Step::Go(Move::NextSibling),
+            Step::Pointer(6, 8, 1),
+            Step::Wrappers,
+            Step::Tree,
+        ],
+    },
+    Case {
+        name: "pointers_to_empty_nodes",
+        steps: &[
+            Step::Make(Make::Tree(&TWINS)),
+            Step::Make(Make::Root),
+            Step::Make(Make::Tree(&LIST_BEFORE_ATOM)),
+            Step::Make(Make::Root),
+            MOVING,
+            Step::GoToRoot(0),
+            Step::Go(Move::FirstChild),
+            Step::Pointer(0, 1, 2),
+            Step::GoToRoot(1),
+            Step::Go(Move::FirstChild),
+            Step::Pointer(0, 1, 2),
+            Step::Wrappers,
+        ],
+    },
+    Case {
+        name: "session_of_math",
+        steps: &[
+            Step::Session(Playing::OwnCache, &MATH, 23),
+            Step::Session(Playing::LentCache, &MATH, 23),
+            Step::Counts,
+            Step::Session(Playing::Replay, &MATH, 23),
+            Step::Counts,
+            Step::Session(Playing::OwnCache, &MATH, 22),
+            Step::Session(Playing::LentCache, &MATH, 22),
+            Step::Session(Playing::OwnCache, &MATH, 0),
+            Step::Session(Playing::LentCache, &MATH, 0),
+            Step::Counts,
         ],
     },
 ];

@@ -12,12 +12,16 @@ mod cases;
 mod edits;
 mod making;
 mod moving;
+mod pointers;
 mod searches;
+mod sessions;
 mod shape;
 mod state;
 mod step;
 mod texts;
+mod traces;
 mod transcript;
+mod typed;
 mod walks;
 
 use cases::CASES;

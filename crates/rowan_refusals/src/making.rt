@@ -3,6 +3,7 @@
 use crate::calls::Call;
 use crate::edits::Edit;
 use crate::shape::Shape;
+use crate::traces::Stride;
 use crate::transcript::{Stop, Transcript};
 use rowan::cursor::SyntaxNode;
 use rowan::{GreenNode, GreenToken};
@@ -19,10 +20,18 @@ pub enum Make {
     Node(u16),
     /// The tree after an edit.
     Edited(Edit),
+    /// The root with the tree in place of the node, or with the token in place of the token, where the case stands.
+    Replaced,
+    /// The same, by a typed cursor.
+    TypedReplaced,
     /// A cursor at the root of the tree.
     Root,
     /// A cursor at the root of a copy of the node where the case stands.
     Subtree,
+    /// A typed cursor at the root of a copy of that node.
+    TypedSubtree,
+    /// The same by a wrapper, of a list.
+    ListSubtree,
     /// The number of tokens of a text.
     Lexed(&'static str),
     /// The parse of a text.
@@ -31,12 +40,18 @@ pub enum Make {
     ParsedOver(&'static str),
     /// The typed root of the parse.
     Syntax,
+    /// The same by `root`.
+    ParsedRoot,
     /// The printed tree of the typed root.
     Printed,
     /// The text of the typed root.
     Text,
     /// A copy of the text that the case reads.
     Copy,
+    /// The first of these calls, so many of them, as a script.
+    Script(&'static [Call], usize),
+    /// The steps of a trace.
+    Steps(&'static [Stride]),
     /// The words of a command line.
     Words(&'static [&'static str]),
     /// Room for an output of so many bytes, so that what is written there is never refused.
@@ -56,8 +71,13 @@ impl Make {
             Make::Edited(Edit::Insert(_)) => "insert_child",
             Make::Edited(Edit::Remove(_)) => "remove_child",
             Make::Edited(Edit::Splice(_, _)) => "splice_children",
+            Make::Replaced => "replace_with",
+            Make::TypedReplaced => "typed replace_with",
             Make::Root => "new_root",
             Make::Subtree => "clone_subtree",
+            Make::TypedSubtree => "typed clone_subtree",
+            Make::ListSubtree => "clone_subtree of a list",
+            Make::ParsedRoot => "root",
             Make::Lexed(_) => "lex",
             Make::Parsed(_) => "parse",
             Make::ParsedOver(_) => "parse_with",
@@ -65,6 +85,8 @@ impl Make {
             Make::Printed => "debug_tree",
             Make::Text => "to_string",
             Make::Copy => "to_text",
+            Make::Script(_, _) => "script",
+            Make::Steps(_) => "steps",
             Make::Words(_) => "arguments",
             Make::Room(_) => "room for the output",
             Make::Written(_) => "run, with drops",

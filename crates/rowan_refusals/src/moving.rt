@@ -11,10 +11,15 @@ use std::hash::{DefaultHasher, Hash, Hasher};
 /// A move from an element to another one.
 #[derive(Clone, Copy)]
 pub enum Move {
+    TreeTop,
     Parent,
     FirstChild,
     LastChild,
+    FirstChildOrToken,
+    LastChildOrToken,
     NextSibling,
+    PrevSibling,
+    NextSiblingOrToken,
     PrevSiblingOrToken,
     FirstToken,
     LastToken,
@@ -27,10 +32,15 @@ impl Move {
     /// The name of the call.
     pub fn name(self) -> &'static str {
         match self {
+            Move::TreeTop => "tree_top",
             Move::Parent => "parent",
             Move::FirstChild => "first_child",
             Move::LastChild => "last_child",
+            Move::FirstChildOrToken => "first_child_or_token",
+            Move::LastChildOrToken => "last_child_or_token",
             Move::NextSibling => "next_sibling",
+            Move::PrevSibling => "prev_sibling",
+            Move::NextSiblingOrToken => "next_sibling_or_token",
             Move::PrevSiblingOrToken => "prev_sibling_or_token",
             Move::FirstToken => "first_token",
             Move::LastToken => "last_token",
@@ -50,10 +60,15 @@ impl Move {
 
     fn at_node(self, node: &SyntaxNode) -> Result<Option<SyntaxElement>, Fault> {
         match self {
+            Move::TreeTop => Ok(Some(NodeOrToken::Node(node.tree_top()?))),
             Move::Parent => Ok(as_node(node.parent()?)),
             Move::FirstChild => Ok(as_node(node.first_child()?)),
             Move::LastChild => Ok(as_node(node.last_child()?)),
+            Move::FirstChildOrToken => node.first_child_or_token(),
+            Move::LastChildOrToken => node.last_child_or_token(),
             Move::NextSibling => Ok(as_node(node.next_sibling()?)),
+            Move::PrevSibling => Ok(as_node(node.prev_sibling()?)),
+            Move::NextSiblingOrToken => node.next_sibling_or_token(),
             Move::PrevSiblingOrToken => node.prev_sibling_or_token(),
             Move::FirstToken => Ok(as_token(node.first_token()?)),
             Move::LastToken => Ok(as_token(node.last_token()?)),
@@ -64,7 +79,9 @@ impl Move {
 
     fn at_token(self, token: &SyntaxToken) -> Result<Option<SyntaxElement>, Fault> {
         match self {
+            Move::TreeTop => Ok(Some(NodeOrToken::Node(token.tree_top()?))),
             Move::Parent => Ok(as_node(token.parent()?)),
+            Move::NextSiblingOrToken => token.next_sibling_or_token(),
             Move::PrevSiblingOrToken => token.prev_sibling_or_token(),
             Move::NextToken => Ok(as_token(token.next_token()?)),
             Move::PrevToken => Ok(as_token(token.prev_token()?)),

@@ -3,14 +3,22 @@
 use crate::transcript::{Stop, Transcript};
 use rowan::cursor::{SyntaxElement, SyntaxNode};
 use rowan::{Fault, GreenNode, NodeOrToken, Steps, TextRange, TextSize};
+use rowan_tool::sexp::Lang;
 
-/// Says how long the text of each child is, in bytes.
+type TypedNode = rowan::SyntaxNode<Lang>;
+
+type TypedElement = rowan::SyntaxElement<Lang>;
+
+/// Says how long the text of each child is, in bytes, and that of the first child, shared once more.
 pub fn tell_lengths(log: &Transcript<'_>, node: &GreenNode) -> Result<(), Stop> {
     for child in node.children() {
         let child = child.map_err(Stop::Refused)?;
         log.tell("child", &child.text_len())?;
     }
-    Ok(())
+    match node.child_ref(0) {
+        Some((_, first)) => log.tell("to_owned", &first.to_owned()?.text_len()),
+        None => Ok(()),
+    }
 }
 
 /// The index of the child at a range. There is none where the range ends before it starts.
@@ -47,7 +55,50 @@ impl Search {
     }
 }
 
-fn range(start: u32, end: u32) -> Result<TextRange, Fault> {
+impl Search {
+    /// Says what is found by the calls of a typed node.
+    pub fn tell_typed(self, log: &Transcript<'_>, from: &TypedElement) -> Result<(), Stop> {
+        let NodeOrToken::Node(node) = from else {
+            return Err(Stop::Refused(Fault::NotFound));
+        };
+        match self {
+            Search::ChildAt(start, end) => tell_typed_child(log, node, range(start, end)?),
+            Search::Covering(start, end) => tell_typed_covering(log, node, range(start, end)?),
+            Search::TokensAt(offset) => tell_typed_tokens(log, node, TextSize::from(offset)),
+        }
+    }
+}
+
+fn tell_typed_child(log: &Transcript<'_>, node: &TypedNode, range: TextRange) -> Result<(), Stop> {
+    log.tell(
+        "child_or_token_at_range",
+        &node.child_or_token_at_range(range),
+    )?;
+    let mut steps = Steps::new();
+    let found = node.child_or_token_at_range_counted(range, &mut steps)?;
+    log.tell("comparisons", &(found.is_some(), steps.comparisons()))
+}
+
+fn tell_typed_covering(
+    log: &Transcript<'_>,
+    node: &TypedNode,
+    range: TextRange,
+) -> Result<(), Stop> {
+    if !node.text_range().contains_range(range) {
+        return Err(Stop::Refused(Fault::NotFound));
+    }
+    log.tell("covering_element", &node.covering_element(range))
+}
+
+fn tell_typed_tokens(log: &Transcript<'_>, node: &TypedNode, offset: TextSize) -> Result<(), Stop> {
+    if !node.text_range().contains_inclusive(offset) {
+        return Err(Stop::Refused(Fault::NotFound));
+    }
+    log.tell("token_at_offset", &node.token_at_offset(offset))
+}
+
+/// The range with these ends. `NotFound` where they are out of order.
+pub fn range(start: u32, end: u32) -> Result<TextRange, Fault> {
     if end < start {
         return Err(Fault::NotFound);
     }

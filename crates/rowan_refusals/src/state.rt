@@ -1,20 +1,28 @@
 //! What a case has made so far, and where it stands.
 
 use crate::building::{build, build_on, build_over};
-use crate::calls::tree_of;
+use crate::calls::{Call, script_of, tree_of};
 use crate::edits::leaf;
 use crate::making::{Made, Make};
 use crate::moving::{Move, compare};
-use crate::searches::{index_at, tell_lengths};
+use crate::pointers::{tell_pointer, tell_wrappers};
+use crate::searches::{index_at, range, tell_lengths};
+use crate::sessions::{Playing, tell_session};
 use crate::shape::Shape;
 use crate::step::Step;
 use crate::texts::Slice;
+use crate::traces::{Stride, tell_trace};
 use crate::transcript::{Stop, Transcript};
+use crate::typed::{tell_conversions, tell_moves};
 use crate::walks::{tell_clones, tell_typed};
+use rowan::ast::AstNode;
 use rowan::cursor::{SyntaxElement, SyntaxNode};
-use rowan::{Fault, GreenNode, GreenToken, NodeCache, NodeOrToken, SyntaxKind, SyntaxText};
+use rowan::{
+    Fault, GreenNode, GreenToken, NodeCache, NodeOrToken, SyntaxKind, SyntaxText, TextSize,
+    TypedElementCalls, script,
+};
 use rowan_tool::program;
-use rowan_tool::sexp::{Lang, Parse, lex, parse, parse_with};
+use rowan_tool::sexp::{Lang, List, Parse, lex, parse, parse_with};
 use std::alloc::Global;
 
 #[derive(Drop)]
@@ -24,6 +32,8 @@ pub struct State {
     made: Vec<Made>,
     place: Option<SyntaxElement>,
     text: Option<SyntaxText>,
+    script: Vec<script::Call>,
+    steps: Vec<script::Step>,
     words: Vec<String>,
     output: Vec<u8>,
 }
@@ -36,6 +46,8 @@ impl State {
             made: Vec::new(alloc),
             place: None,
             text: None,
+            script: Vec::new(alloc),
+            steps: Vec::new(alloc),
             words: Vec::new(alloc),
             output: Vec::new(alloc),
         }
@@ -49,6 +61,8 @@ impl State {
             Step::BuildOn(calls, others) => build_on(log, calls, others),
             Step::BuildOver(way, calls) => build_over(log, &mut self.cache, way, calls),
             Step::Make(what) => self.ask(log, what),
+            Step::Session(playing, calls, count) => self.play(log, playing, calls, count),
+            Step::Trace(strides) => self.trace(log, strides),
             Step::Counts => self.tell_counts(log),
             Step::Tree => log.tell("tree", &Shape(self.tree()?)),
             Step::Equal => self.tell_equal(log),
@@ -66,7 +80,19 @@ impl State {
             Step::Walk(walk) => walk.tell(log, self.place()?),
             Step::Clones => tell_clones(log, self.node_here()?),
             Step::Typed => tell_typed(log, self.syntax()?),
+            Step::TypedMoves => tell_moves(log, &self.typed_place()?),
+            Step::Conversions => tell_conversions(log, self.typed_place()?),
+            Step::Pointer(start, end, len) => {
+                tell_pointer(
+                    log,
+                    &self.typed_node()?,
+                    range(start, end)?,
+                    TextSize::from(len),
+                )
+            }
+            Step::Wrappers => tell_wrappers(log, &self.typed_node()?),
             Step::Search(search) => search.tell(log, self.place()?),
+            Step::TypedSearch(search) => search.tell_typed(log, &self.typed_place()?),
             Step::Text => self.read(log),
             Step::Slice(slice) => self.cut(log, slice),
             Step::Ask(question) => question.tell(log, self.text()?),
@@ -105,15 +131,22 @@ impl State {
             }
             Make::Node(kind) => Ok(Made::Tree(self.node(kind)?)),
             Make::Edited(edit) => Ok(Made::Edited(edit.make(alloc, self.tree()?, self.token()?)?)),
+            Make::Replaced => Ok(Made::Edited(self.replaced()?)),
+            Make::TypedReplaced => Ok(Made::Edited(self.typed_replaced()?)),
             Make::Root => Ok(Made::Cursor(SyntaxNode::new_root(alloc, self.tree()?.clone()?)?)),
             Make::Subtree => Ok(Made::Cursor(self.subtree()?)),
+            Make::TypedSubtree => Ok(Made::Syntax(self.typed_node()?.clone_subtree()?)),
+            Make::ListSubtree => Ok(Made::Syntax(self.list_subtree()?)),
             Make::Lexed(text) => Ok(Made::Count(lex(alloc, text)?.len())),
             Make::Parsed(text) => Ok(Made::Parse(parse(alloc, text)?)),
             Make::ParsedOver(text) => Ok(Made::Parse(parse_with(alloc, text, &mut self.cache)?)),
             Make::Syntax => Ok(Made::Syntax(self.parse()?.syntax(alloc)?)),
+            Make::ParsedRoot => Ok(Made::Syntax(self.parsed_root()?)),
             Make::Printed => Ok(Made::Text(self.syntax()?.debug_tree(alloc)?)),
             Make::Text => Ok(Made::Text(self.syntax()?.to_string(alloc)?)),
             Make::Copy => Ok(Made::Text(self.text()?.to_text()?)),
+            Make::Script(calls, count) => self.set_script(calls, count),
+            Make::Steps(strides) => self.set_steps(strides),
             Make::Words(words) => self.set_words(words),
             Make::Room(bytes) => self.set_room(bytes),
             Make::Written(text) => self.run_program(text),
@@ -131,9 +164,51 @@ impl State {
         GreenNode::new(self.alloc, SyntaxKind(kind), children)
     }
 
+    /// The root with the last tree or token in place of the node or the token where the case stands.
+    fn replaced(&self) -> Result<GreenNode, Fault> {
+        match self.place()? {
+            NodeOrToken::Node(node) => node.replace_with(self.tree()?.clone()?),
+            NodeOrToken::Token(token) => token.replace_with(self.token()?.clone()?),
+        }
+    }
+
+    fn typed_replaced(&self) -> Result<GreenNode, Fault> {
+        match self.typed_place()? {
+            NodeOrToken::Node(node) => node.replace_with(self.tree()?.clone()?),
+            NodeOrToken::Token(token) => token.replace_with(self.token()?.clone()?),
+        }
+    }
+
     /// A copy of what is below the place.
     fn subtree(&self) -> Result<SyntaxNode, Fault> {
         self.node_here()?.clone_subtree()
+    }
+
+    /// A copy of what is below the place, by a wrapper.
+    fn list_subtree(&self) -> Result<rowan::SyntaxNode<Lang>, Fault> {
+        let list = List::cast(self.typed_node()?).ok_or(Fault::NotFound)?;
+        let copy = list.clone_subtree()?;
+        Ok(copy.syntax().clone()?)
+    }
+
+    fn parsed_root(&self) -> Result<rowan::SyntaxNode<Lang>, Fault> {
+        let root = self.parse()?.root(self.alloc)?;
+        Ok(root.syntax().clone()?)
+    }
+
+    fn set_script(&mut self, calls: &[Call], count: usize) -> Result<Made, Fault> {
+        let calls = calls.get(..count).ok_or(Fault::NotFound)?;
+        self.script = script_of(self.alloc, calls)?;
+        Ok(Made::Count(count))
+    }
+
+    fn set_steps(&mut self, strides: &[Stride]) -> Result<Made, Fault> {
+        let mut steps = Vec::new(self.alloc);
+        for stride in strides {
+            steps.push(stride.as_step(self.alloc)?)?;
+        }
+        self.steps = steps;
+        Ok(Made::Count(strides.len()))
     }
 
     fn set_words(&mut self, words: &[&str]) -> Result<Made, Fault> {
@@ -164,6 +239,26 @@ impl State {
             Err(program::Stop::NoMemory) => Err(Fault::Memory),
             Err(_) => Err(Fault::NotFound),
         }
+    }
+
+    /// Makes the first calls and two steps behind them, and says what comes of it.
+    fn play(
+        &mut self,
+        log: &Transcript<'_>,
+        playing: Playing,
+        calls: &'static [Call],
+        count: usize,
+    ) -> Result<(), Stop> {
+        self.ask(log, Make::Script(calls, count))?;
+        let calls = calls.get(..count).ok_or(Fault::NotFound)?;
+        tell_session(log, playing, &mut self.cache, calls, self.script.as_slice())
+    }
+
+    /// Makes the steps from the place, and says what they report.
+    fn trace(&mut self, log: &Transcript<'_>, strides: &'static [Stride]) -> Result<(), Stop> {
+        self.ask(log, Make::Steps(strides))?;
+        let start = self.node_here()?.clone()?;
+        tell_trace(log, &start, &mut self.steps)
     }
 
     /// Goes where a move leads.
@@ -248,6 +343,15 @@ impl State {
 
     fn place(&self) -> Result<&SyntaxElement, Fault> {
         self.place.as_ref().ok_or(Fault::NotFound)
+    }
+
+    /// The place, with the kinds of s-expressions.
+    fn typed_place(&self) -> Result<rowan::SyntaxElement<Lang>, Fault> {
+        Ok(rowan::SyntaxElement::from_raw(self.place()?.clone()?))
+    }
+
+    fn typed_node(&self) -> Result<rowan::SyntaxNode<Lang>, Fault> {
+        Ok(rowan::SyntaxNode::from(self.node_here()?.clone()?))
     }
 
     /// The node where the case stands.

@@ -4,7 +4,9 @@ use crate::calls::{Call, Way};
 use crate::making::Make;
 use crate::moving::{Listing, Move};
 use crate::searches::Search;
+use crate::sessions::Playing;
 use crate::texts::{Question, Slice};
+use crate::traces::Stride;
 use crate::transcript::Phase;
 use crate::walks::Walk;
 
@@ -20,6 +22,10 @@ pub enum Step {
     /// Builds over the cache of the case, and says what the cache keeps then.
     BuildOver(Way, &'static [Call]),
     Make(Make),
+    /// Makes the first of these calls, so many of them, and then two steps.
+    Session(Playing, &'static [Call], usize),
+    /// Makes the steps from the place.
+    Trace(&'static [Stride]),
     /// How much the cache of the case keeps.
     Counts,
     /// What the tree is.
@@ -44,8 +50,18 @@ pub enum Step {
     Clones,
     /// What the iterators at the typed root give.
     Typed,
+    /// Where the typed moves from the place lead.
+    TypedMoves,
+    /// What the place is with and without the kinds of its language.
+    Conversions,
+    /// Where the pointer to the place leads, and where it is after an edit: the ends of a range, and the bytes that stand there then.
+    Pointer(u32, u32, u32),
+    /// What the wrappers of the place are.
+    Wrappers,
     /// What is found at a range or an offset.
     Search(Search),
+    /// What is found there from the typed place.
+    TypedSearch(Search),
     /// Reads the text of the place.
     Text,
     /// Reads a slice of the text from now on.

@@ -26,6 +26,27 @@ impl Display for Phase {
     }
 }
 
+/// Which part of a trace, a replay or a session was refused for memory.
+#[derive(Clone, Copy, PartialEq)]
+pub enum Part {
+    Whole,
+    Call(usize),
+    Step(usize),
+    /// The root of a session's tree, or the room for its reports.
+    End,
+}
+
+impl Display for Part {
+    fn fmt<W: fmt::Write>(&self, f: &mut fmt::Formatter<W>) -> fmt::Result {
+        match self {
+            Part::Whole => Ok(()),
+            Part::Call(number) => write!(f, ", in call {number}"),
+            Part::Step(number) => write!(f, ", in step {number}"),
+            Part::End => f.write_str(", in its end"),
+        }
+    }
+}
+
 /// Why a case was given up.
 #[derive(Clone, Copy)]
 pub enum Stop {
@@ -97,6 +118,11 @@ impl<'a> Transcript<'a> {
     /// Says how a value is shown.
     pub fn show<T: Display>(&self, name: &str, value: &T) -> Result<(), Stop> {
         Ok(println!(self.rt; "{name}: {value}")?)
+    }
+
+    /// Says that a part of a call was refused for memory.
+    pub fn refused(&self, call: &str, part: Part) -> Result<(), Stop> {
+        Ok(println!(self.rt; "{call}{part}: {:?}", Fault::Memory)?)
     }
 
     /// Says what a call answered.
