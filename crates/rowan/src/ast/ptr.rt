@@ -1,5 +1,5 @@
 //! Pointers to nodes.
-ghost use Rattle.std.specs.Prelude.{◌≡◌, ◌≢◌, IfOk, IfErr, true, Some, None};
+ghost use Rattle.std.specs.Prelude.{◌≡◌, ◌≢◌, ◌≤◌, IfOk, IfErr, true, Some, None};
 ghost use Rattle.rowan_green.specs.Steps.{one_more};
 ghost use Rattle.rowan_cursor.specs.Moves.{is_node_at};
 ghost use Rattle.rowan.specs.Pointer.{pointer_to, means_kind, is_meant, Resolves, CountsResolving, carried};
@@ -81,6 +81,7 @@ impl<L: Language> SyntaxNodePtr<L> {
             IfOk result (Resolves means self.now.range root.now) }
         ensures counts { let means = means_kind L.meaning L.Kind.eq self.now.kind in
             IfOk result (λ _. CountsResolving means self.now.range root.now steps.old steps.new) }
+        ensures grows { steps.old.comparisons ≤ steps.new.comparisons }
         ensures err { IfErr result (λ e. e ≡ Fault.Memory) }
     {
         if root.parent()?.is_some() {

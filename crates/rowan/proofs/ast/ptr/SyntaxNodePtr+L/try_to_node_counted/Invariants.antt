@@ -1,4 +1,4 @@
-use Rattle.std.proofs.Common.{◌≡◌, true, Option}
+use Rattle.std.proofs.Common.{◌≡◌, ◌≤◌, true, Option}
 use Rattle.rowan_green.specs.Steps.{Tally}
 use Rattle.rowan_cursor.specs.Cursor.{Cursor}
 use Rattle.rowan_cursor.specs.Moves.{is_node_at}
@@ -13,6 +13,7 @@ invariant-loop-self g l =
     let means = means_kind g.L.Language.meaning g.L.Kind.PartialEq.eq l.self.kind in
     (is_node_at l.node.root l.node.path ≡ true)
     × ((found : Option Cursor) (last : Tally) → Search means l.self.range l.node.root l.node.path found l.steps last → Search means l.self.range l.root.root l.root.path found l.fn.steps last)
+    × (l.fn.steps.comparisons ≤ l.steps.comparisons)
 
 abbrev pub decreases-loop-self : goal.decreases-loop-self
 decreases-loop-self g l = size_at l.node.root l.node.path
