@@ -1,9 +1,8 @@
 -- How a list is evaluated: by an operator and two expressions in it, which are smaller than the list.
-use Rattle.std.specs.Prelude.{◌≡◌, ℕ, ◌<◌, ℤ, List, Option, Some, None, MatchOption}
+use Rattle.std.specs.Prelude.{◌≡◌, ℕ, ◌<◌, Option, Some, None, MatchOption}
 use Rattle.std.specs.Option.{option_map_or}
 use Rattle.rowan_green.specs.Sizes.{term_size}
 use Rattle.rowan_cursor.specs.Cursor.{Cursor, term_at}
-use Rattle.rowan_tool.specs.declared.sexp.ast.Sexp.{Sexp}
 use Rattle.rowan_tool.specs.declared.sexp.eval.Operator.{Operator}
 use Rattle.rowan_tool.specs.declared.sexp.eval.Operation.{Operation}
 use Rattle.rowan_tool.specs.Eval.{result_if, value_at}
