@@ -1,7 +1,7 @@
 -- Wrappers of s-expressions: the kinds that cast to each of them.
 use Rattle.std.specs.Prelude.{◌≡◌, Bool, true, false, ◌||◌}
 use Rattle.rowan_tool.specs.declared.sexp.lang.SyntaxKind.{SyntaxKind}
-use Rattle.rowan_tool.specs.declared.sexp.lang.SyntaxKind.TheVariants.{L_PAREN, R_PAREN, WORD, WHITESPACE, ERROR, LIST, ATOM, ROOT}
+use Rattle.rowan_tool.specs.declared.sexp.lang.SyntaxKind.TheVariants.{LIST, ATOM, ROOT}
 use Rattle.rowan_tool.specs.contracts.sexp.lang.SyntaxKind.{the_type}
 use denote.Enum.Bare.{same_true, sameb}
 
