@@ -7,6 +7,7 @@
 //! raw one, and a typed call does no more than the raw call and this reading of its answer.
 
 mod element;
+mod json;
 mod language;
 mod node;
 mod preorder;

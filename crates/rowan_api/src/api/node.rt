@@ -3,20 +3,23 @@ mod moves;
 mod search;
 mod walks;
 
-ghost use Rattle.std.specs.Prelude.{◌≡◌, [], IfOk, IfErr, Some};
+ghost use Rattle.std.specs.Prelude.{◌≡◌, [], IfOk, IfErr, Some, IsAscii, string_bytes};
 ghost use Rattle.std.specs.Option.{option_map};
 ghost use Rattle.rowan_green.specs.declared.utility_types.NodeOrToken.TheVariants.{Node};
-ghost use Rattle.rowan_cursor.specs.Cursor.{StandsAt, index, kind, text_range};
+ghost use Rattle.serde_json.specs.View.{view};
+ghost use Rattle.rowan_cursor.specs.Cursor.{StandsAt, index, kind, text_range, text_at};
 ghost use Rattle.rowan_cursor.specs.Replacement.{IsReplacement, KeepsTheRest, WhyNoReplacement};
 ghost use Rattle.rowan_cursor.specs.SyntaxText.{whole_text};
+ghost use Rattle.rowan_api.specs.Printed.{called, debug_line, debug_tree, tree_json};
 
 use crate::api::language::Language;
-use crate::api::printed;
+use crate::api::{json, printed};
 use rowan_cursor::cursor;
 use rowan_cursor::syntax_text::SyntaxText;
 use rowan_green::fault::Fault;
 use rowan_green::green::GreenNode;
 use rowan_green::text::TextRange;
+use serde_json::Value;
 use std::alloc::{AllocError, Global};
 use std::fmt;
 use std::hash::{Hash, Hasher};
@@ -132,14 +135,39 @@ impl<L: Language> SyntaxNode<L> {
         L::kind_from_raw(self.raw.kind())
     }
 
+    /// The node as a line, `KIND@start..end`: the name of the kind, and the range with offsets in the root.
+    /// `Err(Fault::Memory)` for want of memory.
+    pub fn debug_line(&self, alloc: Global) -> Result<String, Fault>
+        ensures ok { IfOk result (λ s.
+            string_bytes s ≡ debug_line (called L.name L.meaning) self.now) }
+        ensures err { IfErr result (λ e. e ≡ Fault.Memory) }
+    {
+        Ok(printed::node_line::<L>(alloc, &self.raw)?)
+    }
+
     /// The node and all that is in it as text, a line for each node and token in the order of the source. A line has two
-    /// spaces for each level below this node, the name of the kind and the range, as `KIND@start..end` with offsets in the
-    /// root; for a token also the text in quotes, as `{:?}` writes it. Of a text of 25 bytes or more only the part before the
-    /// first border at byte 21 or later is shown, followed by a space and three points. Refused only for want of memory.
+    /// spaces for each level below this node, and then what `debug_line` gives of the node or token. `Err(Fault::Memory)` for
+    /// want of memory.
+    ///
+    /// The contract says it of ASCII text. Text past ASCII stands in its quotes as `{:?}` writes it.
     pub fn debug_tree(&self, alloc: Global) -> Result<String, Fault>
-        ensures { IfErr result (λ e. e ≡ Fault.Memory) }
+        ensures ok { IsAscii (text_at self.now) → IfOk result (λ s.
+            string_bytes s ≡ debug_tree (called L.name L.meaning) self.now) }
+        ensures err { IfErr result (λ e. e ≡ Fault.Memory) }
     {
         Ok(printed::tree::<L>(alloc, &self.raw)?)
+    }
+
+    /// The node and all that is in it as JSON. A node is a map of `children`, the list of the values of its children, tokens too;
+    /// `kind`, the name of the kind; and `text_range`, a list of the start and the end, with offsets in the root. A token has
+    /// `text` in place of `children`. `Err(Fault::Memory)` for want of memory.
+    ///
+    /// It is made by a loop, so a deep tree needs no deep stack; to drop or to print the value of a deep tree does.
+    pub fn to_json(&self, alloc: Global) -> Result<Value, Fault>
+        ensures ok { IfOk result (λ v. view v ≡ tree_json (called L.name L.meaning) self.now) }
+        ensures err { IfErr result (λ e. e ≡ Fault.Memory) }
+    {
+        Ok(json::node_json::<L>(alloc, &self.raw)?)
     }
 }
 

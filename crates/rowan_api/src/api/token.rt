@@ -1,19 +1,24 @@
-ghost use Rattle.std.specs.Prelude.{◌≡◌, IfOk, IfErr, Some};
+ghost use Rattle.std.specs.Prelude.{◌≡◌, IfOk, IfErr, Some, IsAscii, string_bytes};
 ghost use Rattle.std.specs.Option.{option_map};
 ghost use Rattle.rowan_green.specs.declared.utility_types.NodeOrToken.TheVariants.{Token};
+ghost use Rattle.serde_json.specs.View.{view};
 ghost use Rattle.rowan_cursor.specs.Cursor.{StandsAtToken, index, kind, text_range, text_at};
 ghost use Rattle.rowan_cursor.specs.Moves.{tree_top, parent, next_sibling_or_token, prev_sibling_or_token, next_token, prev_token, parent_ancestors, siblings_with_tokens};
 ghost use Rattle.rowan_cursor.specs.Replacement.{IsReplacement, KeepsTheRest, WhyNoReplacement};
+ghost use Rattle.rowan_api.specs.Printed.{called, debug_line, tree_json};
 
 use crate::api::typed_elements::TypedElements;
 use crate::api::typed_nodes::TypedNodes;
-use crate::api::{Ancestors, Language, SiblingsWithTokens, SyntaxElement, SyntaxNode, element};
+use crate::api::{
+    Ancestors, Language, SiblingsWithTokens, SyntaxElement, SyntaxNode, element, json, printed,
+};
 use rowan_cursor::cursor;
 use rowan_green::fault::Fault;
 use rowan_green::green::{GreenNode, GreenToken};
 use rowan_green::text::TextRange;
 use rowan_green::utility_types::Direction;
-use std::alloc::AllocError;
+use serde_json::Value;
+use std::alloc::{AllocError, Global};
 use std::fmt;
 use std::hash::{Hash, Hasher};
 use std::marker::{Model, PhantomData};
@@ -186,6 +191,28 @@ impl<L: Language> SyntaxToken<L> {
         ensures { option_map L.meaning (kind self.now) ≡ Some result }
     {
         L::kind_from_raw(self.raw.kind())
+    }
+
+    /// The token as a line, `KIND@start..end "text"`: the name of the kind, the range with offsets in the root, and the text in
+    /// quotes, as `{:?}` writes it. Of a text of 25 bytes or more only the part before the first border of characters at byte 21
+    /// or later is shown, followed by a space and three points. `Err(Fault::Memory)` for want of memory.
+    ///
+    /// The contract says it of ASCII text.
+    pub fn debug_line(&self, alloc: Global) -> Result<String, Fault>
+        ensures ok { IsAscii (text_at self.now) → IfOk result (λ s.
+            string_bytes s ≡ debug_line (called L.name L.meaning) self.now) }
+        ensures err { IfErr result (λ e. e ≡ Fault.Memory) }
+    {
+        Ok(printed::token_line::<L>(alloc, &self.raw)?)
+    }
+
+    /// The token as JSON: a map of `kind`, the name of the kind; `text`; and `text_range`, a list of the start and the end, with
+    /// offsets in the root. `Err(Fault::Memory)` for want of memory.
+    pub fn to_json(&self, alloc: Global) -> Result<Value, Fault>
+        ensures ok { IfOk result (λ v. view v ≡ tree_json (called L.name L.meaning) self.now) }
+        ensures err { IfErr result (λ e. e ≡ Fault.Memory) }
+    {
+        Ok(json::token_json::<L>(alloc, &self.raw)?)
     }
 }
 

@@ -1,0 +1,3 @@
+pub mod JsonLemmas
+pub mod PrintedLemmas
+pub mod QuoteLemmas

@@ -1,0 +1,10 @@
+use Rattle.rowan_api.specs.Printed.{called}
+use Rattle.rowan_api.specs.Unfinished.{values_of}
+use Rattle.rowan_api.proofs.JsonLemmas.{Makes}
+use Rattle.rowan_api.proofs.api.json.node_json.Given as goal
+
+abbrev pub invariant-loop-event : goal.invariant-loop-event
+invariant-loop-event g l =
+    (goal.iterator-loop-event g).can_next l.event-iterator
+    × (goal.iterator-loop-event g).is_finite l.event-iterator
+    × Makes (called g.L.Language.name g.L.Language.meaning) l.node (values_of l.draft) l.event-iterator

@@ -1,0 +1,31 @@
+-- JSON in the making: the values of the children of each open node, as a walk goes on.
+use Rattle.std.specs.Prelude.{ℕ, ◌-◌, List, [], ◌∷◌, ◌++◌, map, take, length, slice_index_or}
+use Rattle.serde_json.specs.Data.{Data}
+use Rattle.serde_json.specs.View.{view}
+use Rattle.rowan_green.specs.declared.utility_types.NodeOrToken.TheVariants.{Node, Token}
+use Rattle.rowan_cursor.specs.Cursor.{text_range}
+use Rattle.rowan_cursor.specs.Moves.{Element}
+use Rattle.rowan_api.specs.Printed.{kind_called, node_object, tree_json}
+use Rattle.rowan_api.specs.declared.api.json.Draft.{Draft}
+
+-- of the innermost open node, and of each node around it, outermost first
+pub record Unfinished : Type 0 where
+  pub inner : List Data
+  pub outer : List (List Data)
+
+abbrev pub values_of : Draft → Unfinished
+values_of d = record { inner = map view d.inner.items; outer = map (λ v. map view v.items) d.outer.items }
+
+-- a node that is entered is open and has no values yet; a token is finished
+abbrev pub entered : (ℕ → List ℕ) → Element → Unfinished → Unfinished
+entered name (Node c) u = record { inner = []; outer = u.outer ++ u.inner ∷ [] }
+entered name (Token c) u = record { inner = u.inner ++ tree_json name c ∷ []; outer = u.outer }
+
+-- the innermost values, of the node that is left, become one of those around it
+abbrev pub left : (ℕ → List ℕ) → Element → Unfinished → Unfinished
+left name (Token c) u = u
+left name (Node c) u = record {
+  inner = slice_index_or u.outer (length u.outer - 1) []
+      ++ node_object (kind_called name c) (text_range c) u.inner ∷ [];
+  outer = take (length u.outer - 1) u.outer;
+}
