@@ -1,2 +1,5 @@
+pub mod GrammarLemmas
+pub mod LexedLemmas
 pub mod ParsingLemmas
 pub mod SexpRuns
+pub mod WordLemmas

@@ -1,5 +1,6 @@
 //! S-expressions: their kinds, their lexer and their parser.
 mod lang;
+pub mod laws;
 mod lexer;
 mod parsed;
 mod parser;

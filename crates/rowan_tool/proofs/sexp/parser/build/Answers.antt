@@ -4,6 +4,10 @@ use Rattle.rowan_green.proofs.StreamLemmas.{BuildsOn-trans}
 use Rattle.rowan_tool.specs.declared.sexp.lang.SyntaxKind.TheVariants.{L_PAREN}
 use Rattle.rowan_tool.specs.Sexp.{LexedToken}
 use Rattle.rowan_tool.proofs.ParsingLemmas.{tokens_text-more}
+use Rattle.rowan_tool.proofs.WordLemmas.{word_more, word_ends}
+use Rattle.rowan_tool.specs.Grammar.{token_terms}
+use Rattle.rowan_tool.specs.Parsing.{sexp_word}
+use Rattle.std.proofs.lemmas.Result.{on_ok_weaker}
 use Rattle.rowan_tool.proofs.sexp.parser.build.Goals as goal
 
 pub place-requires-clause-room : goal.place-requires-clause-room
@@ -23,6 +27,7 @@ loop-token-preserved c =
     let nothing : LexedToken = (L_PAREN, record { ref_ptr = (0, 0); now = [] }) in
     record {
       in_root = search rules;
+      word = word_more (sexp_word (token_terms tokens)) c.loop-token.builder.inner.word c.place.new.builder.inner.word c.loop-token.open_lists c.in_ok-open_lists.open_lists tokens i nothing (omega (arith, c.loop-token-test.true)) c.loop-token.invariant.word c.in_ok-open_lists.ensures.word c.in_ok-open_lists.ensures.lists;
       so_far = c.in_ok-open_lists.ensures.text ∙ ap (λ bs. bs ++ (get_or tokens i nothing).1.now) c.loop-token.invariant.so_far ∙ sym (tokens_text-more tokens i nothing (omega (arith, c.loop-token-test.true)));
       builds = BuildsOn-trans _ _ _ c.loop-token.invariant.builds c.place.ensures.stream;
       same_loan = c.place.ensures.loan ∙ c.loop-token.invariant.same_loan;
@@ -33,3 +38,9 @@ returns-in_err-close_lists-clause-stream c = BuildsOn-trans _ _ _ c.loop-token.i
 
 pub returns-clause-stream : goal.returns-clause-stream
 returns-clause-stream c = BuildsOn-trans _ _ _ (BuildsOn-trans _ _ _ c.loop-token.invariant.builds c.close_lists.ensures.stream) c.close_root.ensures.stream
+
+pub returns-clause-word : goal.returns-clause-word
+returns-clause-word c =
+    on_ok_weaker c.close_root.result
+    (λ h. word_ends (sexp_word (token_terms c.args.tokens.now)) c.loop-token.builder.inner.word c.close_lists.new.builder.inner.word c.close_root.new.builder.inner.word c.loop-token.open_lists c.loop-token.token-index c.args.tokens.now c.loop-token.invariant.word (omega (arith, c.loop-token-test.false)) c.in_ok-close_lists.ensures.word h)
+    c.close_root.ensures.word

@@ -13,3 +13,6 @@ pub returns-clause-err : goal.returns-clause-err
 returns-clause-err c =
     let w = c.args.builder.now.inner.word in
     IfErr-weaker c.finish_node.result (WhyNotClosed w) (λ (e : Fault). e ≡ Memory) (λ e why. IsInRoot-refuses w 0 e c.requires.in_root c.requires.room why) c.finish_node.ensures.err
+
+pub returns-clause-word : goal.returns-clause-word
+returns-clause-word c = on_ok_weaker c.finish_node.result (λ h. h.closes.closed) c.finish_node.ensures.ok

@@ -7,6 +7,7 @@ use Rattle.rowan_green.specs.Term.{node_text}
 use Rattle.rowan_green.proofs.StreamLemmas.{InternsWord-starts, InternsWord-finished, intern_all-first_seen}
 use Rattle.rowan_tool.specs.Sexp.{tokens_text}
 use Rattle.rowan_tool.proofs.ParsingLemmas.{IsTree-refuses}
+use Rattle.rowan_tool.proofs.WordLemmas.{parse_of}
 use Rattle.rowan_tool.proofs.sexp.parser.parse_with.Goals as goal
 
 pub returns-in-Ok-clause-text : goal.returns-in-Ok-clause-text
@@ -26,3 +27,7 @@ returns-in-Ok-clause-interned c =
 
 pub unreachable-requires : goal.unreachable-requires
 unreachable-requires c = IsTree-refuses c.build.new.builder.inner.word c.in-Err._unfinished.fault c.in_ok-build.ensures.ok c.in-Err.ensures.err
+
+pub returns-in-Ok-clause-tree : goal.returns-in-Ok-clause-tree
+returns-in-Ok-clause-tree c =
+    parse_of c.args.text.now _ c.as_slice.result.now c.build.new.builder.inner.word c.in-Ok.green _ c.in_ok-tokens.ensures.lexed c.as_slice.ensures.value c.in_ok-build.ensures.ok c.in_ok-build.ensures.word c.in-Ok.ensures.ok c.new.ensures
