@@ -1,5 +1,5 @@
 -- The tree of a list of tokens: it has the word that the parser makes, so there is one, and no other.
-use Rattle.std.proofs.Common.{◌≡◌, ℕ, zero, suc, ◌+◌, ◌<◌, Bool, true, false, List, [], ◌∷◌, ◌++◌, map, refl, sym, ◌∙◌, ap, subst, arith, append_assoc, ◌&&◌, ◌⊎◌, inl, inr}
+use Rattle.std.proofs.Common.{◌≡◌, ℕ, zero, suc, Bool, true, false, List, [], ◌∷◌, ◌++◌, refl, sym, ◌∙◌, ap, subst, append_assoc, ◌&&◌, inl, inr}
 use Rattle.std.specs.List.{AllByRecursion}
 use Rattle.std.proofs.lemmas.List.{append-nil}
 use Rattle.rowan_green.specs.declared.utility_types.NodeOrToken.TheVariants.{Node}
@@ -11,7 +11,7 @@ use Rattle.rowan_green.proofs.Words.{node_word-injective}
 use Rattle.rowan_tool.specs.declared.sexp.lang.SyntaxKind.{SyntaxKind}
 use Rattle.rowan_tool.specs.declared.sexp.lang.SyntaxKind.TheVariants.{L_PAREN, R_PAREN, WORD, WHITESPACE, ERROR, LIST, ATOM, ROOT}
 use Rattle.rowan_tool.specs.Sexp.{LexedToken, IsTextOf, IsToken, number_of, kind_of}
-use Rattle.rowan_tool.specs.Grammar.{is_empty, IsAtom, IsError, OpensList, ClosesList, IsElement, AreElements, IsRoot, IsSexp, token_terms}
+use Rattle.rowan_tool.specs.Grammar.{is_empty, IsAtom, IsError, ClosesList, IsElement, AreElements, IsSexp, token_terms}
 use Rattle.rowan_tool.specs.Parsing.{root_kind, symbols_of, open_after, rest_word, sexp_word}
 
 -- ---- the tokens of a tree, from its shape

@@ -1,3 +1,4 @@
+pub mod BalanceLemmas
 pub mod GrammarLemmas
 pub mod LexedLemmas
 pub mod ParsingLemmas

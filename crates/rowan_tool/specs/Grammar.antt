@@ -3,7 +3,7 @@
 --     An atom is a node with one word, and an error a node with one `)`, which stands in the root alone.
 --     A list is a `(`, then any sequence of white space, atoms and lists, and then its `)`. A list without a `)` runs to the end
 --     of the text: no token stands behind it.
-use Rattle.std.specs.Prelude.{◌≡◌, ℕ, Bool, true, false, ◌&&◌, ◌⊎◌, List, map}
+use Rattle.std.specs.Prelude.{◌≡◌, ◌≢◌, ℕ, ◌<◌, ◌==◌, Bool, true, false, ◌&&◌, ◌⊎◌, List, map, length, take, codes, count_by}
 use Rattle.rowan_green.specs.declared.utility_types.NodeOrToken.TheVariants.{Node}
 use Rattle.rowan_green.specs.Path.{tokens}
 use Rattle.rowan_green.specs.Term.{TokenTerm, token_of, NodeTerm, node, Forest, empty, node_then, token_then}
@@ -74,3 +74,15 @@ pub record IsParse (text : List ℕ) (tree : NodeTerm) : Type 0 where
   pub lexed : List LexedToken
   pub cut : IsLexed text lexed
   pub sexp : IsSexp (token_terms lexed) tree
+
+-- how many of the bytes are this one
+abbrev pub count_of : ℕ → List ℕ → ℕ
+count_of byte text = count_by (λ b. b == byte) text
+
+-- The text is that of one list: it begins with `(`, and the number of `(` less that of `)` becomes 0 at its last byte and
+-- nowhere before.
+pub record IsBalanced (text : List ℕ) : Type 0 where
+  pub begins : take 1 text ≡ codes "("
+  pub closed : count_of 40 text ≡ count_of 41 text
+  pub unclosed : (k : ℕ) → 0 < k → k < length text
+      → count_of 40 (take k text) ≢ count_of 41 (take k text)
