@@ -1,3 +1,4 @@
+pub mod AskedLemmas
 pub mod BalanceLemmas
 pub mod GrammarLemmas
 pub mod LexedLemmas

@@ -1,11 +1,13 @@
 -- What a parser's builder holds between two tokens: a root that is open, in it some open lists,
--- and between them whole terms that are not empty.
+-- and between them whole terms that are not empty. And what a parse that is refused leaves.
 use Rattle.std.specs.Prelude.{◌≡◌, ℕ, zero, suc, ◌+◌, ◌<◌, ◌≤◌, List, [], ◌∷◌, ◌++◌, length, replicate}
 use Rattle.rowan_green.specs.declared.utility_types.NodeOrToken.TheVariants.{Node}
 use Rattle.rowan_green.specs.Term.{TokenTerm, NodeTerm, Term, term_len}
 use Rattle.rowan_tool.specs.declared.sexp.lang.SyntaxKind.{SyntaxKind}
 use Rattle.rowan_tool.specs.declared.sexp.lang.SyntaxKind.TheVariants.{L_PAREN, R_PAREN, WORD, ERROR, LIST, ATOM, ROOT}
 use Rattle.rowan_tool.specs.Sexp.{number_of, kind_of}
+use Rattle.rowan_green.specs.Cache.{CacheValue}
+use Rattle.rowan_green.specs.Stream.{intern_all}
 use Rattle.rowan_green.specs.Word.{Symbol, Open, Leaf, Close, Item, Bare, Whole, HasParts, whole_terms, word_text}
 
 abbrev pub root_kind : ℕ
@@ -74,3 +76,15 @@ pub record IsInRoot (w : List Symbol) (open_lists : ℕ) : Type 0 where
 pub record IsTree (w : List Symbol) : Type 0 where
   pub root : NodeTerm
   pub parts : HasParts w (Whole (Node root) ∷ [])
+
+-- the second word begins with the first
+pub record Begins (v w : List Symbol) : Type 0 where
+  pub more : List Symbol
+  pub goes_on : w ≡ v ++ more
+
+-- the cache was asked for the first ones of these terms, and for no more
+pub record InternsFirst (old new : CacheValue) (stream : List Term) : Type 0 where
+  pub asked : List Term
+  pub others : List Term
+  pub first : stream ≡ asked ++ others
+  pub interns : new ≡ intern_all old asked

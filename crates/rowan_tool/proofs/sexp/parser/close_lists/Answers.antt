@@ -4,6 +4,7 @@ use Rattle.rowan_green.proofs.StreamLemmas.{BuildsOn-trans}
 use Rattle.rowan_tool.specs.Parsing.{IsInRoot}
 use Rattle.rowan_tool.proofs.ParsingLemmas.{IsInRoot-refuses, IsInRoot-closes}
 use Rattle.rowan_tool.proofs.WordLemmas.{closings_more}
+use Rattle.rowan_tool.proofs.AskedLemmas.{on_err_any, begun-closings}
 use Rattle.rowan_tool.proofs.sexp.parser.close_lists.Goals as goal
 
 pub returns-in_err-finish_node-clause-err : goal.returns-in_err-finish_node-clause-err
@@ -26,3 +27,7 @@ loop-list-preserved c =
       builds = BuildsOn-trans _ _ _ c.loop-list.invariant.builds c.finish_node.ensures.stream;
       same_loan = c.finish_node.ensures.loan ∙ c.loop-list.invariant.same_loan;
     }
+
+pub returns-in_err-finish_node-clause-begun : goal.returns-in_err-finish_node-clause-begun
+returns-in_err-finish_node-clause-begun c =
+    on_err_any _ (begun-closings c.args.builder.now.inner.word c.loop-list.builder.inner.word c.finish_node.new.self.inner.word c.loop-list._list c.args.open_lists (omega arith) c.loop-list.invariant.word (ap (λ b. b.word) c.in_err-finish_node.ensures.unchanged))
