@@ -76,7 +76,8 @@ fn build(builder: &mut GreenNodeBuilder<'_>, tokens: &[Token<'_>]) -> Result<(),
 
     ensures ok { OnOk result (IsTree (word_of builder.new)) }
     ensures word { OnOk result (word_of builder.new ≡ sexp_word (token_terms tokens.now)) }
-    ensures begun { OnErr result (Begins (word_of builder.new) (sexp_word (token_terms tokens.now))) }
+    ensures begun { OnErr result
+        (Begins (word_of builder.new) (sexp_word (token_terms tokens.now))) }
     ensures text { OnOk result (text_so_far builder.new ≡ tokens_text tokens.now) }
     ensures err { IfErr result (λ e. e ≡ Fault.Memory) }
 
