@@ -38,7 +38,7 @@ run_from_first ends text rest c (suc len) begins fails small inside stopped = re
 }
 
 -- the first character of a run fails the test
-first_of_run : (ends : ℕ → Bool) (text : List ℕ) → IsRun ends text → (c : ℕ) × (rest : List ℕ) × (text ≡ encode_utf8 c ++ rest) × (ends c ≡ false)
+pub first_of_run : (ends : ℕ → Bool) (text : List ℕ) → IsRun ends text → (c : ℕ) × (rest : List ℕ) × (text ≡ encode_utf8 c ++ rest) × (ends c ≡ false)
 first_of_run ends text run = first run.inside.0 run.inside.1 run.inside.2
   where
     first : (cs : List ℕ) → encode_utf8_all cs ≡ text → NonePass ends cs → (c : ℕ) × (rest : List ℕ) × (text ≡ encode_utf8 c ++ rest) × (ends c ≡ false)

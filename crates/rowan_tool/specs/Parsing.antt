@@ -1,14 +1,42 @@
 -- What a parser's builder holds between two tokens: a root that is open, in it some open lists,
--- and between them whole terms that are not empty.
-use Rattle.std.specs.Prelude.{◌≡◌, ℕ, ◌+◌, ◌<◌, ◌≤◌, List, [], ◌∷◌, length}
+-- and between them whole terms that are not empty. And what a parse that is refused leaves.
+use Rattle.std.specs.Prelude.{◌≡◌, ℕ, zero, suc, ◌+◌, ◌<◌, ◌≤◌, List, [], ◌∷◌, ◌++◌, length, replicate}
 use Rattle.rowan_green.specs.declared.utility_types.NodeOrToken.TheVariants.{Node}
-use Rattle.rowan_green.specs.Term.{NodeTerm, Term, node_kind, term_len}
-use Rattle.rowan_tool.specs.declared.sexp.lang.SyntaxKind.TheVariants.{ROOT}
-use Rattle.rowan_tool.specs.Sexp.{number_of}
-use Rattle.rowan_green.specs.Word.{Symbol, Item, Bare, Whole, HasParts, whole_terms, word_text}
+use Rattle.rowan_green.specs.Term.{TokenTerm, NodeTerm, Term, node_kind, term_len}
+use Rattle.rowan_tool.specs.declared.sexp.lang.SyntaxKind.{SyntaxKind}
+use Rattle.rowan_tool.specs.declared.sexp.lang.SyntaxKind.TheVariants.{L_PAREN, R_PAREN, WORD, ERROR, LIST, ATOM, ROOT}
+use Rattle.rowan_tool.specs.Sexp.{number_of, kind_of}
+use Rattle.rowan_green.specs.Cache.{CacheValue}
+use Rattle.rowan_green.specs.Stream.{intern_all}
+use Rattle.rowan_green.specs.Word.{Symbol, Open, Leaf, Close, Item, Bare, Whole, HasParts, whole_terms, word_text}
 
 abbrev pub root_kind : ℕ
 root_kind = number_of ROOT
+
+-- what a token of this kind adds to the word, where so many lists are open
+abbrev pub symbols_of : SyntaxKind → ℕ → TokenTerm → List Symbol
+symbols_of L_PAREN n t = Open (number_of LIST) ∷ Leaf t ∷ []
+symbols_of R_PAREN zero t = Open (number_of ERROR) ∷ Leaf t ∷ Close ∷ []
+symbols_of R_PAREN (suc n) t = Leaf t ∷ Close ∷ []
+symbols_of WORD n t = Open (number_of ATOM) ∷ Leaf t ∷ Close ∷ []
+symbols_of _ n t = Leaf t ∷ []
+
+-- how many lists are open behind it
+abbrev pub open_after : SyntaxKind → ℕ → ℕ
+open_after L_PAREN n = suc n
+open_after R_PAREN zero = zero
+open_after R_PAREN (suc n) = n
+open_after _ n = n
+
+-- what the tokens that are left add, and the end of the text, which closes the open lists and the root
+abbrev pub rest_word : ℕ → List TokenTerm → List Symbol
+rest_word n [] = replicate n Close ++ Close ∷ []
+rest_word n (t ∷ ts) =
+    symbols_of (kind_of t.kind) n t ++ rest_word (open_after (kind_of t.kind) n) ts
+
+-- the word of the tree of the tokens
+abbrev pub sexp_word : List TokenTerm → List Symbol
+sexp_word ts = Open root_kind ∷ rest_word 0 ts
 
 -- how many openings are bare
 abbrev pub bare_count : List Item → ℕ
@@ -49,3 +77,15 @@ pub record IsTree (w : List Symbol) : Type 0 where
   pub root : NodeTerm
   pub kind : node_kind root ≡ root_kind
   pub parts : HasParts w (Whole (Node root) ∷ [])
+
+-- the second word begins with the first
+pub record Begins (v w : List Symbol) : Type 0 where
+  pub more : List Symbol
+  pub goes_on : w ≡ v ++ more
+
+-- the cache was asked for the first ones of these terms, and for no more
+pub record InternsFirst (old new : CacheValue) (stream : List Term) : Type 0 where
+  pub asked : List Term
+  pub others : List Term
+  pub first : stream ≡ asked ++ others
+  pub interns : new ≡ intern_all old asked

@@ -1,13 +1,14 @@
 //! The parser of s-expressions: no text is refused for its form, and no byte of it is lost.
-ghost use Rattle.std.specs.Prelude.{◌≡◌, ◌≢◌, ℕ, ◌+◌, ◌<◌, ◌≤◌, [], ◌∷◌, ◌++◌, length, IfOk, IfErr, OnOk};
+ghost use Rattle.std.specs.Prelude.{◌≡◌, ◌≢◌, ℕ, ◌+◌, ◌<◌, ◌≤◌, [], ◌∷◌, ◌++◌, length, replicate, IfOk, IfErr, OnOk, OnErr};
 ghost use Rattle.rowan_green.specs.Cache.{first_seen};
 ghost use Rattle.rowan_green.specs.Fits.{byte_limit};
 ghost use Rattle.rowan_green.specs.Loan.{word_of, value_of, loan_of, text_so_far};
 ghost use Rattle.rowan_green.specs.Stream.{subterms, Grows, BuildsOn};
 ghost use Rattle.rowan_green.specs.declared.utility_types.NodeOrToken.TheVariants.{Node};
-ghost use Rattle.rowan_green.specs.Term.{node_text};
+ghost use Rattle.rowan_green.specs.Term.{NodeTerm, node_text, token_of};
 ghost use Rattle.rowan_green.specs.Word.{Open, Leaf, Close};
-ghost use Rattle.rowan_tool.specs.Parsing.{IsInRoot, IsTree};
+ghost use Rattle.rowan_tool.specs.Grammar.{IsParse, token_terms};
+ghost use Rattle.rowan_tool.specs.Parsing.{IsInRoot, IsTree, symbols_of, open_after, sexp_word, Begins, InternsFirst};
 ghost use Rattle.rowan_tool.specs.Sexp.{IsTextOf, IsToken, tokens_text, number_of};
 ghost use Rattle.std.specs.List.{AllByRecursion};
 
@@ -27,6 +28,7 @@ use std::alloc::Global;
 /// println!(rt; "{}", parse.syntax(alloc)?.debug_tree(alloc)?)?;    // ROOT@0..6, and the lines below it
 /// ```
 pub fn parse(alloc: Global, text: &str) -> Result<Parse, Fault>
+    ensures tree { IfOk result (IsParse text.now) }
     ensures text { IfOk result (λ p. node_text p ≡ text.now) }
     ensures err { IfErr result (λ e. e ≢ Fault.Memory → e ≡ Fault.TextTooLong) }
     ensures too_long { byte_limit < length text.now → result ≡ Err Fault.TextTooLong }
@@ -37,9 +39,10 @@ pub fn parse(alloc: Global, text: &str) -> Result<Parse, Fault>
 }
 
 /// Parses a text as `parse` does, with a cache that is lent to the builder: what stands in the cache is shared, and what the
-/// tree has of tokens and of small nodes is in the cache afterwards. A parse that is refused for want of memory may leave some
-/// of its first ones there; one of a text past the limit leaves the cache as it was.
+/// tree has of tokens and of small nodes is in the cache afterwards. A parse that is refused for want of memory leaves the first
+/// ones of these there, up to where it was refused; one of a text past the limit leaves the cache as it was.
 pub fn parse_with(alloc: Global, text: &str, cache: &mut NodeCache) -> Result<Parse, Fault>
+    ensures tree { IfOk result (IsParse text.now) }
     ensures text { IfOk result (λ p. node_text p ≡ text.now) }
     ensures err { IfErr result (λ e. e ≢ Fault.Memory → e ≡ Fault.TextTooLong) }
     ensures too_long { byte_limit < length text.now → result ≡ Err Fault.TextTooLong }
@@ -50,6 +53,8 @@ pub fn parse_with(alloc: Global, text: &str, cache: &mut NodeCache) -> Result<Pa
         cache.new.seen ≡ first_seen cache.old.limit (cache.old.seen ++ subterms (Node p))) }
     ensures grows { Grows cache.old cache.new }
     ensures unchanged { result ≡ Err Fault.TextTooLong → cache.new ≡ cache.old }
+    ensures refused { OnErr result ((tree : NodeTerm) → IsParse text.now tree
+        → InternsFirst cache.old cache.new (subterms (Node tree))) }
 {
     if text.len() > u32::MAX as usize {
         return Err(Fault::TextTooLong);
@@ -70,6 +75,9 @@ fn build(builder: &mut GreenNodeBuilder<'_>, tokens: &[Token<'_>]) -> Result<(),
     requires room { length (tokens_text tokens.now) ≤ byte_limit }
 
     ensures ok { OnOk result (IsTree (word_of builder.new)) }
+    ensures word { OnOk result (word_of builder.new ≡ sexp_word (token_terms tokens.now)) }
+    ensures begun { OnErr result
+        (Begins (word_of builder.new) (sexp_word (token_terms tokens.now))) }
     ensures text { OnOk result (text_so_far builder.new ≡ tokens_text tokens.now) }
     ensures err { IfErr result (λ e. e ≡ Fault.Memory) }
 
@@ -98,6 +106,11 @@ fn place(
     requires room { length (text_so_far builder.old) + length text.now ≤ byte_limit }
 
     ensures ok { IfOk result (λ n. IsInRoot (word_of builder.new) n) }
+    ensures lists { IfOk result (λ n. n ≡ open_after kind open_lists) }
+    ensures word { OnOk result (word_of builder.new ≡ word_of builder.old
+        ++ symbols_of kind open_lists (token_of (number_of kind) text.now)) }
+    ensures begun { OnErr result (Begins (word_of builder.new) (word_of builder.old
+        ++ symbols_of kind open_lists (token_of (number_of kind) text.now))) }
     ensures text { OnOk result (text_so_far builder.new ≡ text_so_far builder.old ++ text.now) }
     ensures err { IfErr result (λ e. e ≡ Fault.Memory) }
 
@@ -144,6 +157,8 @@ fn place_alone(
 
     ensures ok { OnOk result (word_of builder.new ≡ word_of builder.old ++ Open (number_of node)
         ∷ Leaf (record { kind = number_of kind; text = text.now }) ∷ Close ∷ []) }
+    ensures begun { OnErr result (Begins (word_of builder.new) (word_of builder.old
+        ++ Open (number_of node) ∷ Leaf (token_of (number_of kind) text.now) ∷ Close ∷ [])) }
     ensures text { OnOk result (text_so_far builder.new ≡ text_so_far builder.old ++ text.now) }
     ensures err { IfErr result (λ e. e ≡ Fault.Memory) }
 
@@ -162,6 +177,10 @@ fn close_lists(builder: &mut GreenNodeBuilder<'_>, open_lists: usize) -> Result<
     requires room { length (text_so_far builder.old) ≤ byte_limit }
 
     ensures ok { OnOk result (IsInRoot (word_of builder.new) 0) }
+    ensures word { OnOk result (word_of builder.new
+        ≡ word_of builder.old ++ replicate open_lists Close) }
+    ensures begun { OnErr result
+        (Begins (word_of builder.new) (word_of builder.old ++ replicate open_lists Close)) }
     ensures text { text_so_far builder.new ≡ text_so_far builder.old }
     ensures err { IfErr result (λ e. e ≡ Fault.Memory) }
 
@@ -181,6 +200,8 @@ fn close_root(builder: &mut GreenNodeBuilder<'_>) -> Result<(), Fault>
     requires room { length (text_so_far builder.old) ≤ byte_limit }
 
     ensures ok { OnOk result (IsTree (word_of builder.new)) }
+    ensures word { OnOk result (word_of builder.new ≡ word_of builder.old ++ Close ∷ []) }
+    ensures unchanged { OnErr result (word_of builder.new ≡ word_of builder.old) }
     ensures text { text_so_far builder.new ≡ text_so_far builder.old }
     ensures err { IfErr result (λ e. e ≡ Fault.Memory) }
 

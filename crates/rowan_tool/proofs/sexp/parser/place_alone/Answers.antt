@@ -7,6 +7,8 @@ use Rattle.rowan_green.specs.Word.{Open, Leaf, Close, WhyNotClosed}
 use Rattle.rowan_green.proofs.StreamLemmas.{BuildsOn-trans}
 use Rattle.rowan_tool.proofs.ParsingLemmas.{alone_refused, alone_word}
 use Rattle.rowan_tool.specs.Sexp.{number_of}
+use Rattle.std.proofs.lemmas.Result.{on_err_weaker}
+use Rattle.rowan_tool.proofs.AskedLemmas.{on_err_any, begins_same, begins_opened, begins_filled}
 use Rattle.rowan_tool.proofs.sexp.parser.place_alone.Goals as goal
 
 pub returns-clause-err : goal.returns-clause-err
@@ -31,3 +33,18 @@ returns-clause-ok c =
 
 pub returns-clause-stream : goal.returns-clause-stream
 returns-clause-stream c = BuildsOn-trans _ _ _ (BuildsOn-trans _ _ _ c.start_node.ensures.stream c.token.ensures.stream) c.finish_node.ensures.stream
+
+pub returns-in_err-start_node-clause-begun : goal.returns-in_err-start_node-clause-begun
+returns-in_err-start_node-clause-begun c =
+    on_err_any _ (begins_same c.args.builder.now.inner.word c.start_node.new.self.inner.word _ (ap (λ b. b.word) c.in_err-start_node.ensures.unchanged))
+
+pub returns-in_err-token-clause-begun : goal.returns-in_err-token-clause-begun
+returns-in_err-token-clause-begun c =
+    on_err_any _ (begins_opened c.args.builder.now.inner.word c.token.new.self.inner.word c.to_raw.result.0 (number_of c.args.node) _ (ap (λ b. b.word) c.in_err-token.ensures.unchanged ∙ ap (λ b. b.word) c.in_ok-start_node.ensures.ok) c.to_raw.ensures)
+
+pub returns-clause-begun : goal.returns-clause-begun
+returns-clause-begun c =
+    on_err_weaker c.finish_node.result
+    (λ h.
+    begins_filled c.args.builder.now.inner.word c.start_node.new.self.inner.word c.finish_node.new.self.inner.word c.to_raw.result.0 c.to_raw-2.result.0 (number_of c.args.node) (number_of c.args.kind) c.args.text.now (Close ∷ []) (ap (λ b. b.word) c.in_ok-start_node.ensures.ok) (ap (λ b. b.word) h ∙ ap (λ b. b.word) c.in_ok-token.ensures.ok) c.to_raw.ensures c.to_raw-2.ensures)
+    c.finish_node.ensures.unchanged
