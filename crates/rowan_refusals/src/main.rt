@@ -21,6 +21,7 @@ mod step;
 mod texts;
 mod traces;
 mod transcript;
+mod trees;
 mod typed;
 mod walks;
 

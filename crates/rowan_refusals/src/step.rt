@@ -54,7 +54,7 @@ pub enum Step {
     TypedMoves,
     /// What the place is with and without the kinds of its language.
     Conversions,
-    /// Where the pointer to the place leads, and where it is after an edit: the ends of a range, and the bytes that stand there then.
+    /// Where the pointer to the place leads, and where it is once so many bytes stand in place of a range.
     Pointer(u32, u32, u32),
     /// What the wrappers of the place are.
     Wrappers,

@@ -1,76 +1,129 @@
 //! The calls of typed cursors, none of which asks for memory.
 
-use crate::moving::tell_each;
+use crate::moving::{Move, tell_each};
 use crate::transcript::{Stop, Transcript};
 use rowan::cursor::{self, ElementCalls};
-use rowan::{Direction, NodeOrToken, SyntaxElement, SyntaxNode, SyntaxToken, TypedElementCalls};
+use rowan::{
+    Direction, Fault, NodeOrToken, SyntaxElement, SyntaxNode, SyntaxToken, TypedElementCalls,
+};
 use rowan_tool::sexp::Lang;
 
-/// Says where the moves from an element lead.
+/// The moves that are made from each element.
+const MOVES: [Move; 14] = [
+    Move::TreeTop,
+    Move::Parent,
+    Move::FirstChild,
+    Move::LastChild,
+    Move::FirstChildOrToken,
+    Move::LastChildOrToken,
+    Move::NextSibling,
+    Move::PrevSibling,
+    Move::NextSiblingOrToken,
+    Move::PrevSiblingOrToken,
+    Move::FirstToken,
+    Move::LastToken,
+    Move::NextToken,
+    Move::PrevToken,
+];
+
+/// Says where the moves from an element lead, by the calls of the node or the token and by those of the element.
 pub fn tell_moves(log: &Transcript<'_>, element: &SyntaxElement<Lang>) -> Result<(), Stop> {
-    tell_around(log, element)?;
+    for way in MOVES {
+        log.tell(way.name(), &make(way, element))?;
+    }
+    for way in MOVES {
+        log.tell(way.name(), &at_element(way, element))?;
+    }
+    tell_each(log, "ancestor", element.ancestors())?;
     match element {
-        NodeOrToken::Node(node) => {
-            tell_beside(log, node)?;
-            tell_below(log, node)
-        }
-        NodeOrToken::Token(token) => {
-            tell_beside_token(log, token)?;
-            tell_lists_at_token(log, token)
-        }
+        NodeOrToken::Node(node) => log.tell("text", &node.text()),
+        NodeOrToken::Token(token) => tell_lists_at_token(log, token),
     }
 }
 
-fn tell_around(log: &Transcript<'_>, element: &SyntaxElement<Lang>) -> Result<(), Stop> {
-    log.tell("tree_top", &element.tree_top())?;
-    log.tell("parent", &element.parent())?;
-    log.tell("next_sibling_or_token", &element.next_sibling_or_token())?;
-    log.tell("prev_sibling_or_token", &element.prev_sibling_or_token())?;
-    tell_each(log, "ancestor", element.ancestors())
+/// Where a move leads. It leads nowhere from an element that has no such call.
+fn make(way: Move, from: &SyntaxElement<Lang>) -> Result<Option<SyntaxElement<Lang>>, Fault> {
+    match from {
+        NodeOrToken::Node(node) => at_node(way, node),
+        NodeOrToken::Token(token) => at_token(way, token),
+    }
 }
 
-fn tell_around_raw(log: &Transcript<'_>, element: &cursor::SyntaxElement) -> Result<(), Stop> {
-    log.tell("tree_top", &ElementCalls::tree_top(element))?;
-    log.tell("parent", &ElementCalls::parent(element))?;
-    log.tell("first_token", &element.first_token())?;
-    log.tell("last_token", &element.last_token())?;
-    log.tell(
-        "next_sibling_or_token",
-        &ElementCalls::next_sibling_or_token(element),
-    )?;
-    log.tell(
-        "prev_sibling_or_token",
-        &ElementCalls::prev_sibling_or_token(element),
-    )?;
-    tell_each(log, "ancestor", ElementCalls::ancestors(element))
+fn at_node(way: Move, node: &SyntaxNode<Lang>) -> Result<Option<SyntaxElement<Lang>>, Fault> {
+    match way {
+        Move::TreeTop => Ok(Some(NodeOrToken::Node(node.tree_top()?))),
+        Move::Parent => Ok(as_node(node.parent()?)),
+        Move::FirstChild => Ok(as_node(node.first_child()?)),
+        Move::LastChild => Ok(as_node(node.last_child()?)),
+        Move::FirstChildOrToken => node.first_child_or_token(),
+        Move::LastChildOrToken => node.last_child_or_token(),
+        Move::NextSibling => Ok(as_node(node.next_sibling()?)),
+        Move::PrevSibling => Ok(as_node(node.prev_sibling()?)),
+        Move::NextSiblingOrToken => node.next_sibling_or_token(),
+        Move::PrevSiblingOrToken => node.prev_sibling_or_token(),
+        Move::FirstToken => Ok(as_token(node.first_token()?)),
+        Move::LastToken => Ok(as_token(node.last_token()?)),
+        Move::NextToken | Move::PrevToken | Move::ElementAt(_) => Ok(None),
+    }
 }
 
-fn tell_beside(log: &Transcript<'_>, node: &SyntaxNode<Lang>) -> Result<(), Stop> {
-    log.tell("tree_top", &node.tree_top())?;
-    log.tell("parent", &node.parent())?;
-    log.tell("next_sibling", &node.next_sibling())?;
-    log.tell("prev_sibling", &node.prev_sibling())?;
-    log.tell("next_sibling_or_token", &node.next_sibling_or_token())?;
-    log.tell("prev_sibling_or_token", &node.prev_sibling_or_token())
+fn at_token(way: Move, token: &SyntaxToken<Lang>) -> Result<Option<SyntaxElement<Lang>>, Fault> {
+    match way {
+        Move::TreeTop => Ok(Some(NodeOrToken::Node(token.tree_top()?))),
+        Move::Parent => Ok(as_node(token.parent()?)),
+        Move::NextSiblingOrToken => token.next_sibling_or_token(),
+        Move::PrevSiblingOrToken => token.prev_sibling_or_token(),
+        Move::NextToken => Ok(as_token(token.next_token()?)),
+        Move::PrevToken => Ok(as_token(token.prev_token()?)),
+        _ => Ok(None),
+    }
 }
 
-fn tell_below(log: &Transcript<'_>, node: &SyntaxNode<Lang>) -> Result<(), Stop> {
-    log.tell("first_child", &node.first_child())?;
-    log.tell("last_child", &node.last_child())?;
-    log.tell("first_child_or_token", &node.first_child_or_token())?;
-    log.tell("last_child_or_token", &node.last_child_or_token())?;
-    log.tell("first_token", &node.first_token())?;
-    log.tell("last_token", &node.last_token())?;
-    log.tell("text", &node.text())
+/// Where a move leads by the calls of typed elements.
+fn at_element(
+    way: Move,
+    element: &SyntaxElement<Lang>,
+) -> Result<Option<SyntaxElement<Lang>>, Fault> {
+    match way {
+        Move::TreeTop => Ok(Some(NodeOrToken::Node(element.tree_top()?))),
+        Move::Parent => Ok(as_node(element.parent()?)),
+        Move::NextSiblingOrToken => element.next_sibling_or_token(),
+        Move::PrevSiblingOrToken => element.prev_sibling_or_token(),
+        _ => Ok(None),
+    }
 }
 
-fn tell_beside_token(log: &Transcript<'_>, token: &SyntaxToken<Lang>) -> Result<(), Stop> {
-    log.tell("tree_top", &token.tree_top())?;
-    log.tell("parent", &token.parent())?;
-    log.tell("next_sibling_or_token", &token.next_sibling_or_token())?;
-    log.tell("prev_sibling_or_token", &token.prev_sibling_or_token())?;
-    log.tell("next_token", &token.next_token())?;
-    log.tell("prev_token", &token.prev_token())
+/// Where a move leads by the calls of raw elements.
+fn at_raw_element(
+    way: Move,
+    element: &cursor::SyntaxElement,
+) -> Result<Option<cursor::SyntaxElement>, Fault> {
+    match way {
+        Move::TreeTop => Ok(Some(NodeOrToken::Node(ElementCalls::tree_top(element)?))),
+        Move::Parent => match ElementCalls::parent(element)? {
+            Some(node) => Ok(Some(NodeOrToken::Node(node))),
+            None => Ok(None),
+        },
+        Move::FirstToken => match element.first_token()? {
+            Some(token) => Ok(Some(NodeOrToken::Token(token))),
+            None => Ok(None),
+        },
+        Move::LastToken => match element.last_token()? {
+            Some(token) => Ok(Some(NodeOrToken::Token(token))),
+            None => Ok(None),
+        },
+        Move::NextSiblingOrToken => ElementCalls::next_sibling_or_token(element),
+        Move::PrevSiblingOrToken => ElementCalls::prev_sibling_or_token(element),
+        _ => Ok(None),
+    }
+}
+
+fn as_node(node: Option<SyntaxNode<Lang>>) -> Option<SyntaxElement<Lang>> {
+    node.map(NodeOrToken::Node)
+}
+
+fn as_token(token: Option<SyntaxToken<Lang>>) -> Option<SyntaxElement<Lang>> {
+    token.map(NodeOrToken::Token)
 }
 
 fn tell_lists_at_token(log: &Transcript<'_>, token: &SyntaxToken<Lang>) -> Result<(), Stop> {
@@ -88,7 +141,10 @@ pub fn tell_conversions(log: &Transcript<'_>, element: SyntaxElement<Lang>) -> R
     )?;
     let raw = element.into_raw();
     log.tell("into_raw", &raw)?;
-    tell_around_raw(log, &raw)?;
+    for way in MOVES {
+        log.tell(way.name(), &at_raw_element(way, &raw))?;
+    }
+    tell_each(log, "ancestor", ElementCalls::ancestors(&raw))?;
     let typed = SyntaxElement::<Lang>::from_raw(raw);
     log.tell("from_raw", &typed)?;
     match typed {
