@@ -1,19 +1,20 @@
 -- The tokens of a text: there is one list of them, since each token's first character says its kind, and it is as long as can be.
 use Rattle.std.proofs.Common.{◌≡◌, ◌≢◌, ℕ, ◌<◌, Bool, true, false, List, [], ◌∷◌, ◌++◌, length, refl, sym, ap, ◌∙◌, subst, arith, length-append, append_assoc, ne_eqb}
-use Rattle.std.proofs.lemmas.List.{append_cancel_left}
+use Rattle.std.proofs.lemmas.Bool.{eqb-true}
+use Rattle.std.proofs.lemmas.List.{append-nil, append_cancel_left}
 use Rattle.std.specs.Prelude.{◌==◌, ◌||◌, not, if◌then◌else◌}
 use Rattle.std.specs.Char.{encode_utf8, is_whitespace, is_not_whitespace}
 use Rattle.std.specs.List.{AllByRecursion}
-use Rattle.std.specs.Str.{NoCharPasses, NonePass, encode_utf8_all}
+use Rattle.std.specs.Str.{NoCharPasses, NonePass, encode_utf8_all, IsUtf8}
 use Rattle.std.proofs.lemmas.Str.{encode_same, encode_ascii}
 use Rattle.rowan_green.specs.Term.{NodeTerm, token_of}
 use Rattle.rowan_tool.specs.Grammar.{IsSexp, IsParse, token_terms}
-use Rattle.rowan_tool.specs.Sexp.{LexedToken, IsStopped, IsTextOf, EndsBefore, IsToken, AreApart, IsLexed, are_one, tokens_text, is_delimiter, number_of}
+use Rattle.rowan_tool.specs.Sexp.{LexedToken, IsStopped, IsRun, IsTextOf, EndsBefore, IsToken, AreApart, IsLexed, are_one, tokens_text, is_delimiter, number_of}
 use Rattle.rowan_tool.specs.declared.sexp.lang.SyntaxKind.{SyntaxKind}
 use Rattle.rowan_tool.specs.declared.sexp.lang.SyntaxKind.TheVariants.{L_PAREN, R_PAREN, WORD, WHITESPACE, ERROR, LIST, ATOM, ROOT}
-use Rattle.rowan_tool.proofs.GrammarLemmas.{sexp-unique}
+use Rattle.rowan_tool.proofs.GrammarLemmas.{sexp_exists, sexp-unique}
 use Rattle.rowan_tool.proofs.ParsingLemmas.{IsTextOf-some}
-use Rattle.rowan_tool.proofs.SexpRuns.{IsCut, IsCutInto, first_of_run, goes_on}
+use Rattle.rowan_tool.proofs.SexpRuns.{IsCut, IsCutInto, first_of_run, goes_on, nonempty_from_char}
 
 -- ---- the kind of a token, by its first character
 
@@ -171,3 +172,86 @@ lexed-unique text xs ys h g = same_cuts text xs ys (cuts_from_lexed text xs h.wh
 
 pub parse-unique : (text : List ℕ) (m n : NodeTerm) → IsParse text m → IsParse text n → m ≡ n
 parse-unique text m n h g = sexp-unique (token_terms g.lexed) m n (subst (λ ts. IsSexp ts m) (lexed-unique text h.lexed g.lexed h.cut g.cut) h.sexp) g.sexp
+
+-- ---- there are tokens
+
+encode_all-append : (cs ds : List ℕ) → encode_utf8_all (cs ++ ds) ≡ encode_utf8_all cs ++ encode_utf8_all ds
+encode_all-append [] ds = refl
+encode_all-append (c ∷ cs) ds = ap (λ t. encode_utf8 c ++ t) (encode_all-append cs ds) ∙ sym (append_assoc (encode_utf8 c) (encode_utf8_all cs) (encode_utf8_all ds))
+
+none-append : (ends : ℕ → Bool) (cs ds : List ℕ) → NonePass ends cs → NonePass ends ds → NonePass ends (cs ++ ds)
+none-append ends [] ds h g = g
+none-append ends (c ∷ cs) ds h g = (h.0, none-append ends cs ds h.1 g)
+
+-- two runs are one
+run-append : (ends : ℕ → Bool) (s t : List ℕ) → IsRun ends s → IsRun ends t → IsRun ends (s ++ t)
+run-append ends s t h g = record {
+  nonempty = omega (arith, length-append s t, h.nonempty);
+  inside = (h.inside.0 ++ g.inside.0, encode_all-append h.inside.0 g.inside.0 ∙ ap (λ x. x ++ encode_utf8_all g.inside.0) h.inside.1 ∙ ap (λ x. s ++ x) g.inside.1, none-append ends h.inside.0 g.inside.0 h.inside.2 g.inside.2);
+}
+
+joins : (k l : SyntaxKind) (s t : List ℕ) → are_one k l ≡ true → IsTextOf k s → IsTextOf l t → IsTextOf l (s ++ t)
+joins WORD WORD s t e h g = run-append is_delimiter s t h g
+joins WHITESPACE WHITESPACE s t e h g = run-append is_not_whitespace s t h g
+joins _ _ s t e h g = absurd (let wrong : false ≡ true = e in cc)
+
+-- one character is a token, or a part of one
+one_char : (c : ℕ) → (kind : SyntaxKind) × IsTextOf kind (encode_utf8 c)
+one_char c = by_tests (c == 40) (c == 41) (is_whitespace c) refl refl refl
+  where
+    run : (ends : ℕ → Bool) → ends c ≡ false → IsRun ends (encode_utf8 c)
+    run ends e = record { nonempty = nonempty_from_char (encode_utf8 c) [] c (sym (append-nil (encode_utf8 c))); inside = (c ∷ [], append-nil (encode_utf8 c), (e, tt)) }
+
+    by_tests : (a b w : Bool) → (c == 40) ≡ a → (c == 41) ≡ b → is_whitespace c ≡ w → (kind : SyntaxKind) × IsTextOf kind (encode_utf8 c)
+    by_tests true b w e f g = (L_PAREN, ap encode_utf8 (eqb-true c 40 e) ∙ encode_ascii 40 (omega arith))
+    by_tests false true w e f g = (R_PAREN, ap encode_utf8 (eqb-true c 41 f) ∙ encode_ascii 41 (omega arith))
+    by_tests false false true e f g = (WHITESPACE, run is_not_whitespace (ap not g))
+    by_tests false false false e f g = (WORD, run is_delimiter (ap (λ a. (a || (c == 41)) || is_whitespace c) e ∙ ap (λ b. (false || b) || is_whitespace c) f ∙ ap (λ w. (false || false) || w) g))
+
+record HasTokens (text : List ℕ) : Type 0 where
+  tokens : List LexedToken
+  lexed : IsLexed text tokens
+
+-- one more token in front, or a longer first one
+put_first : (kind : SyntaxKind) (s text : List ℕ) → IsTextOf kind s → (tokens : List LexedToken) → IsLexed text tokens → HasTokens (s ++ text)
+put_first kind s text h [] l = record {
+  tokens = (kind, record { ref_ptr = (0, 0); now = s }) ∷ [];
+  lexed = record { whole = ap (λ t. s ++ t) l.whole; each = (h, tt); apart = tt };
+}
+put_first kind s text h (x ∷ xs) l = by_test (are_one kind x.0) refl
+  where
+    joined : (ys : List LexedToken) → AreApart (x ∷ ys) → AreApart ((x.0, record { ref_ptr = (0, 0); now = s ++ x.1.now }) ∷ ys)
+    joined [] a = tt
+    joined (y ∷ ys) a = a
+
+    by_test : (b : Bool) → are_one kind x.0 ≡ b → HasTokens (s ++ text)
+    by_test false e = record {
+      tokens = (kind, record { ref_ptr = (0, 0); now = s }) ∷ x ∷ xs;
+      lexed = record { whole = ap (λ t. s ++ t) l.whole; each = (h, l.each); apart = (e, l.apart) };
+    }
+    by_test true e = record {
+      tokens = (x.0, record { ref_ptr = (0, 0); now = s ++ x.1.now }) ∷ xs;
+      lexed = record {
+        whole = append_assoc s x.1.now (tokens_text xs) ∙ ap (λ t. s ++ t) l.whole;
+        each = (joins kind x.0 s x.1.now e h l.each.0, l.each.1);
+        apart = joined xs l.apart;
+      };
+    }
+
+tokens_of : (cs : List ℕ) → HasTokens (encode_utf8_all cs)
+tokens_of [] = record { tokens = []; lexed = record { whole = refl; each = tt; apart = tt } }
+tokens_of (c ∷ cs) =
+    let rest = tokens_of cs in
+    let one = one_char c in
+    put_first one.0 (encode_utf8 c) (encode_utf8_all cs) one.1 rest.tokens rest.lexed
+
+pub lexed-exists : (text : List ℕ) → IsUtf8 text → (tokens : List LexedToken) × IsLexed text tokens
+lexed-exists text utf8 =
+    let all = tokens_of utf8.0 in
+    (all.tokens, subst (λ t. IsLexed t all.tokens) utf8.1.1 all.lexed)
+
+pub parse-exists : (text : List ℕ) → IsUtf8 text → (tree : NodeTerm) × IsParse text tree
+parse-exists text utf8 =
+    let all = lexed-exists text utf8 in
+    let tree = sexp_exists all.0 all.1.each in
+    (tree.0, record { lexed = all.0; cut = all.1; sexp = tree.1 })

@@ -1,13 +1,16 @@
 //! Laws of the grammar, each as the contract of a function that does nothing.
 ghost use Rattle.std.specs.Prelude.{◌≡◌, ℕ, List};
 ghost use Rattle.std.specs.List.{AllByRecursion};
+ghost use Rattle.std.specs.Str.{IsUtf8};
 ghost use Rattle.rowan_green.specs.Term.{TokenTerm, NodeTerm};
 ghost use Rattle.rowan_tool.specs.Grammar.{IsSexp, IsParse, token_terms};
 ghost use Rattle.rowan_tool.specs.Sexp.{LexedToken, IsLexed, IsToken};
 
 /// A text has one list of tokens.
 pub fn text_has_one_list_of_tokens()
-    ensures { (text : List ℕ) (xs ys : List LexedToken) → IsLexed text xs → IsLexed text ys
+    ensures some { (text : List ℕ) → IsUtf8 text
+        → (tokens : List LexedToken) × IsLexed text tokens }
+    ensures one { (text : List ℕ) (xs ys : List LexedToken) → IsLexed text xs → IsLexed text ys
         → token_terms xs ≡ token_terms ys }
 {}
 
@@ -17,5 +20,7 @@ pub fn tokens_have_one_tree()
         → (tree : NodeTerm) × IsSexp (token_terms tokens) tree }
     ensures one { (tokens : List TokenTerm) (m n : NodeTerm) → IsSexp tokens m → IsSexp tokens n
         → m ≡ n }
-    ensures text { (text : List ℕ) (m n : NodeTerm) → IsParse text m → IsParse text n → m ≡ n }
+    ensures parse { (text : List ℕ) → IsUtf8 text → (tree : NodeTerm) × IsParse text tree }
+    ensures one_parse { (text : List ℕ) (m n : NodeTerm) → IsParse text m → IsParse text n
+        → m ≡ n }
 {}
