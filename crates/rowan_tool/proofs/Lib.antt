@@ -1,2 +1,4 @@
+pub mod EvalLemmas
+pub mod NumberLemmas
 pub mod ParsingLemmas
 pub mod SexpRuns

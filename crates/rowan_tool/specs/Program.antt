@@ -1,11 +1,16 @@
 -- What the program's arguments ask for, and what it does for an input.
-use Rattle.std.specs.Prelude.{◌≡◌, ◌≢◌, ℕ, ◌≤◌, List, [], ◌∷◌, length, map, codes, string_bytes, Option, Some, IfSome, IsUtf8, String}
+use Rattle.std.specs.Prelude.{◌≡◌, ◌≢◌, ℕ, ℤ, ◌≤◌, List, [], ◌∷◌, ◌++◌, length, map, codes, string_bytes, Option, Some, None, IfSome, IsUtf8, String}
+use Rattle.std.specs.Fmt.{signed_decimal}
 use Rattle.std.specs.Io.KnownBytes.{Appends}
 use Rattle.std.specs.declared.alloc.Global.{Global}
 use Rattle.rowan_tool.specs.declared.program.Command.{Command}
-use Rattle.rowan_tool.specs.declared.program.Command.TheVariants.{Tree}
+use Rattle.rowan_tool.specs.declared.program.Command.TheVariants.{Tree, Eval}
 use Rattle.rowan_tool.specs.declared.program.Stop.{Stop}
+use Rattle.rowan_tool.specs.Eval.{Reading, readings}
+use Rattle.rowan_cursor.specs.Cursor.{Cursor, term_at}
+use Rattle.rowan_green.specs.declared.utility_types.NodeOrToken.TheVariants.{Node, Token}
 use Rattle.rowan_green.specs.Fits.{byte_limit}
+use Rattle.rowan_green.specs.Term.{node, Term}
 use Rattle.rowan_green.specs.declared.fault.Fault.{Fault}
 use Rattle.rowan_green.specs.declared.fault.Fault.TheVariants.{Memory}
 use Rattle.rowan_tool.specs.declared.program.Stop.TheVariants.{Usage, CannotRead, NotUtf8, TooLong, NoMemory, CannotWrite}
@@ -13,6 +18,7 @@ use Rattle.rowan_tool.specs.declared.program.Stop.TheVariants.{Usage, CannotRead
 -- the word that asks for the command
 abbrev pub argument_of : Command → List ℕ
 argument_of Tree = codes "tree"
+argument_of Eval = codes "eval"
 
 -- the arguments are that word alone
 abbrev pub AsksFor : List (String Global) → Command → Type 0
@@ -41,6 +47,25 @@ pub record IsAnswered (old new : Option (List ℕ)) : Type 0 where
   pub shown : List ℕ
   pub text : IsUtf8 shown
   pub written : Appends old new shown
+
+-- the line of a value: the number, or `none`
+abbrev pub value_line : Option ℤ → List ℕ
+value_line (Some n) = signed_decimal n ++ 10 ∷ []
+value_line None = codes "none" ++ 10 ∷ []
+
+-- a line for each expression: the number that it reads, or `none`
+abbrev pub value_lines : List Reading → List ℕ
+value_lines [] = []
+value_lines (r ∷ rs) = value_line r.1 ++ value_lines rs
+
+abbrev pub value_lines_of : Option Term → List ℕ
+value_lines_of (Some (Node (node k f))) = value_lines (readings f)
+value_lines_of (Some (Token t)) = []
+value_lines_of None = []
+
+-- the lines of the expressions among the children of the node at a cursor
+abbrev pub value_lines_at : Cursor → List ℕ
+value_lines_at c = value_lines_of (term_at c)
 
 -- the exit status
 abbrev pub status_of : Stop → ℕ

@@ -1,9 +1,9 @@
 //! The program `rowan`: what its arguments ask for, what it reads and writes, and why it stops.
 ghost use Rattle.std.specs.Prelude.{◌≡◌, ◌≢◌, ◌↔◌, ◌<◌, ◌≤◌, ◌++◌, length, take, Ok, Err, IfOk, IfErr, IfSome, IfNone, OnOk, IsUtf8, string_bytes, vec_len};
 ghost use Rattle.std.specs.Io.KnownBytes.{Appends, Consumes, IsAtEnd};
-ghost use Rattle.rowan_tool.specs.Program.{AsksFor, IsCommandLine, IsReadWhole, ReadsAll, IsAnswered, longest_input, status_of, line_of};
+ghost use Rattle.rowan_tool.specs.Program.{AsksFor, IsCommandLine, IsReadWhole, ReadsAll, IsAnswered, longest_input, value_line, value_lines_at, status_of, line_of};
 
-use crate::sexp;
+use crate::sexp::{self, Root};
 use rowan::Fault;
 use std::alloc::{AllocError, Global};
 use std::io::{ErrorKind, Read, Write};
@@ -19,6 +19,8 @@ const READ_SIZE: usize = 64 * 1024;
 pub enum Command {
     /// `tree`: prints the tree of the input, which is read as s-expressions.
     Tree,
+    /// `eval`: prints a line for each expression of the input: the number that it reads, or `none`.
+    Eval,
 }
 
 impl Command {
@@ -32,6 +34,7 @@ impl Command {
         }
         match args[0].as_str() {
             "tree" => Some(Command::Tree),
+            "eval" => Some(Command::Eval),
             _ => None,
         }
     }
@@ -148,6 +151,29 @@ fn printed(alloc: Global, command: Command, text: &str) -> Result<String, Fault>
 {
     match command {
         Command::Tree => sexp::parse(alloc, text)?.syntax(alloc)?.debug_tree(alloc),
+        Command::Eval => value_lines(alloc, &sexp::parse(alloc, text)?.root(alloc)?),
+    }
+}
+
+/// A line for each expression of a text, in order: the number that it reads, or `none`.
+fn value_lines(alloc: Global, root: &Root) -> Result<String, Fault>
+    ensures ok { IfOk result (λ lines. string_bytes lines ≡ value_lines_at root.now) }
+    ensures err { IfErr result (λ fault. fault ≡ Fault.Memory) }
+{
+    let mut lines = String::new(alloc);
+    for sexp in root.sexps() {
+        push_value_line(&mut lines, sexp?.eval()?)?;
+    }
+    Ok(lines)
+}
+
+/// Adds the line of a value.
+fn push_value_line(lines: &mut String, value: Option<i64>) -> Result<(), AllocError>
+    ensures { OnOk result (string_bytes lines.new ≡ string_bytes lines.old ++ value_line value) }
+{
+    match value {
+        Some(number) => writeln!(lines, "{number}"),
+        None => lines.push_str("none\n"),
     }
 }
 

@@ -1,5 +1,6 @@
-//! S-expressions: their kinds, their lexer, their parser and the wrappers of their nodes.
+//! S-expressions: their kinds, their lexer, their parser, the wrappers of their nodes, and what they read as numbers.
 mod ast;
+mod eval;
 mod lang;
 mod lexer;
 mod parsed;

@@ -104,14 +104,18 @@ impl Root {
 }
 
 impl List {
-    ghost use Rattle.std.specs.Prelude.{◌≡◌, IfOk, IfErr};
+    ghost use Rattle.std.specs.Prelude.{◌≡◌, true, IfOk, IfErr};
     ghost use Rattle.rowan_green.specs.declared.fault.Fault.TheVariants.{Memory};
     ghost use Rattle.rowan_cursor.specs.Moves.{children};
+    ghost use Rattle.rowan.specs.Ast.{casts_at};
+    ghost use Rattle.rowan_tool.specs.Casts.{is_list};
+    ghost use Rattle.rowan_tool.specs.Sexp.{kind_of};
 
     /// The expressions of the list, in order: the child nodes that are atoms or lists. An item is `Err(Fault::Memory)` where the
     /// tree cannot be shared once more; then the iterator ends.
     pub fn sexps(&self) -> AstChildren<Sexp>
         ensures ok { IfOk result (λ nodes. nodes ≡ children self.now) }
+        ensures list { casts_at kind_of is_list self.now ≡ true }
         ensures err { IfErr result (λ e. e ≡ Memory) }
     {
         support::children(&self.syntax)

@@ -1,0 +1,7 @@
+use Rattle.std.specs.Prelude.{string_bytes}
+use Rattle.rowan_tool.proofs.EvalLemmas.{Lines}
+use Rattle.rowan_tool.proofs.program.value_lines.Given as goal
+
+-- the lines so far are those of the expressions that came
+abbrev pub invariant-loop-sexp : goal.invariant-loop-sexp
+invariant-loop-sexp l = Lines l.root l.sexp-iterator (string_bytes l.lines)
