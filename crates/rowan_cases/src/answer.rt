@@ -53,6 +53,8 @@ pub enum Answer<'a> {
     Gone,
     /// How many nodes were visited, and the node to which a pointer leads.
     Resolved(u64, Option<SyntaxElement>),
+    /// The number that an expression reads.
+    Value(Option<i64>),
     /// The printed tree.
     Lines(String),
     Yes,
@@ -124,6 +126,8 @@ impl<'a> Answer<'a> {
             Answer::Char(found) => char_text(alloc, *found),
             Answer::Pointer(pointer) => pointer_text(alloc, pointer),
             Answer::Gone => String::from_str(alloc, "Gone"),
+            Answer::Value(Some(number)) => format!(in alloc; "Value {number}"),
+            Answer::Value(None) => String::from_str(alloc, "None"),
             Answer::Lines(lines) => quoted_text(alloc, "Lines ", lines.as_str()),
             Answer::Resolved(visits, None) => format!(in alloc; "Unresolved {visits}"),
             Answer::Resolved(visits, Some(node)) => resolved_text(alloc, *visits, node),

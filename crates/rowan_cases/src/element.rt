@@ -2,10 +2,10 @@
 
 use crate::answer::Answer;
 use crate::instruction::{Edit, Listing, Support, Walk};
-use rowan::ast::support;
+use rowan::ast::{AstNode, support};
 use rowan::cursor::SyntaxElement;
 use rowan::{Fault, NodeOrToken, Steps, SyntaxNode, TextRange, TextSize};
-use rowan_tool::sexp::Lang;
+use rowan_tool::sexp::{Lang, Sexp};
 use std::alloc::Global;
 
 /// Searches the children of the green node.
@@ -86,6 +86,17 @@ fn found<'a>(element: Option<SyntaxElement>) -> Answer<'a> {
     match element {
         Some(element) => Answer::Element(element),
         None => Answer::Nowhere,
+    }
+}
+
+/// Asks for the number that an expression reads.
+pub fn eval<'a>(element: &SyntaxElement) -> Result<Answer<'a>, Fault> {
+    let NodeOrToken::Node(node) = element else {
+        return Ok(Answer::Nowhere);
+    };
+    match Sexp::cast(SyntaxNode::from(node.clone()?)) {
+        Some(sexp) => Ok(Answer::Value(sexp.eval()?)),
+        None => Ok(Answer::Nowhere),
     }
 }
 

@@ -54,6 +54,7 @@ impl Standing {
             Step::EqText(slot) => Ok(self.texts.compare(*slot)),
             Step::Pointer(step) => self.pointers.answer(&self.here, *step),
             Step::Support(support) => element::support(alloc, &self.here, *support),
+            Step::Eval => element::eval(&self.here),
             Step::DebugTree => element::debug_tree(alloc, &self.here),
             Step::Unread => Ok(Answer::Unsupported),
         }

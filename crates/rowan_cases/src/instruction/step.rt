@@ -49,13 +49,16 @@ pub enum Step {
     EqText(u32),
     Pointer(PointerStep),
     Support(Support),
+    /// Asks for the number that the expression reads.
+    Eval,
+    /// Asks for the printed tree.
     DebugTree,
     /// A step of which only the name is read, and which leaves the cursor.
     Unread,
 }
 
 /// The names of the steps that leave the cursor and whose operands are not read.
-const UNREAD: [&str; 3] = ["Eval", "DebugLine", "Json"];
+const UNREAD: [&str; 2] = ["DebugLine", "Json"];
 
 impl Step {
     /// Reads a step. Nothing where the name is that of none.
@@ -85,6 +88,7 @@ impl Step {
             ("TokenAt", _) => Step::TokenAt(operand::offset(operands)?),
             ("Walk", _) => Step::Walk(Walk::Nodes(walk::calls(alloc, operands)?)),
             ("WalkWithTokens", _) => Step::Walk(Walk::WithTokens(walk::calls(alloc, operands)?)),
+            ("Eval", "") => Step::Eval,
             ("DebugTree", "") => Step::DebugTree,
             _ if UNREAD.iter().any(|unread| *unread == name) => Step::Unread,
             _ => return Ok(None),
