@@ -55,6 +55,10 @@ pub enum Answer<'a> {
     Resolved(u64, Option<SyntaxElement>),
     /// The number that an expression reads.
     Value(Option<i64>),
+    /// The line of an element.
+    Line(String),
+    /// The text of a JSON value.
+    Json(String),
     /// The printed tree.
     Lines(String),
     Yes,
@@ -128,6 +132,8 @@ impl<'a> Answer<'a> {
             Answer::Gone => String::from_str(alloc, "Gone"),
             Answer::Value(Some(number)) => format!(in alloc; "Value {number}"),
             Answer::Value(None) => String::from_str(alloc, "None"),
+            Answer::Line(line) => quoted_text(alloc, "Line ", line.as_str()),
+            Answer::Json(value) => format!(in alloc; "Json {value}"),
             Answer::Lines(lines) => quoted_text(alloc, "Lines ", lines.as_str()),
             Answer::Resolved(visits, None) => format!(in alloc; "Unresolved {visits}"),
             Answer::Resolved(visits, Some(node)) => resolved_text(alloc, *visits, node),

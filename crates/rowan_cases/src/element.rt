@@ -4,7 +4,7 @@ use crate::answer::Answer;
 use crate::instruction::{Edit, Listing, Support, Walk};
 use rowan::ast::{AstNode, support};
 use rowan::cursor::SyntaxElement;
-use rowan::{Fault, NodeOrToken, Steps, SyntaxNode, TextRange, TextSize};
+use rowan::{Fault, NodeOrToken, Steps, SyntaxNode, SyntaxToken, TextRange, TextSize};
 use rowan_tool::sexp::{Lang, Sexp};
 use std::alloc::Global;
 
@@ -98,6 +98,36 @@ pub fn eval<'a>(element: &SyntaxElement) -> Result<Answer<'a>, Fault> {
         Some(sexp) => Ok(Answer::Value(sexp.eval()?)),
         None => Ok(Answer::Nowhere),
     }
+}
+
+/// Prints the line of the element.
+pub fn debug_line<'a>(alloc: Global, element: &SyntaxElement) -> Result<Answer<'a>, Fault> {
+    let line = match element {
+        NodeOrToken::Node(node) => {
+            let node: SyntaxNode<Lang> = SyntaxNode::from(node.clone()?);
+            node.debug_line(alloc)?
+        }
+        NodeOrToken::Token(token) => {
+            let token: SyntaxToken<Lang> = SyntaxToken::from(token.clone()?);
+            token.debug_line(alloc)?
+        }
+    };
+    Ok(Answer::Line(line))
+}
+
+/// Makes the JSON value of the element.
+pub fn json<'a>(alloc: Global, element: &SyntaxElement) -> Result<Answer<'a>, Fault> {
+    let value = match element {
+        NodeOrToken::Node(node) => {
+            let node: SyntaxNode<Lang> = SyntaxNode::from(node.clone()?);
+            node.to_json(alloc)?
+        }
+        NodeOrToken::Token(token) => {
+            let token: SyntaxToken<Lang> = SyntaxToken::from(token.clone()?);
+            token.to_json(alloc)?
+        }
+    };
+    Ok(Answer::Json(value.to_string(alloc)?))
 }
 
 /// Prints the node and all that is in it.

@@ -56,7 +56,8 @@ impl Standing {
             Step::Support(support) => element::support(alloc, &self.here, *support),
             Step::Eval => element::eval(&self.here),
             Step::DebugTree => element::debug_tree(alloc, &self.here),
-            Step::Unread => Ok(Answer::Unsupported),
+            Step::DebugLine => element::debug_line(alloc, &self.here),
+            Step::Json => element::json(alloc, &self.here),
         }
     }
 

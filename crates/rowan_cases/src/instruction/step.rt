@@ -53,12 +53,11 @@ pub enum Step {
     Eval,
     /// Asks for the printed tree.
     DebugTree,
-    /// A step of which only the name is read, and which leaves the cursor.
-    Unread,
+    /// Asks for the line of the element.
+    DebugLine,
+    /// Asks for the JSON value of the element.
+    Json,
 }
-
-/// The names of the steps that leave the cursor and whose operands are not read.
-const UNREAD: [&str; 2] = ["DebugLine", "Json"];
 
 impl Step {
     /// Reads a step. Nothing where the name is that of none.
@@ -90,7 +89,8 @@ impl Step {
             ("WalkWithTokens", _) => Step::Walk(Walk::WithTokens(walk::calls(alloc, operands)?)),
             ("Eval", "") => Step::Eval,
             ("DebugTree", "") => Step::DebugTree,
-            _ if UNREAD.iter().any(|unread| *unread == name) => Step::Unread,
+            ("DebugLine", "") => Step::DebugLine,
+            ("Json", "") => Step::Json,
             _ => return Ok(None),
         }))
     }
