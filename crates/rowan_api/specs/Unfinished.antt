@@ -14,7 +14,10 @@ pub record Unfinished : Type 0 where
   pub outer : List (List Data)
 
 abbrev pub values_of : Draft → Unfinished
-values_of d = record { inner = map view d.inner.items; outer = map (λ v. map view v.items) d.outer.items }
+values_of d = record {
+  inner = map view d.inner.items;
+  outer = map (λ v. map view v.items) d.outer.items;
+}
 
 -- a node that is entered is open and has no values yet; a token is finished
 abbrev pub entered : (ℕ → List ℕ) → Element → Unfinished → Unfinished
