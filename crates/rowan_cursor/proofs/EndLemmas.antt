@@ -20,11 +20,11 @@ len_of-children (Some (Token t)) h = absurd (omega arith)
 child_len : (root : NodeTerm) (q : Path) (i : ℕ) → len_of (subterm (Node root) (q ++ i ∷ [])) ≡ len_of (slice_get (children_of (subterm (Node root) q)) i)
 child_len root q i = ap len_of (subterm-child (Some (Node root)) q i)
 
-end-next : (root : NodeTerm) (q : Path) (i : ℕ) → i + 1 < child_count root q → offset (Node root) (q ++ (i + 1) ∷ []) ≡ offset (Node root) (q ++ i ∷ []) + len_of (subterm (Node root) (q ++ i ∷ []))
+pub end-next : (root : NodeTerm) (q : Path) (i : ℕ) → i + 1 < child_count root q → offset (Node root) (q ++ (i + 1) ∷ []) ≡ offset (Node root) (q ++ i ∷ []) + len_of (subterm (Node root) (q ++ i ∷ []))
 end-next root q i h =
     omega (arith, offset-child root q (i + 1) h, offset-child root q i (omega arith), child_start-next (children_of (subterm (Node root) q)) i (omega arith), child_len root q i)
 
-end-last : (root : NodeTerm) (q : Path) (i : ℕ) → i + 1 ≡ child_count root q → offset (Node root) q + len_of (subterm (Node root) q) ≡ offset (Node root) (q ++ i ∷ []) + len_of (subterm (Node root) (q ++ i ∷ []))
+pub end-last : (root : NodeTerm) (q : Path) (i : ℕ) → i + 1 ≡ child_count root q → offset (Node root) q + len_of (subterm (Node root) q) ≡ offset (Node root) (q ++ i ∷ []) + len_of (subterm (Node root) (q ++ i ∷ []))
 end-last root q i h =
     let ts = children_of (subterm (Node root) q) in
     omega (arith, offset-child root q i (omega arith), child_start-next ts i (omega arith), child_len root q i, child_end-last ts i h, len_of-children (subterm (Node root) q) (omega arith))

@@ -3,7 +3,7 @@ use Rattle.std.proofs.Common.{◌≡◌, ℕ, zero, suc, ◌+◌, ◌<◌, false
 use Rattle.std.specs.Prelude.{slice_get}
 use Rattle.std.specs.Option.{option_map, option_map_or}
 use Rattle.rowan_green.specs.declared.utility_types.NodeOrToken.TheVariants.{Node, Token}
-use Rattle.rowan_green.specs.Term.{NodeTerm, node, Term, node_children, node_len}
+use Rattle.rowan_green.specs.Term.{NodeTerm, Term, node_children}
 use Rattle.rowan_green.specs.Path.{Path, term_children, subterm_of, subterm, begins, offset, len_of}
 use Rattle.rowan_green.specs.Search.{child_start}
 use Rattle.rowan_green.proofs.OffsetLemmas.{offset_of, lens_before-node, offset-lens, offset-join}

@@ -1,55 +1,105 @@
 -- Laws of searches: the child at a range in the table, and what covers a range.
-use Rattle.std.proofs.Common.{◌≡◌, ℕ, ◌+◌, ◌-◌, ◌<◌, ◌≤◌, List, [], ◌∷◌, length, Option, Some, None, refl, sym, ◌∙◌, ap, subst, arith}
+use Rattle.std.proofs.Common.{◌≡◌, ℕ, ◌+◌, ◌-◌, ◌<◌, ◌≤◌, [], ◌∷◌, ◌++◌, length, Option, Some, None, refl, sym, ◌∙◌, ap, subst, arith}
 use Rattle.std.specs.Prelude.{slice_get, IfSome, IsNone}
 use Rattle.std.specs.Option.{option_map}
-use Rattle.std.proofs.lemmas.Option.{slice_get_within}
-use Rattle.rowan_green.specs.declared.utility_types.NodeOrToken.TheVariants.{Node, Token}
-use Rattle.rowan_green.specs.Lent.{into_node}
-use Rattle.rowan_green.specs.Search.{IsChildAt}
+use Rattle.rowan_green.specs.declared.utility_types.NodeOrToken.TheVariants.{Node}
+use Rattle.rowan_green.specs.Search.{child_start, child_end, IsOnlyChoice}
 use Rattle.rowan_green.specs.Span.{Span}
-use Rattle.rowan_green.specs.Term.{NodeTerm, Term, node_children}
-use Rattle.rowan_green.specs.Path.{Path, subterm, offset}
-use Rattle.rowan_green.proofs.SearchLemmas.{has-range}
+use Rattle.rowan_green.specs.Term.{NodeTerm}
+use Rattle.rowan_green.specs.Path.{Path, subterm, offset, len_of, range}
+use Rattle.rowan_green.proofs.SearchLemmas.{bounds}
 use Rattle.rowan_cursor.specs.declared.table.Table.{Table}
-use Rattle.rowan_cursor.specs.TableView.{root_of, path_at, element_of}
-use Rattle.rowan_cursor.specs.Moves.{Element, children_of}
-use Rattle.rowan_cursor.specs.Search.{IsRangeChild, Covers, Finds}
-use Rattle.rowan_cursor.specs.Table.{IsTable, root_node, entry_path, green_of, green_in, offset_in, children_in}
-use Rattle.rowan_cursor.specs.declared.table.Entry.{Entry}
-use Rattle.rowan_cursor.specs.declared.table.Content.TheVariants.{OfNode}
-use Rattle.rowan_cursor.proofs.TableLemmas.{Stands, stands, HasChild, has_child, entry_path-row}
+use Rattle.rowan_cursor.specs.TableView.{root_of, path_at, cursor_of, element_of, paths_below, IsWithin, IsChildUpTo, StretchShows}
+use Rattle.rowan_cursor.specs.Moves.{Element, children_of, child_count}
+use Rattle.rowan_cursor.specs.Search.{IsRangeChild, IsOnlyRangeChild, Covers, Finds}
+use Rattle.rowan_cursor.specs.Cursor.{text_range}
+use Rattle.rowan_cursor.specs.Equal.{start_of}
+use Rattle.rowan_cursor.proofs.EndLemmas.{end-next, end-last}
+use Rattle.rowan_cursor.proofs.PathLemmas.{subterm-child, offset-child, child_start-next}
+use Rattle.rowan_cursor.proofs.SkipLemmas.{row_count, child_path, child_later}
+
+-- ---- where a child lies
+
+-- by the children before it
+pub child_span : (root : NodeTerm) (p q : Path) (k : ℕ) → q ≡ p ++ k ∷ [] → k < child_count root p
+    → ((range (Node root) q).start ≡ offset (Node root) p + child_start (children_of (subterm (Node root) p)) k) × ((range (Node root) q).end ≡ offset (Node root) p + child_end (children_of (subterm (Node root) p)) k)
+child_span root p q k path within =
+    let ts = children_of (subterm (Node root) p) in
+    let own = p ++ k ∷ [] in
+    let from : offset (Node root) own ≡ offset (Node root) p + child_start ts k = offset-child root p k within in
+    let start : offset (Node root) q ≡ offset (Node root) own = ap (offset (Node root)) path in
+    let len : len_of (subterm (Node root) q) ≡ len_of (slice_get ts k) = ap (λ r. len_of (subterm (Node root) r)) path ∙ ap len_of (subterm-child (Some (Node root)) p k) in
+    (omega (arith, start, from), omega (arith, start, from, len, child_start-next ts k within))
+
+-- the last child ends where its parent does, and another one where the next begins
+pub end_of_last : (t : Table) (stop limit n : ℕ) → IsChildUpTo t stop limit n → n + 1 ≡ stop → limit ≡ (text_range (cursor_of t n)).end
+end_of_last t stop limit n c last =
+    let es = t.entries.items in
+    let root = root_of t in
+    let p = path_at t c.parent in
+    let here = child_path es root p c.first stop n c.row c.from c.to in
+    let count = row_count es root p c.first stop c.row in
+    c.ends ∙ end-last root p (n - c.first) (omega (arith, count, last, c.from))
+    ∙ sym (ap (λ q. offset (Node root) q + len_of (subterm (Node root) q)) here.0)
+
+pub end_of_other : (t : Table) (stop limit n : ℕ) → IsChildUpTo t stop limit n → (n + 1 ≡ stop → ⊥) → start_of (cursor_of t (n + 1)) ≡ (text_range (cursor_of t n)).end
+end_of_other t stop limit n c other =
+    let es = t.entries.items in
+    let root = root_of t in
+    let p = path_at t c.parent in
+    let less : n + 1 < stop = omega (arith, c.to, other) in
+    let here = child_path es root p c.first stop n c.row c.from c.to in
+    let next = child_path es root p c.first stop (n + 1) c.row (omega (arith, c.from)) less in
+    let place : n + 1 - c.first ≡ n - c.first + 1 = omega (arith, c.from) in
+    ap (offset (Node root)) (next.0 ∙ ap (λ i. p ++ i ∷ []) place)
+    ∙ end-next root p (n - c.first) (omega (arith, next.1, place))
+    ∙ sym (ap (λ q. offset (Node root) q + len_of (subterm (Node root) q)) here.0)
+
+-- the child at a place among the children of the element with number n, whose numbers are those from `first` up to `stop`
+pub record IsAtPlace (t : Table) (n first stop k : ℕ) : Type 0 where
+  pub up : (limit : ℕ) → limit ≡ (text_range (cursor_of t n)).end → IsChildUpTo t stop limit (first + k)
+  pub path : path_at t (first + k) ≡ path_at t n ++ k ∷ []
+  pub less : first + k < stop
+  pub within : IsWithin t (first + k)
+  pub later : n < first + k
+
+pub at_place : (t : Table) (n first stop k : ℕ) → IsWithin t n → StretchShows t first stop (paths_below t n) → k < child_count (root_of t) (path_at t n) → IsAtPlace t n first stop k
+at_place t n first stop k here row bound =
+    let es = t.entries.items in
+    let root = root_of t in
+    let p = path_at t n in
+    let m = first + k in
+    let less : m < stop = omega (arith, bound, row_count es root p first stop row) in
+    let place : m - first ≡ k = omega arith in
+    let path : path_at t m ≡ p ++ k ∷ [] = (child_path es root p first stop m row (omega arith) less).0 ∙ ap (λ i. p ++ i ∷ []) place in
+    let within : m < length es = omega (arith, less, row.within) in
+    record {
+      up = λ limit ends. record { parent = n; first = first; row = row; from = omega arith; to = less; ends = ends };
+      path = path;
+      less = less;
+      within = within;
+      later = child_later es t.complete n m k here within path;
+    }
 
 -- ---- in the table
 
-kept-node : (o : Option Term) (g : NodeTerm) → option_map into_node o ≡ Some (Some g) → o ≡ Some (Node g)
-kept-node None g e = absurd cc
-kept-node (Some (Node n)) g e = cc
-kept-node (Some (Token t)) g e = absurd cc
-
--- a child's entry comes later than its node's
-pub later_child : (es : List Entry) → IsTable es → (n : ℕ) (e : Entry) (i : ℕ) → slice_get es n ≡ Some e → i < length (children_in (green_of e)) → n < e.first_child + i
-later_child es t n e i at h =
-    let c : HasChild es n e i = has_child es t n e i at h in
-    let some : 0 < e.first_child + i = omega (arith, t.draft.firsts n e at (slice_get_within es n e at)) in
-    omega (arith, (t.draft.earlier (e.first_child + i) c.child c.at some).0, c.parent)
-
--- what the green search finds is the child at the range
-pub range_child : (es : List Entry) → IsTable es → (n : ℕ) (e : Entry) (start : ℕ) (g : NodeTerm) (span : Span) (from to i : ℕ) → slice_get es n ≡ Some e → e.content ≡ OfNode start g → start ≤ span.start → from ≡ span.start - start → to ≡ span.end - start → IsChildAt (node_children g) from to i
-    → IsRangeChild (root_node es) span (entry_path es n) (entry_path es (e.first_child + i))
-range_child es t n e start g span from to i at kept h f l child =
-    let root = root_node es in
-    let p = entry_path es n in
-    let s : Stands es n e = stands es t.draft n e at in
-    let node : subterm (Node root) p ≡ Some (Node g) = kept-node (subterm (Node root) p) g (s.green ∙ ap (λ k. Some (green_in k)) kept) in
-    let begin : offset (Node root) p ≡ start = s.start ∙ ap offset_in kept in
-    let inside : i < length (children_in (green_of e)) = omega (arith, (has-range (node_children g) from to i child).place, ap (λ k. length (children_in (green_in k))) kept) in
-    let first : from ≡ span.start - offset (Node root) p = omega arith in
-    let last : to ≡ span.end - offset (Node root) p = omega arith in
+-- the only choice of the search is the only child that can be the one at the range
+pub only_range_child : (root : NodeTerm) (span : Span) (p q : Path) (k : ℕ) → q ≡ p ++ k ∷ [] → k < child_count root p → offset (Node root) p ≤ span.start
+    → (span.start - offset (Node root) p ≤ span.end - offset (Node root) p → IsOnlyChoice (children_of (subterm (Node root) p)) (span.start - offset (Node root) p) (span.end - offset (Node root) p) k)
+    → IsOnlyRangeChild root span p q
+only_range_child root span p q k path within from choice =
+    let ts = children_of (subterm (Node root) p) in
+    let a = span.start - offset (Node root) p in
+    let b = span.end - offset (Node root) p in
+    let own = child_span root p q k path within in
     record {
-      place = i;
-      path = entry_path-row es t n e i at inside;
-      from = omega arith;
-      child = subst (λ ts. IsChildAt ts (span.start - offset (Node root) p) (span.end - offset (Node root) p) i) (sym (ap children_of node)) (subst (λ a. IsChildAt (node_children g) a (span.end - offset (Node root) p) i) first (subst (λ b. IsChildAt (node_children g) from b i) last child));
+      is = λ order lies. record {
+        place = k;
+        path = path;
+        from = from;
+        child = (choice (omega (arith, order))).is record { place = within; from = omega (arith, own.0, lies.0, from); to = omega (arith, own.1, lies.1, from) };
+      };
+      only = λ r c. c.path ∙ ap (λ j. p ++ j ∷ []) ((choice (bounds ts a b c.place c.child).order).only c.place c.child).0 ∙ sym path;
     }
 
 -- what is found in the table by its number, as an answer

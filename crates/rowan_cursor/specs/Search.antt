@@ -27,6 +27,11 @@ pub record IsRangeChild (root : NodeTerm) (span : Span) (p q : Path) : Type 0 wh
   pub child : IsChildAt (children_of (subterm (Node root) p))
       (span.start - offset (Node root) p) (span.end - offset (Node root) p) place
 
+-- of the children of the element at p, only that at q can be the one at a range; and it is, if the range lies in its own
+pub record IsOnlyRangeChild (root : NodeTerm) (span : Span) (p q : Path) : Type 0 where
+  pub is : span.start ≤ span.end → LiesIn span (range (Node root) q) → IsRangeChild root span p q
+  pub only : (r : Path) → IsRangeChild root span p r → r ≡ q
+
 -- behind the element at p, these follow in the chain of the range
 abbrev pub IsChain : NodeTerm → Span → Path → List Path → Type 0
 IsChain root span p [] = (q : Path) → ¬ IsRangeChild root span p q

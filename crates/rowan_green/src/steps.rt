@@ -56,8 +56,8 @@ impl Steps {
         self.visits = self.visits.saturating_add(1);
     }
 
-    // Counts one more comparison.
-    pub(crate) fn compare(&mut self)
+    /// Counts one more comparison.
+    pub fn compare(&mut self)
         ensures comparisons { self.new.comparisons ≡ one_more self.old.comparisons }
         ensures grows { self.old.comparisons ≤ self.new.comparisons }
         ensures visits { self.new.visits ≡ self.old.visits }

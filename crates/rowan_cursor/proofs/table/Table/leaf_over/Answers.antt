@@ -9,8 +9,8 @@ use Rattle.rowan_cursor.proofs.TableLemmas.{slice_get-some, is_entry}
 use Rattle.rowan_cursor.proofs.TokenLemmas.{stands_at}
 use Rattle.rowan_cursor.proofs.table.Table.leaf_over.Goals as goal
 
-pub at-requires : goal.at-requires
-at-requires c =
+pub at-over-requires : goal.at-over-requires
+at-over-requires c =
     let s = c.args.self.now in
     let es = s.entries.items in
     let e = slice_get-some es c.args.number c.requires.number in
@@ -24,13 +24,13 @@ returns-clause-leaf c =
     let root = root_of s in
     let byte = c.args.byte in
     let p = path_at s c.args.number in
-    let q = path_at s c.covering_element.result in
+    let q = path_at s c.covering_in.result.0 in
     let there = stands_at es s.complete c.args.number c.requires.number in
-    let one : c.at.result ≡ byte_at byte = c.at.ensures ∙ ap (λ n. record { start = byte; end = byte + n }) c.from.ensures in
-    let covers : Covers root (byte_at byte) p q = subst (λ (r : Span). Covers root r p q) one c.covering_element.ensures.covers in
+    let one : c.at-over.result ≡ byte_at byte = c.at-over.ensures ∙ ap (λ n. record { start = byte; end = byte + n }) c.from.ensures in
+    let covers : Covers root (byte_at byte) p q = subst (λ (r : Span). Covers root r p q) one c.covering_in.ensures.covers in
     covers-byte root byte p q there.0 there.1 (c.requires.from, omega (arith, c.requires.to)) covers
 
 pub returns-clause-token : goal.returns-clause-token
 returns-clause-token c =
     let leaf = returns-clause-leaf c in
-    record { within = c.covering_element.ensures.within; is = ap is_node leaf.is }
+    record { within = c.covering_in.ensures.within; is = ap is_node leaf.is }

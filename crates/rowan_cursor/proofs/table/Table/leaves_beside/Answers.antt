@@ -17,8 +17,8 @@ has-both root x p q n span t there is two from to covers =
     let own : span ≡ two_bytes_at x = is ∙ ap (λ m. record { start = x; end = x + m }) two in
     covers-has_span root (two_bytes_at x) p q t there (from, to) (subst (λ r. Covers root r p q) own covers)
 
-pub at-requires : goal.at-requires
-at-requires c =
+pub at-beside-requires : goal.at-beside-requires
+at-beside-requires c =
     let s = c.args.self.now in
     let es = s.entries.items in
     let e = slice_get-some es c.args.number c.requires.number in
@@ -30,9 +30,9 @@ leaf_over-left-requires-clause-from c =
     let s = c.args.self.now in
     let root = root_of s in
     let p = path_at s c.args.number in
-    let q = path_at s c.covering_element-both.result in
+    let q = path_at s c.covering_in-both.result.0 in
     let there = stands_at s.entries.items s.complete c.args.number c.requires.number in
-    let both = has-both root c.from-before.result p q c.from-2.result c.at.result there.0 there.1 c.at.ensures c.from-2.ensures (omega (arith, c.requires.from, c.from.ensures, c.from-before.ensures)) (omega (arith, c.requires.from, c.requires.to, c.from.ensures, c.from-before.ensures)) c.covering_element-both.ensures.covers in
+    let both = has-both root c.from-before.result p q c.from-2.result c.at-beside.result there.0 there.1 c.at-beside.ensures c.from-2.ensures (omega (arith, c.requires.from, c.from.ensures, c.from-before.ensures)) (omega (arith, c.requires.from, c.requires.to, c.from.ensures, c.from-before.ensures)) c.covering_in-both.ensures.covers in
     both.lies.0
 
 pub leaf_over-left-requires-clause-to : goal.leaf_over-left-requires-clause-to
@@ -40,9 +40,9 @@ leaf_over-left-requires-clause-to c =
     let s = c.args.self.now in
     let root = root_of s in
     let p = path_at s c.args.number in
-    let q = path_at s c.covering_element-both.result in
+    let q = path_at s c.covering_in-both.result.0 in
     let there = stands_at s.entries.items s.complete c.args.number c.requires.number in
-    let both = has-both root c.from-before.result p q c.from-2.result c.at.result there.0 there.1 c.at.ensures c.from-2.ensures (omega (arith, c.requires.from, c.from.ensures, c.from-before.ensures)) (omega (arith, c.requires.from, c.requires.to, c.from.ensures, c.from-before.ensures)) c.covering_element-both.ensures.covers in
+    let both = has-both root c.from-before.result p q c.from-2.result c.at-beside.result there.0 there.1 c.at-beside.ensures c.from-2.ensures (omega (arith, c.requires.from, c.from.ensures, c.from-before.ensures)) (omega (arith, c.requires.from, c.requires.to, c.from.ensures, c.from-before.ensures)) c.covering_in-both.ensures.covers in
     omega (arith, both.lies.1)
 
 pub leaf_over-right-requires-clause-from : goal.leaf_over-right-requires-clause-from
@@ -50,9 +50,9 @@ leaf_over-right-requires-clause-from c =
     let s = c.args.self.now in
     let root = root_of s in
     let p = path_at s c.args.number in
-    let q = path_at s c.covering_element-both.result in
+    let q = path_at s c.covering_in-both.result.0 in
     let there = stands_at s.entries.items s.complete c.args.number c.requires.number in
-    let both = has-both root c.from-before.result p q c.from-2.result c.at.result there.0 there.1 c.at.ensures c.from-2.ensures (omega (arith, c.requires.from, c.from.ensures, c.from-before.ensures)) (omega (arith, c.requires.from, c.requires.to, c.from.ensures, c.from-before.ensures)) c.covering_element-both.ensures.covers in
+    let both = has-both root c.from-before.result p q c.from-2.result c.at-beside.result there.0 there.1 c.at-beside.ensures c.from-2.ensures (omega (arith, c.requires.from, c.from.ensures, c.from-before.ensures)) (omega (arith, c.requires.from, c.requires.to, c.from.ensures, c.from-before.ensures)) c.covering_in-both.ensures.covers in
     omega (arith, both.lies.0, c.requires.from, c.from.ensures, c.from-before.ensures)
 
 pub leaf_over-right-requires-clause-to : goal.leaf_over-right-requires-clause-to
@@ -60,9 +60,9 @@ leaf_over-right-requires-clause-to c =
     let s = c.args.self.now in
     let root = root_of s in
     let p = path_at s c.args.number in
-    let q = path_at s c.covering_element-both.result in
+    let q = path_at s c.covering_in-both.result.0 in
     let there = stands_at s.entries.items s.complete c.args.number c.requires.number in
-    let both = has-both root c.from-before.result p q c.from-2.result c.at.result there.0 there.1 c.at.ensures c.from-2.ensures (omega (arith, c.requires.from, c.from.ensures, c.from-before.ensures)) (omega (arith, c.requires.from, c.requires.to, c.from.ensures, c.from-before.ensures)) c.covering_element-both.ensures.covers in
+    let both = has-both root c.from-before.result p q c.from-2.result c.at-beside.result there.0 there.1 c.at-beside.ensures c.from-2.ensures (omega (arith, c.requires.from, c.from.ensures, c.from-before.ensures)) (omega (arith, c.requires.from, c.requires.to, c.from.ensures, c.from-before.ensures)) c.covering_in-both.ensures.covers in
     omega (arith, both.lies.1, c.requires.from, c.from.ensures, c.from-before.ensures)
 
 pub returns-clause-left : goal.returns-clause-left
@@ -70,9 +70,9 @@ returns-clause-left c =
     let s = c.args.self.now in
     let root = root_of s in
     let p = path_at s c.args.number in
-    let q = path_at s c.covering_element-both.result in
+    let q = path_at s c.covering_in-both.result.0 in
     let there = stands_at s.entries.items s.complete c.args.number c.requires.number in
-    let both = has-both root c.from-before.result p q c.from-2.result c.at.result there.0 there.1 c.at.ensures c.from-2.ensures (omega (arith, c.requires.from, c.from.ensures, c.from-before.ensures)) (omega (arith, c.requires.from, c.requires.to, c.from.ensures, c.from-before.ensures)) c.covering_element-both.ensures.covers in
+    let both = has-both root c.from-before.result p q c.from-2.result c.at-beside.result there.0 there.1 c.at-beside.ensures c.from-2.ensures (omega (arith, c.requires.from, c.from.ensures, c.from-before.ensures)) (omega (arith, c.requires.from, c.requires.to, c.from.ensures, c.from-before.ensures)) c.covering_in-both.ensures.covers in
     let same : c.from-before.result ≡ c.args.offset - 1 = c.from-before.ensures ∙ ap (λ n. n - 1) c.from.ensures in
     let leaf = leaf-below root (two_bytes_at c.from-before.result) c.from-before.result p q (path_at s c.leaf_over-left.result) both c.leaf_over-left.ensures.leaf in
     subst (λ x. IsLeafOver root x p (path_at s c.leaf_over-left.result)) same leaf
@@ -82,7 +82,7 @@ returns-clause-right c =
     let s = c.args.self.now in
     let root = root_of s in
     let p = path_at s c.args.number in
-    let q = path_at s c.covering_element-both.result in
+    let q = path_at s c.covering_in-both.result.0 in
     let there = stands_at s.entries.items s.complete c.args.number c.requires.number in
-    let both = has-both root c.from-before.result p q c.from-2.result c.at.result there.0 there.1 c.at.ensures c.from-2.ensures (omega (arith, c.requires.from, c.from.ensures, c.from-before.ensures)) (omega (arith, c.requires.from, c.requires.to, c.from.ensures, c.from-before.ensures)) c.covering_element-both.ensures.covers in
+    let both = has-both root c.from-before.result p q c.from-2.result c.at-beside.result there.0 there.1 c.at-beside.ensures c.from-2.ensures (omega (arith, c.requires.from, c.from.ensures, c.from-before.ensures)) (omega (arith, c.requires.from, c.requires.to, c.from.ensures, c.from-before.ensures)) c.covering_in-both.ensures.covers in
     leaf-below root (two_bytes_at c.from-before.result) c.args.offset p q (path_at s c.leaf_over-right.result) both c.leaf_over-right.ensures.leaf

@@ -30,9 +30,9 @@ returns-then-eq-2-clause-found c =
     let s = c.args.self.now in
     let es = s.entries.items in
     let there = stands_at es s.complete c.args.number c.requires.number in
-    let here : c.args.offset ≡ c.end.result = eqb-true c.args.offset c.end.result (sym c.eq-2.ensures ∙ c.if-eq-2.true) in
+    let here : c.args.offset ≡ c.end-end.result = eqb-true c.args.offset c.end-end.result (sym c.eq-2.ensures ∙ c.if-eq-2.true) in
     let next : c.args.offset ≡ c.from-last.result + 1 = byte_before c.start.result c.args.offset c.from.result c.from-last.result (omega (arith, c.start.ensures, ap (λ (r : Span). r.start) c.text_range-range.ensures, c.requires.offset.from_start)) (eqb-false c.args.offset c.start.result (sym c.eq.ensures ∙ c.if-eq.false)) c.from.ensures c.from-last.ensures in
-    sym (touching-end (root_of s) c.args.offset c.from-last.result (path_at s c.args.number) (path_at s c.leaf_over-then-eq-2.result) there.0 there.1 (omega (arith, here, c.end.ensures, ap (λ (r : Span). r.end) c.text_range-range.ensures)) next c.leaf_over-then-eq-2.ensures.leaf)
+    sym (touching-end (root_of s) c.args.offset c.from-last.result (path_at s c.args.number) (path_at s c.leaf_over-then-eq-2.result) there.0 there.1 (omega (arith, here, c.end-end.ensures, ap (λ (r : Span). r.end) c.text_range-range.ensures)) next c.leaf_over-then-eq-2.ensures.leaf)
 
 pub returns-then-left-right-clause-found : goal.returns-then-left-right-clause-found
 returns-then-left-right-clause-found c =

@@ -1,0 +1,17 @@
+use Rattle.std.proofs.Common.{◌≡◌, ◌-◌, length}
+use Rattle.rowan_green.specs.Path.{Path}
+use Rattle.rowan_cursor.specs.Cursor.{text_range}
+use Rattle.rowan_cursor.specs.Search.{Covers}
+use Rattle.rowan_cursor.specs.TableView.{root_of, path_at, cursor_of, IsWithin}
+use Rattle.rowan_cursor.proofs.table.Table.covering_in.Given as goal
+
+-- what covers the range below the element that is reached covers it below the first
+abbrev pub invariant-loop-child : goal.invariant-loop-child
+invariant-loop-child l =
+    let s = l.self in
+    IsWithin s l.covering.0
+    × ((q : Path) → Covers (root_of s) l.range (path_at s l.covering.0) q → Covers (root_of s) l.range (path_at s l.number) q)
+    × (l.covering.1 ≡ (text_range (cursor_of s l.covering.0)).end)
+
+abbrev pub decreases-loop-child : goal.decreases-loop-child
+decreases-loop-child l = length l.self.entries.items - l.covering.0
