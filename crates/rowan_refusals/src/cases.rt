@@ -38,7 +38,7 @@ const MAKING: Step = Step::Phase(Phase::Making);
 
 const MOVING: Step = Step::Phase(Phase::Moving);
 
-pub const CASES: [Case; 40] = [
+pub const CASES: [Case; 41] = [
     Case {
         name: "math_operations",
         steps: &[Step::Build(&MATH)],
@@ -444,6 +444,14 @@ pub const CASES: [Case; 40] = [
         steps: &[
             Step::Make(Make::Words(&["eval"])),
             Step::Make(Make::Room(1_000)),
+            Step::Make(Make::Written(SUM)),
+        ],
+    },
+    Case {
+        name: "the program at json over sum_of_product",
+        steps: &[
+            Step::Make(Make::Words(&["json"])),
+            Step::Make(Make::Room(2_000)),
             Step::Make(Make::Written(SUM)),
         ],
     },
