@@ -22,6 +22,9 @@ use rowan::Direction;
 
 const SUM: &str = "(+ (* 15 2) 62)";
 
+/// White space and a word that are escaped in quotes, and the word is cut short in its line.
+const QUOTED: &str = "(\n\"abcdefghijklmnopqrstuvwxyz\")";
+
 /// Twelve lists, one in the other, around an atom.
 const NEST: &str = "((((((((((((a))))))))))))";
 
@@ -35,7 +38,7 @@ const MAKING: Step = Step::Phase(Phase::Making);
 
 const MOVING: Step = Step::Phase(Phase::Moving);
 
-pub const CASES: [Case; 37] = [
+pub const CASES: [Case; 41] = [
     Case {
         name: "math_operations",
         steps: &[Step::Build(&MATH)],
@@ -434,6 +437,57 @@ pub const CASES: [Case; 37] = [
             Step::Make(Make::Words(&["tree"])),
             Step::Make(Make::Room(1_000)),
             Step::Make(Make::Written(SUM)),
+        ],
+    },
+    Case {
+        name: "the program at eval over sum_of_product",
+        steps: &[
+            Step::Make(Make::Words(&["eval"])),
+            Step::Make(Make::Room(1_000)),
+            Step::Make(Make::Written(SUM)),
+        ],
+    },
+    Case {
+        name: "the program at json over sum_of_product",
+        steps: &[
+            Step::Make(Make::Words(&["json"])),
+            Step::Make(Make::Room(2_000)),
+            Step::Make(Make::Written(SUM)),
+        ],
+    },
+    Case {
+        name: "lines and JSON of the sum",
+        steps: &[
+            Step::Make(Make::Parsed(SUM)),
+            Step::Make(Make::Root),
+            Step::GoToRoot(0),
+            Step::Make(Make::Line),
+            Step::Make(Make::Json),
+            Step::Go(Move::ElementAt(&[0, 3])),
+            Step::Make(Make::Line),
+            Step::Make(Make::Json),
+            Step::Go(Move::FirstToken),
+            Step::Make(Make::Line),
+            Step::Make(Make::Json),
+            Step::Tree,
+        ],
+    },
+    Case {
+        name: "lines and JSON of quoted tokens",
+        steps: &[
+            Step::Make(Make::Parsed(QUOTED)),
+            Step::Make(Make::Root),
+            Step::Make(Make::Syntax),
+            Step::Make(Make::Printed),
+            Step::GoToRoot(0),
+            Step::Make(Make::Json),
+            Step::Go(Move::ElementAt(&[0, 1])),
+            Step::Make(Make::Line),
+            Step::Make(Make::Json),
+            Step::Go(Move::NextSiblingOrToken),
+            Step::Go(Move::FirstToken),
+            Step::Make(Make::Line),
+            Step::Make(Make::Json),
         ],
     },
     Case {

@@ -8,6 +8,7 @@ use crate::transcript::{Stop, Transcript};
 use rowan::cursor::SyntaxNode;
 use rowan::{GreenNode, GreenToken};
 use rowan_tool::sexp::{Lang, Parse};
+use serde_json::Value;
 
 /// What is to be made. The tree, the token, the parse and so on is the last one that was made.
 #[derive(Clone, Copy)]
@@ -44,6 +45,10 @@ pub enum Make {
     ParsedRoot,
     /// The printed tree of the typed root.
     Printed,
+    /// The line of the typed element where the case stands.
+    Line,
+    /// Its JSON.
+    Json,
     /// The text of the typed root.
     Text,
     /// A copy of the text that the case reads.
@@ -83,6 +88,8 @@ impl Make {
             Make::ParsedOver(_) => "parse_with",
             Make::Syntax => "syntax",
             Make::Printed => "debug_tree",
+            Make::Line => "debug_line",
+            Make::Json => "to_json",
             Make::Text => "to_string",
             Make::Copy => "to_text",
             Make::Script(_, _) => "script",
@@ -104,6 +111,7 @@ pub enum Made {
     Parse(Parse),
     Syntax(rowan::SyntaxNode<Lang>),
     Text(String),
+    Json(Value),
     /// A number of tokens or of bytes.
     Count(usize),
 }
@@ -128,6 +136,7 @@ impl Made {
             Made::Parse(parse) => log.tell("tree", &Shape(parse.green())),
             Made::Syntax(root) => log.tell("range", &root.text_range()),
             Made::Text(text) => log.tell("text", &text.as_str()),
+            Made::Json(value) => log.show("json", value),
             Made::Count(count) => log.tell("count", count),
         }
     }

@@ -24,7 +24,7 @@ pub fn tell_pointer(
     log.tell("visits", &(found.is_some(), steps.visits()))
 }
 
-/// Says what the wrappers of a node are, and what is below them.
+/// Says what the wrappers of a node are, what is below them, and what number the node reads.
 pub fn tell_wrappers(log: &Transcript<'_>, node: &SyntaxNode<Lang>) -> Result<(), Stop> {
     tell_wrapper::<List>(log, node)?;
     tell_wrapper::<Sexp>(log, node)?;
@@ -35,7 +35,15 @@ pub fn tell_wrappers(log: &Transcript<'_>, node: &SyntaxNode<Lang>) -> Result<()
     if let Some(list) = List::cast(node.clone()?) {
         tell_sexps(log, list.sexps())?;
     }
-    Ok(())
+    tell_value(log, node)
+}
+
+/// Says what number a node reads.
+fn tell_value(log: &Transcript<'_>, node: &SyntaxNode<Lang>) -> Result<(), Stop> {
+    match Sexp::cast(node.clone()?) {
+        Some(sexp) => log.tell("eval", &sexp.eval()),
+        None => Ok(()),
+    }
 }
 
 fn tell_wrapper<N>(log: &Transcript<'_>, node: &SyntaxNode<Lang>) -> Result<(), Stop>

@@ -23,6 +23,7 @@ use rowan::{
 };
 use rowan_tool::program;
 use rowan_tool::sexp::{Lang, List, Parse, lex, parse, parse_with};
+use serde_json::Value;
 use std::alloc::Global;
 
 #[derive(Drop)]
@@ -143,6 +144,8 @@ impl State {
             Make::Syntax => Ok(Made::Syntax(self.parse()?.syntax(alloc)?)),
             Make::ParsedRoot => Ok(Made::Syntax(self.parsed_root()?)),
             Make::Printed => Ok(Made::Text(self.syntax()?.debug_tree(alloc)?)),
+            Make::Line => Ok(Made::Text(self.line()?)),
+            Make::Json => Ok(Made::Json(self.json()?)),
             Make::Text => Ok(Made::Text(self.syntax()?.to_string(alloc)?)),
             Make::Copy => Ok(Made::Text(self.text()?.to_text()?)),
             Make::Script(calls, count) => self.set_script(calls, count),
@@ -189,6 +192,22 @@ impl State {
         let list = List::cast(self.typed_node()?).ok_or(Fault::NotFound)?;
         let copy = list.clone_subtree()?;
         Ok(copy.syntax().clone()?)
+    }
+
+    /// The line of the typed element where the case stands.
+    fn line(&self) -> Result<String, Fault> {
+        match self.typed_place()? {
+            NodeOrToken::Node(node) => node.debug_line(self.alloc),
+            NodeOrToken::Token(token) => token.debug_line(self.alloc),
+        }
+    }
+
+    /// Its JSON.
+    fn json(&self) -> Result<Value, Fault> {
+        match self.typed_place()? {
+            NodeOrToken::Node(node) => node.to_json(self.alloc),
+            NodeOrToken::Token(token) => token.to_json(self.alloc),
+        }
     }
 
     fn parsed_root(&self) -> Result<rowan::SyntaxNode<Lang>, Fault> {
