@@ -4,7 +4,7 @@ use Rattle.std.specs.Fmt.{signed_decimal}
 use Rattle.std.specs.Io.KnownBytes.{Appends}
 use Rattle.std.specs.declared.alloc.Global.{Global}
 use Rattle.rowan_tool.specs.declared.program.Command.{Command}
-use Rattle.rowan_tool.specs.declared.program.Command.TheVariants.{Tree, Eval}
+use Rattle.rowan_tool.specs.declared.program.Command.TheVariants.{Tree, Eval, Json}
 use Rattle.rowan_tool.specs.declared.program.Stop.{Stop}
 use Rattle.rowan_tool.specs.Eval.{Reading, readings}
 use Rattle.rowan_cursor.specs.Cursor.{Cursor, term_at}
@@ -19,6 +19,7 @@ use Rattle.rowan_tool.specs.declared.program.Stop.TheVariants.{Usage, CannotRead
 abbrev pub argument_of : Command → List ℕ
 argument_of Tree = codes "tree"
 argument_of Eval = codes "eval"
+argument_of Json = codes "json"
 
 -- the arguments are that word alone
 abbrev pub AsksFor : List (String Global) → Command → Type 0

@@ -3,8 +3,8 @@ ghost use Rattle.std.specs.Prelude.{◌≡◌, ◌≢◌, ◌↔◌, ◌<◌, �
 ghost use Rattle.std.specs.Io.KnownBytes.{Appends, Consumes, IsAtEnd};
 ghost use Rattle.rowan_tool.specs.Program.{AsksFor, IsCommandLine, IsReadWhole, ReadsAll, IsAnswered, longest_input, value_line, value_lines_at, status_of, line_of};
 
-use crate::sexp::{self, Root};
-use rowan::Fault;
+use crate::sexp::{self, Lang, Root};
+use rowan::{Fault, SyntaxNode};
 use std::alloc::{AllocError, Global};
 use std::io::{ErrorKind, Read, Write};
 
@@ -21,6 +21,8 @@ pub enum Command {
     Tree,
     /// `eval`: prints a line for each expression of the input: the number that it reads, or `none`.
     Eval,
+    /// `json`: prints the tree of the input as JSON, on one line.
+    Json,
 }
 
 impl Command {
@@ -35,6 +37,7 @@ impl Command {
         match args[0].as_str() {
             "tree" => Some(Command::Tree),
             "eval" => Some(Command::Eval),
+            "json" => Some(Command::Json),
             _ => None,
         }
     }
@@ -152,7 +155,17 @@ fn printed(alloc: Global, command: Command, text: &str) -> Result<String, Fault>
     match command {
         Command::Tree => sexp::parse(alloc, text)?.syntax(alloc)?.debug_tree(alloc),
         Command::Eval => value_lines(alloc, &sexp::parse(alloc, text)?.root(alloc)?),
+        Command::Json => json_line(alloc, &sexp::parse(alloc, text)?.syntax(alloc)?),
     }
+}
+
+/// The JSON of a tree, and a newline.
+fn json_line(alloc: Global, root: &SyntaxNode<Lang>) -> Result<String, Fault>
+    ensures err { IfErr result (λ fault. fault ≡ Fault.Memory) }
+{
+    let mut line = root.to_json(alloc)?.to_string(alloc)?;
+    line.push_str("\n")?;
+    Ok(line)
 }
 
 /// A line for each expression of a text, in order: the number that it reads, or `none`.
