@@ -2,6 +2,7 @@ pub mod AskedLemmas
 pub mod BalanceLemmas
 pub mod EvalLemmas
 pub mod GrammarLemmas
+pub mod JsonLemmas
 pub mod LexedLemmas
 pub mod NumberLemmas
 pub mod ParsingLemmas

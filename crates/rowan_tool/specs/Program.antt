@@ -1,16 +1,20 @@
 -- What the program's arguments ask for, and what it does for an input.
-use Rattle.std.specs.Prelude.{◌≡◌, ◌≢◌, ℕ, ℤ, ◌≤◌, List, [], ◌∷◌, ◌++◌, length, map, codes, string_bytes, Option, Some, None, IfSome, IsUtf8, String}
+use Rattle.std.specs.Prelude.{◌≡◌, ◌≢◌, ℕ, ℤ, ◌≤◌, List, [], ◌∷◌, ◌++◌, length, map, codes, string_bytes, Option, Some, None, IfSome, IsUtf8, IsAscii, String}
 use Rattle.std.specs.Fmt.{signed_decimal}
 use Rattle.std.specs.Io.KnownBytes.{Appends}
 use Rattle.std.specs.declared.alloc.Global.{Global}
 use Rattle.rowan_tool.specs.declared.program.Command.{Command}
 use Rattle.rowan_tool.specs.declared.program.Command.TheVariants.{Tree, Eval, Json}
 use Rattle.rowan_tool.specs.declared.program.Stop.{Stop}
+use Rattle.serde_json.specs.Written.{compact_text}
 use Rattle.rowan_tool.specs.Eval.{Reading, readings}
+use Rattle.rowan_tool.specs.Grammar.{IsParse}
+use Rattle.rowan_tool.specs.Sexp.{kind_of, name_of}
+use Rattle.rowan_api.specs.Printed.{called, debug_tree, tree_json}
 use Rattle.rowan_cursor.specs.Cursor.{Cursor, term_at}
 use Rattle.rowan_green.specs.declared.utility_types.NodeOrToken.TheVariants.{Node, Token}
 use Rattle.rowan_green.specs.Fits.{byte_limit}
-use Rattle.rowan_green.specs.Term.{node, Term}
+use Rattle.rowan_green.specs.Term.{node, NodeTerm, Term}
 use Rattle.rowan_green.specs.declared.fault.Fault.{Fault}
 use Rattle.rowan_green.specs.declared.fault.Fault.TheVariants.{Memory}
 use Rattle.rowan_tool.specs.declared.program.Stop.TheVariants.{Usage, CannotRead, NotUtf8, TooLong, NoMemory, CannotWrite}
@@ -43,12 +47,6 @@ pub record IsReadWhole (bytes : List ℕ) (rest : Option (List ℕ)) : Type 0 wh
 abbrev pub ReadsAll : (IsSuch : List ℕ → Type 0) (before after : Option (List ℕ)) → Type 0
 ReadsAll IsSuch before after = IfSome before (λ bytes. IsReadWhole bytes after × IsSuch bytes)
 
--- one text was written after what the output held, where that is known
-pub record IsAnswered (old new : Option (List ℕ)) : Type 0 where
-  pub shown : List ℕ
-  pub text : IsUtf8 shown
-  pub written : Appends old new shown
-
 -- the line of a value: the number, or `none`
 abbrev pub value_line : Option ℤ → List ℕ
 value_line (Some n) = signed_decimal n ++ 10 ∷ []
@@ -67,6 +65,41 @@ value_lines_of None = []
 -- the lines of the expressions among the children of the node at a cursor
 abbrev pub value_lines_at : Cursor → List ℕ
 value_lines_at c = value_lines_of (term_at c)
+
+-- how the raw kinds of s-expressions are called
+abbrev pub sexp_name : ℕ → List ℕ
+sexp_name = called name_of kind_of
+
+-- the JSON of what stands at a cursor, without a space, and a newline
+abbrev pub json_line_at : Cursor → List ℕ
+json_line_at c = compact_text (tree_json sexp_name c) ++ 10 ∷ []
+
+-- the cursor at the root of a tree
+abbrev pub root_of : NodeTerm → Cursor
+root_of tree = record { root = tree; path = [] }
+
+-- what a command shows of a text that has this tree: the lines of the tree, if the text is ASCII; the
+-- lines of its values; its JSON
+abbrev pub Shows : Command → (text : List ℕ) → (tree : NodeTerm) → (shown : List ℕ) → Type 0
+Shows Tree text tree shown = IsAscii text → shown ≡ debug_tree sexp_name (root_of tree)
+Shows Eval text tree shown = shown ≡ value_lines_at (root_of tree)
+Shows Json text tree shown = shown ≡ json_line_at (root_of tree)
+
+-- the command shows this of a text, by the tree that the grammar gives for it
+pub record IsShown (command : Command) (text shown : List ℕ) : Type 0 where
+  pub tree : NodeTerm
+  pub parse : IsParse text tree
+  pub shows : Shows command text tree shown
+
+-- The arguments ask for a command, and one text was written after what the output held, where that is
+-- known: what the command shows of the input, where that is known.
+pub record IsAnswered (args : List (String Global)) (input old new : Option (List ℕ)) : Type 0 where
+  pub command : Command
+  pub asked : AsksFor args command
+  pub shown : List ℕ
+  pub text : IsUtf8 shown
+  pub answer : IfSome input (λ bytes. IsShown command bytes shown)
+  pub written : Appends old new shown
 
 -- the exit status
 abbrev pub status_of : Stop → ℕ

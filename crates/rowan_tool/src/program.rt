@@ -1,9 +1,10 @@
 //! The program `rowan`: what its arguments ask for, what it reads and writes, and why it stops.
 ghost use Rattle.std.specs.Prelude.{◌≡◌, ◌≢◌, ◌↔◌, ◌<◌, ◌≤◌, ◌++◌, length, take, Ok, Err, IfOk, IfErr, IfSome, IfNone, OnOk, IsUtf8, string_bytes, vec_len};
 ghost use Rattle.std.specs.Io.KnownBytes.{Appends, Consumes, IsAtEnd};
-ghost use Rattle.rowan_tool.specs.Program.{AsksFor, IsCommandLine, IsReadWhole, ReadsAll, IsAnswered, longest_input, value_line, value_lines_at, status_of, line_of};
+ghost use Rattle.rowan_green.specs.Term.{node_text};
+ghost use Rattle.rowan_tool.specs.Program.{AsksFor, IsCommandLine, IsReadWhole, ReadsAll, IsShown, Shows, IsAnswered, longest_input, value_line, value_lines_at, json_line_at, status_of, line_of};
 
-use crate::sexp::{self, Lang, Root};
+use crate::sexp::{self, Lang, Parse, Root};
 use rowan::{Fault, SyntaxNode};
 use std::alloc::{AllocError, Global};
 use std::io::{ErrorKind, Read, Write};
@@ -136,8 +137,9 @@ pub fn run<R: Read, W: Write>(
         ReadsAll IsUtf8 (R.remaining input.old) (R.remaining input.new) }
     ensures read { OnOk result (ReadsAll IsUtf8 (R.remaining input.old) (R.remaining input.new)) }
 
-    // Of an output whose bytes are known: which text is printed, is said by no clause.
-    ensures written { OnOk result (IsAnswered (W.contents output.old) (W.contents output.new)) }
+    // Of an output whose bytes are known, too. Text past ASCII stands in the quotes of `tree` as `{:?}` writes it.
+    ensures written { OnOk result (IsAnswered args.now (R.remaining input.old)
+        (W.contents output.old) (W.contents output.new)) }
 {
     let Some(command) = Command::from_args(args) else {
         return Err(Stop::Usage);
@@ -149,18 +151,30 @@ pub fn run<R: Read, W: Write>(
 
 /// What the command prints for the text.
 fn printed(alloc: Global, command: Command, text: &str) -> Result<String, Fault>
+    ensures ok { IfOk result (λ shown. IsShown command text.now (string_bytes shown)) }
     ensures err { IfErr result (λ fault. fault ≢ Fault.Memory →
         (fault ≡ Fault.TextTooLong) × (longest_input < length text.now)) }
 {
+    let parse = sexp::parse(alloc, text)?;
+    shown(alloc, command, &parse)
+}
+
+/// What the command prints of the tree.
+fn shown(alloc: Global, command: Command, parse: &Parse) -> Result<String, Fault>
+    ensures ok { IfOk result (λ shown.
+        Shows command (node_text parse.now) parse.now (string_bytes shown)) }
+    ensures err { IfErr result (λ fault. fault ≡ Fault.Memory) }
+{
     match command {
-        Command::Tree => sexp::parse(alloc, text)?.syntax(alloc)?.debug_tree(alloc),
-        Command::Eval => value_lines(alloc, &sexp::parse(alloc, text)?.root(alloc)?),
-        Command::Json => json_line(alloc, &sexp::parse(alloc, text)?.syntax(alloc)?),
+        Command::Tree => parse.syntax(alloc)?.debug_tree(alloc),
+        Command::Eval => value_lines(alloc, &parse.root(alloc)?),
+        Command::Json => json_line(alloc, &parse.syntax(alloc)?),
     }
 }
 
 /// The JSON of a tree, and a newline.
 fn json_line(alloc: Global, root: &SyntaxNode<Lang>) -> Result<String, Fault>
+    ensures ok { IfOk result (λ line. string_bytes line ≡ json_line_at root.now) }
     ensures err { IfErr result (λ fault. fault ≡ Fault.Memory) }
 {
     let mut line = root.to_json(alloc)?.to_string(alloc)?;
