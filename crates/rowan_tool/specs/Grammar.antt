@@ -6,7 +6,7 @@
 use Rattle.std.specs.Prelude.{◌≡◌, ◌≢◌, ℕ, ◌<◌, ◌==◌, Bool, true, false, ◌&&◌, ◌⊎◌, List, map, length, take, codes, count_by}
 use Rattle.rowan_green.specs.declared.utility_types.NodeOrToken.TheVariants.{Node}
 use Rattle.rowan_green.specs.Path.{tokens}
-use Rattle.rowan_green.specs.Term.{TokenTerm, token_of, NodeTerm, node, Forest, empty, node_then, token_then}
+use Rattle.rowan_green.specs.Term.{TokenTerm, token_of, NodeTerm, node, node_kind, Forest, empty, node_then, token_then}
 use Rattle.rowan_tool.specs.declared.sexp.lang.SyntaxKind.TheVariants.{L_PAREN, R_PAREN, WORD, WHITESPACE, ERROR, LIST, ATOM, ROOT}
 use Rattle.rowan_tool.specs.Sexp.{LexedToken, IsLexed, number_of}
 
@@ -86,3 +86,9 @@ pub record IsBalanced (text : List ℕ) : Type 0 where
   pub closed : count_of 40 text ≡ count_of 41 text
   pub unclosed : (k : ℕ) → 0 < k → k < length text
       → count_of 40 (take k text) ≢ count_of 41 (take k text)
+
+-- the list that the text is: it is closed, and stands alone in the root of the text's tree
+pub record IsOneList (text : List ℕ) (list : NodeTerm) : Type 0 where
+  pub kind : node_kind list ≡ number_of LIST
+  pub closed : IsElement true false list
+  pub parse : IsParse text (node (number_of ROOT) (node_then list empty))
