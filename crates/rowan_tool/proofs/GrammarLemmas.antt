@@ -38,7 +38,7 @@ mutual
 IsFinished-own : (n : NodeTerm) → IsFinished (node_word n) n
 IsFinished-own n = record { items = Whole (Node n) ∷ []; parts = record { spells = sym (append-nil (node_word n)) }; terms = refl }
 
-tokens-node : (n : NodeTerm) → tokens (Node n) ≡ node_tokens n
+pub tokens-node : (n : NodeTerm) → tokens (Node n) ≡ node_tokens n
 tokens-node n = sym (tokens-finished (node_word n) n (IsFinished-own n)) ∙ word_tokens-node n
 
 -- ---- the word of a tree

@@ -6,5 +6,8 @@ pub mod JsonLemmas
 pub mod LexedLemmas
 pub mod NumberLemmas
 pub mod ParsingLemmas
+pub mod PlaceLemmas
+pub mod ReparseLemmas
 pub mod SexpRuns
+pub mod TokenJoins
 pub mod WordLemmas
