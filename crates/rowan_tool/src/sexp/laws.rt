@@ -3,7 +3,7 @@ ghost use Rattle.std.specs.Prelude.{◌≡◌, ℕ, List};
 ghost use Rattle.std.specs.List.{AllByRecursion};
 ghost use Rattle.std.specs.Str.{IsUtf8};
 ghost use Rattle.rowan_green.specs.Term.{TokenTerm, NodeTerm};
-ghost use Rattle.rowan_tool.specs.Grammar.{IsSexp, IsParse, token_terms};
+ghost use Rattle.rowan_tool.specs.Grammar.{IsSexp, IsParse, IsBalanced, IsOneList, token_terms};
 ghost use Rattle.rowan_tool.specs.Sexp.{LexedToken, IsLexed, IsToken};
 
 /// A text has one list of tokens.
@@ -23,4 +23,10 @@ pub fn tokens_have_one_tree()
     ensures parse { (text : List ℕ) → IsUtf8 text → (tree : NodeTerm) × IsParse text tree }
     ensures one_parse { (text : List ℕ) (m n : NodeTerm) → IsParse text m → IsParse text n
         → m ≡ n }
+{}
+
+/// A balanced text is that of one closed list, which stands alone in the root of its tree.
+pub fn balanced_text_is_one_list()
+    ensures one { (text : List ℕ) → IsUtf8 text → IsBalanced text
+        → (list : NodeTerm) × IsOneList text list }
 {}
