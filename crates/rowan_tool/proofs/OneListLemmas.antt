@@ -1,20 +1,20 @@
--- A balanced text is that of one list. In a list that is closed there are as many `(` as `)`, and in one that is not there are more
--- `(`. So the first child of the text's root is a closed list, and nothing stands behind it.
-use Rattle.std.proofs.Common.{◌≡◌, ◌≢◌, ℕ, zero, suc, ◌+◌, ◌<◌, ◌≤◌, Bool, true, false, List, [], ◌∷◌, ◌++◌, take, length, get_or, refl, sym, ◌∙◌, ap, subst, arith, cond, length-append, append_assoc, ne_eqb, inl, inr}
+-- A balanced text is that of one list, and the other way round. In a list that is closed there are as many `(` as `)`, and in one
+-- that is not there are more `(`. So the first child of a balanced text's root is a closed list, and nothing stands behind it.
+use Rattle.std.proofs.Common.{◌≡◌, ◌≢◌, ℕ, zero, suc, ◌+◌, ◌-◌, ◌<◌, ◌≤◌, Bool, true, false, List, [], ◌∷◌, ◌++◌, take, length, get_or, refl, sym, ◌∙◌, ap, subst, arith, cond, length-append, append_assoc, ne_eqb, inl, inr}
 use Rattle.std.specs.Prelude.{◌==◌, ◌&&◌, ◌⊎◌}
 use Rattle.std.specs.Char.{is_not_whitespace}
 use Rattle.std.specs.List.{AllByRecursion, flat_map}
 use Rattle.std.specs.Str.{NoCharPasses}
-use Rattle.std.proofs.Math.Seq.{take-length, take-append_seam}
+use Rattle.std.proofs.Math.Seq.{take-length, take-append_seam, take-append-add}
 use Rattle.std.proofs.lemmas.Bool.{cases_lt}
-use Rattle.std.proofs.lemmas.List.{nil_from_length}
+use Rattle.std.proofs.lemmas.List.{append-nil, nil_from_length, take-append-le}
 use Rattle.std.proofs.lemmas.List.Folds.{flat_map-map}
 use Rattle.std.proofs.lemmas.List.Sums.{sum_by-append, sum_by-take-le, count_by_more_no}
 use Rattle.std.proofs.lemmas.Str.{NoCharPasses-byte}
 use Rattle.rowan_green.specs.declared.utility_types.NodeOrToken.TheVariants.{Node}
 use Rattle.rowan_green.specs.Term.{TokenTerm, token_of, NodeTerm, node, node_kind, Forest, empty, node_then, token_then, node_text, forest_text}
 use Rattle.rowan_green.proofs.LeafLaws.{text-tokens}
-use Rattle.rowan_tool.specs.declared.sexp.lang.SyntaxKind.TheVariants.{WORD, WHITESPACE, LIST, ROOT}
+use Rattle.rowan_tool.specs.declared.sexp.lang.SyntaxKind.TheVariants.{L_PAREN, R_PAREN, WORD, WHITESPACE, LIST, ROOT}
 use Rattle.rowan_tool.specs.Sexp.{LexedToken, tokens_text, IsTextOf, IsToken, is_delimiter, number_of, kind_of}
 use Rattle.rowan_tool.specs.Grammar.{is_empty, IsAtom, OpensList, ClosesList, IsElement, AreElements, IsParse, token_terms, count_of, IsBalanced, IsOneList}
 use Rattle.rowan_tool.proofs.GrammarLemmas.{node_tokens, forest_tokens, tokens-node, last_split}
@@ -67,10 +67,10 @@ fits-back (t ∷ ts) us h = fits-back ts us h.1
 some_text : (t : TokenTerm) → IsFit t → 0 < length t.text
 some_text t fit = IsTextOf-some (kind_of t.kind) t.text fit
 
-opening_text : (t : TokenTerm) → IsFit t → t.kind ≡ 0 → t.text ≡ 40 ∷ []
+opening_text : (t : TokenTerm) → IsFit t → t.kind ≡ number_of L_PAREN → t.text ≡ 40 ∷ []
 opening_text t fit e = subst (λ k. IsTextOf (kind_of k) t.text) e fit
 
-closing_text : (t : TokenTerm) → IsFit t → t.kind ≡ 1 → t.text ≡ 41 ∷ []
+closing_text : (t : TokenTerm) → IsFit t → t.kind ≡ number_of R_PAREN → t.text ≡ 41 ∷ []
 closing_text t fit e = subst (λ k. IsTextOf (kind_of k) t.text) e fit
 
 -- the text has no parenthesis
@@ -78,7 +78,7 @@ record IsPlain (text : List ℕ) : Type 0 where
   opens : count_of 40 text ≡ 0
   closes : count_of 41 text ≡ 0
 
-word_plain : (t : TokenTerm) → IsFit t → t.kind ≡ 2 → IsPlain t.text
+word_plain : (t : TokenTerm) → IsFit t → t.kind ≡ number_of WORD → IsPlain t.text
 word_plain t fit e =
     let word : IsTextOf WORD t.text = subst (λ k. IsTextOf (kind_of k) t.text) e fit in
     record {
@@ -86,7 +86,7 @@ word_plain t fit e =
       closes = count_of-run is_delimiter t.text 41 word.inside (omega arith) refl;
     }
 
-white_plain : (t : TokenTerm) → IsFit t → t.kind ≡ 3 → IsPlain t.text
+white_plain : (t : TokenTerm) → IsFit t → t.kind ≡ number_of WHITESPACE → IsPlain t.text
 white_plain t fit e =
     let white : IsTextOf WHITESPACE t.text = subst (λ k. IsTextOf (kind_of k) t.text) e fit in
     record {
@@ -241,6 +241,7 @@ module _ (text : List ℕ) (balanced : IsBalanced text) where
       let wrong : 40 ≡ 41 = ap (λ s. get_or s 0 0) (sym balanced.begins ∙ first) in
       omega (arith, wrong)
 
+  -- a closed list stands alone in the root
   record HasOneList (f : Forest) : Type 0 where
     list : NodeTerm
     alone : f ≡ node_then list empty
@@ -283,13 +284,116 @@ tokens_text-terms : (lexed : List LexedToken) → flat_map (λ t. t.text) (token
 tokens_text-terms lexed = flat_map-map (λ t. t.text) (λ token. token_of (number_of token.0) token.1.now) lexed
 
 -- the text of a text's tree is that text
-text-parse : (text : List ℕ) (tree : NodeTerm) → IsParse text tree → node_text tree ≡ text
+pub text-parse : (text : List ℕ) (tree : NodeTerm) → IsParse text tree → node_text tree ≡ text
 text-parse text tree parse =
     text-tokens (Node tree) ∙ ap (flat_map (λ t. t.text)) parse.sexp.tokens ∙ tokens_text-terms parse.lexed ∙ parse.cut.whole
 
+-- and its leaves have texts of their kinds
+fits-parse : (text : List ℕ) (tree : NodeTerm) → IsParse text tree → AllByRecursion IsFit (node_tokens tree)
+fits-parse text tree parse = subst (AllByRecursion IsFit) (sym parse.sexp.tokens ∙ tokens-node tree) (fits_from parse.lexed parse.cut.each)
+
 pub balanced-is-one-list : (text : List ℕ) (tree : NodeTerm) → IsParse text tree → IsBalanced text → (list : NodeTerm) × (tree ≡ node (number_of ROOT) (node_then list empty)) × IsOneList text list
 balanced-is-one-list text (node k f) parse balanced =
-    let fits : AllByRecursion IsFit (forest_tokens f) = subst (AllByRecursion IsFit) (sym parse.sexp.tokens ∙ tokens-node (node k f)) (fits_from parse.lexed parse.cut.each) in
-    let one = one_list text balanced f (sym (text-parse text (node k f) parse)) parse.sexp.root.1 fits in
+    let one = one_list text balanced f (sym (text-parse text (node k f) parse)) parse.sexp.root.1 (fits-parse text (node k f) parse) in
     let same : node k f ≡ node (number_of ROOT) (node_then one.list empty) = ap (λ j. node j f) parse.sexp.root.0 ∙ ap (node (number_of ROOT)) one.alone in
     (one.list, same, record { kind = one.kind; closed = one.closed; parse = subst (IsParse text) same parse })
+
+-- ---- the text of one list is balanced
+
+-- among the first bytes of the text are no more `)` than `(`
+abbrev IsCovered : ℕ → List ℕ → Type 0
+IsCovered k text = count_of 41 (take k text) ≤ count_of 40 (take k text)
+
+covered-plain : (text : List ℕ) (k : ℕ) → count_of 41 text ≡ 0 → IsCovered k text
+covered-plain text k none = omega (arith, none, sum_by-take-le (λ x. cond (x == 41) 1 0) text k)
+
+covered-append : (a b : List ℕ) (k : ℕ) → (k ≤ length a → IsCovered k a) → count_of 40 a ≡ count_of 41 a → ((m : ℕ) → k ≡ length a + m → IsCovered m b) → IsCovered k (a ++ b)
+covered-append a b k front even back =
+    elim (cases_lt k (length a)) [
+      | inl less ↦ subst (λ s. count_of 41 s ≤ count_of 40 s) (sym (take-append-le k a b (omega (arith, less)))) (front (omega (arith, less)))
+      | inr least ↦
+          let m = k - length a in
+          let parts : k ≡ length a + m = omega (arith, least) in
+          let taken : take k (a ++ b) ≡ a ++ take m b = ap (λ n. take n (a ++ b)) parts ∙ take-append-add a b m in
+          subst (λ s. count_of 41 s ≤ count_of 40 s) (sym taken) (omega (arith, count_of-append 40 a (take m b), count_of-append 41 a (take m b), even, back m parts))
+    ]
+
+-- before the end of a list it is open
+list_open : (text rest : List ℕ) (k : ℕ) → text ≡ (40 ∷ []) ++ rest → ((m : ℕ) → m < length rest → IsCovered m rest) → 0 < k → k < length text → count_of 41 (take k text) < count_of 40 (take k text)
+list_open text rest k whole covered some small =
+    let first : List ℕ = 40 ∷ [] in
+    let m = k - 1 in
+    let parts : k ≡ length first + m = omega (arith, some) in
+    let taken : take k text ≡ first ++ take m rest = ap (take k) whole ∙ ap (λ n. take n (first ++ rest)) parts ∙ take-append-add first rest m in
+    let opens : count_of 40 first ≡ 1 = refl in
+    let closes : count_of 41 first ≡ 0 = refl in
+    subst (λ s. count_of 41 s < count_of 40 s) (sym taken) (omega (arith, opens, closes, count_of-append 40 first (take m rest), count_of-append 41 first (take m rest), covered m (omega (arith, small, some, ap length whole))))
+
+-- an element whose lists are closed has as many `(` as `)`
+even_element : (n : NodeTerm) → IsElement true false n → AllByRecursion IsFit (node_tokens n) → count_of 40 (node_text n) ≡ count_of 41 (node_text n)
+even_element n h fits = by_end (element_ends false n h fits)
+  where
+    by_end : ElementCloses n ⊎ ElementRuns false n → count_of 40 (node_text n) ≡ count_of 41 (node_text n)
+    by_end (inl c) = c.even
+    by_end (inr r) = absurd (let wrong : false ≡ true = r.end in cc)
+
+-- a list, whose bytes behind the `(` are covered as long as it is open
+covered-list : (text : List ℕ) (k : ℕ) → (0 < k → k < length text → count_of 41 (take k text) < count_of 40 (take k text)) → count_of 40 text ≡ count_of 41 text → k ≤ length text → IsCovered k text
+covered-list text zero before even h = omega arith
+covered-list text (suc k) before even h =
+    elim (cases_lt (suc k) (length text)) [
+      | inl less ↦ omega (arith, before (omega arith) less)
+      | inr least ↦
+          let all : suc k ≡ length text = omega (arith, h, least) in
+          let taken : take (suc k) text ≡ text = ap (λ n. take n text) all ∙ take-length text in
+          omega (arith, even, ap (count_of 40) taken, ap (count_of 41) taken)
+    ]
+
+mutual
+  covered-element : (n : NodeTerm) → IsElement true false n → AllByRecursion IsFit (node_tokens n) → (k : ℕ) → k ≤ length (node_text n) → IsCovered k (node_text n)
+  covered-element (node j empty) h fits k small = absurd h
+  covered-element (node j (node_then m f)) h fits k small = absurd h
+  covered-element (node j (token_then t f)) (inl a) fits k small = covered-plain (t.text ++ forest_text f) k (atom_plain j t f fits.0 a).closes
+  covered-element (node j (token_then t f)) (inr (inl e)) fits k small = absurd (let wrong : true ≡ false = e.0 in cc)
+  covered-element (node j (token_then t f)) (inr (inr l)) fits k small =
+      covered-list (t.text ++ forest_text f) k
+      (list_open (t.text ++ forest_text f) (forest_text f) k (ap (λ s. s ++ forest_text f) (opening_text t fits.0 l.0.parenthesis)) (covered-elements f l.1 fits.1))
+      (even_element (node j (token_then t f)) (inr (inr l)) fits) small
+
+  covered-elements : (f : Forest) → AreElements true false f → AllByRecursion IsFit (forest_tokens f) → (k : ℕ) → k < length (forest_text f) → IsCovered k (forest_text f)
+  covered-elements empty h fits k small = absurd (let wrong : false ≡ true = h in cc)
+  covered-elements (node_then n f) h fits k small =
+      let front = fits-front (node_tokens n) (forest_tokens f) fits in
+      covered-append (node_text n) (forest_text f) k (covered-element n h.0 front k) (even_element n h.0 front)
+      (λ m parts. covered-elements f h.1 (fits-back (node_tokens n) (forest_tokens f) fits) m (omega (arith, small, parts, length-append (node_text n) (forest_text f))))
+  covered-elements (token_then t f) (inl c) fits k small =
+      let text : t.text ++ forest_text f ≡ 41 ∷ [] = ap (λ g. t.text ++ forest_text g) c.1.last ∙ ap (λ s. s ++ []) (closing_text t fits.0 c.1.parenthesis) in
+      let first : k ≡ 0 = omega (arith, small, ap length text) in
+      let taken : take k (t.text ++ forest_text f) ≡ [] = ap (λ n. take n (t.text ++ forest_text f)) first in
+      omega (arith, ap (count_of 41) taken)
+  covered-elements (token_then t f) (inr w) fits k small =
+      let plain = white_plain t fits.0 w.0 in
+      covered-append t.text (forest_text f) k (λ _. covered-plain t.text k plain.closes) (plain.opens ∙ sym plain.closes)
+      (λ m parts. covered-elements f w.1 fits.1 m (omega (arith, small, parts, length-append t.text (forest_text f))))
+
+-- the text of a closed list
+balanced-list : (list : NodeTerm) → node_kind list ≡ number_of LIST → IsElement true false list → AllByRecursion IsFit (node_tokens list) → IsBalanced (node_text list)
+balanced-list (node k empty) is h fits = absurd h
+balanced-list (node k (node_then m f)) is h fits = absurd h
+balanced-list (node k (token_then t f)) is (inl a) fits = absurd (omega (arith, is, a.atom))
+balanced-list (node k (token_then t f)) is (inr (inl e)) fits = absurd (let wrong : true ≡ false = e.0 in cc)
+balanced-list (node k (token_then t f)) is (inr (inr l)) fits =
+    let text = t.text ++ forest_text f in
+    let whole : text ≡ (40 ∷ []) ++ forest_text f = ap (λ s. s ++ forest_text f) (opening_text t fits.0 l.0.parenthesis) in
+    record {
+      begins = ap (take 1) whole;
+      closed = even_element (node k (token_then t f)) (inr (inr l)) fits;
+      unclosed = λ j some small same. omega (arith, same, list_open text (forest_text f) j whole (covered-elements f l.1 fits.1) some small);
+    }
+
+pub one-list-is-balanced : (text : List ℕ) (list : NodeTerm) → IsOneList text list → IsBalanced text
+one-list-is-balanced text list one =
+    let root = node (number_of ROOT) (node_then list empty) in
+    let same : node_text list ≡ text = sym (append-nil (node_text list)) ∙ text-parse text root one.parse in
+    let fits = fits-front (node_tokens list) [] (fits-parse text root one.parse) in
+    subst IsBalanced same (balanced-list list one.kind one.closed fits)

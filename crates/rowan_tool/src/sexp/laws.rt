@@ -25,8 +25,10 @@ pub fn tokens_have_one_tree()
         → m ≡ n }
 {}
 
-/// A balanced text is that of one closed list, which stands alone in the root of its tree.
+/// A balanced text is that of one closed list, which stands alone in the root of its tree; and a text that is that of one list is
+/// balanced.
 pub fn balanced_text_is_one_list()
     ensures one { (text : List ℕ) → IsUtf8 text → IsBalanced text
         → (list : NodeTerm) × IsOneList text list }
+    ensures balanced { (text : List ℕ) (list : NodeTerm) → IsOneList text list → IsBalanced text }
 {}
