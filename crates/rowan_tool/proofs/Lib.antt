@@ -5,6 +5,7 @@ pub mod GrammarLemmas
 pub mod JsonLemmas
 pub mod LexedLemmas
 pub mod NumberLemmas
+pub mod OneListLemmas
 pub mod ParsingLemmas
 pub mod PlaceLemmas
 pub mod ReparseLemmas

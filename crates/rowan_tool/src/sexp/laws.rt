@@ -6,7 +6,7 @@ ghost use Rattle.rowan_green.specs.declared.utility_types.NodeOrToken.TheVariant
 ghost use Rattle.rowan_green.specs.Edits.{spliced};
 ghost use Rattle.rowan_green.specs.Path.{Path, subterm, range, put};
 ghost use Rattle.rowan_green.specs.Term.{TokenTerm, NodeTerm};
-ghost use Rattle.rowan_tool.specs.Grammar.{IsSexp, IsParse, IsOneList, token_terms};
+ghost use Rattle.rowan_tool.specs.Grammar.{IsSexp, IsParse, IsBalanced, IsOneList, token_terms};
 ghost use Rattle.rowan_tool.specs.Sexp.{LexedToken, IsLexed, IsToken};
 
 /// A text has one list of tokens.
@@ -26,6 +26,14 @@ pub fn tokens_have_one_tree()
     ensures parse { (text : List ℕ) → IsUtf8 text → (tree : NodeTerm) × IsParse text tree }
     ensures one_parse { (text : List ℕ) (m n : NodeTerm) → IsParse text m → IsParse text n
         → m ≡ n }
+{}
+
+/// A balanced text is that of one closed list, which stands alone in the root of its tree; and a text that is that of one list is
+/// balanced.
+pub fn balanced_text_is_one_list()
+    ensures one { (text : List ℕ) → IsUtf8 text → IsBalanced text
+        → (list : NodeTerm) × IsOneList text list }
+    ensures balanced { (text : List ℕ) (list : NodeTerm) → IsOneList text list → IsBalanced text }
 {}
 
 /// Where a node below the root of a text's tree becomes the list that another text is, the tree is that of the text with the other
