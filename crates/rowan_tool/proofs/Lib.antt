@@ -1,9 +1,13 @@
 pub mod AskedLemmas
 pub mod BalanceLemmas
+pub mod EditLemmas
 pub mod EvalLemmas
+pub mod FitLemmas
 pub mod GrammarLemmas
 pub mod JsonLemmas
 pub mod LexedLemmas
+pub mod ListReparsed
+pub mod ListSearch
 pub mod NumberLemmas
 pub mod OneListLemmas
 pub mod ParsingLemmas

@@ -40,10 +40,10 @@ list-text text list one = sym (append-nil (node_text list)) ∙ parse-text text 
 -- ---- a list has some text
 
 -- the tokens' terms have some text
-abbrev AreSome : List TokenTerm → Type 0
+abbrev pub AreSome : List TokenTerm → Type 0
 AreSome ts = AllByRecursion (λ t. 0 < length t.text) ts
 
-some-lexed : (ls : List LexedToken) → AllByRecursion IsToken ls → AreSome (token_terms ls)
+pub some-lexed : (ls : List LexedToken) → AllByRecursion IsToken ls → AreSome (token_terms ls)
 some-lexed [] h = tt
 some-lexed (l ∷ ls) h = (IsTextOf-some l.0 l.1.now h.0, some-lexed ls h.1)
 
