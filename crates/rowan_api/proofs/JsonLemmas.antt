@@ -1,7 +1,7 @@
 -- Walks and JSON: what is finished at each event of a walk.
 use Rattle.std.proofs.Common.{◌≡◌, ℕ, suc, ◌+◌, ◌-◌, false, List, [], ◌∷◌, ◌++◌, map, length, drop, take, get_or, Option, Some, None, Ok, Err, refl, sym, ◌∙◌, ap, subst, arith, append_assoc, length-append}
 use Rattle.std.specs.Prelude.{IfOk}
-use Rattle.std.specs.Option.{unwrap_or, option_to_list}
+use Rattle.std.specs.Option.{UnwrapsOrElse, option_to_list}
 use Rattle.std.proofs.lemmas.List.{append-nil, map-append}
 use Rattle.std.proofs.Math.Seq.{take-append_seam, get_or-append_seam}
 use Rattle.serde_json.specs.Data.{Data, null}
@@ -145,11 +145,11 @@ pub empty-length : {X : Type 0} (xs : List X) → length xs ≡ 0 → xs ≡ []
 empty-length [] h = refl
 empty-length (x ∷ xs) h = absurd (omega arith)
 
--- the last of a list that a pop gave, or another value where there was none
-pub last-mapped : {X Y : Type 0} (f : X → Y) (xs ys : List X) (r : Option X) (d : X) (e : Y) → xs ≡ ys ++ option_to_list r → (r ≡ None → xs ≡ []) → f d ≡ e
-    → f (unwrap_or r d) ≡ get_or (map f xs) (length (map f xs) - 1) e
-last-mapped f xs ys None d e h none same = same ∙ sym (ap (λ zs. get_or (map f zs) (length (map f zs) - 1) e) (none refl))
-last-mapped f xs ys (Some x) d e h none same =
-    let mapped : map f xs ≡ map f ys ++ f x ∷ [] = ap (map f) h ∙ map-append f ys (x ∷ []) in
-    let last : length (map f xs) - 1 ≡ length (map f ys) = omega (arith, ap length mapped, length-append (map f ys) (f x ∷ [])) in
-    sym (ap (λ i. get_or (map f xs) i e) last ∙ ap (λ zs. get_or zs (length (map f ys)) e) mapped ∙ get_or-append_seam (map f ys) (f x) [] e)
+-- the last of a list, as what a pop gave, or the default where it gave none
+pub last-mapped : {X Y : Type 0} (f : X → Y) (xs ys : List X) (r : Option X) (x : X) (e : Y) → xs ≡ ys ++ option_to_list r → (r ≡ None → xs ≡ []) → UnwrapsOrElse r (λ v. f v ≡ e) x
+    → f x ≡ get_or (map f xs) (length (map f xs) - 1) e
+last-mapped f xs ys None x e h none is = is ∙ sym (ap (λ zs. get_or (map f zs) (length (map f zs) - 1) e) (none refl))
+last-mapped f xs ys (Some y) x e h none is =
+    let mapped : map f xs ≡ map f ys ++ f y ∷ [] = ap (map f) h ∙ map-append f ys (y ∷ []) in
+    let last : length (map f xs) - 1 ≡ length (map f ys) = omega (arith, ap length mapped, length-append (map f ys) (f y ∷ [])) in
+    ap f is ∙ sym (ap (λ i. get_or (map f xs) i e) last ∙ ap (λ zs. get_or zs (length (map f ys)) e) mapped ∙ get_or-append_seam (map f ys) (f y) [] e)

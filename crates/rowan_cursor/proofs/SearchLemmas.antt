@@ -4,12 +4,15 @@ use Rattle.std.specs.Prelude.{slice_get, IfSome, IsNone}
 use Rattle.std.specs.Option.{option_map}
 use Rattle.rowan_green.specs.declared.utility_types.NodeOrToken.TheVariants.{Node}
 use Rattle.rowan_green.specs.Search.{child_start, child_end, IsOnlyChoice}
+use Rattle.rowan_green.specs.Fits.{byte_limit}
 use Rattle.rowan_green.specs.Span.{Span}
 use Rattle.rowan_green.specs.Term.{NodeTerm}
 use Rattle.rowan_green.specs.Path.{Path, subterm, offset, len_of, range}
 use Rattle.rowan_green.proofs.SearchLemmas.{bounds}
 use Rattle.rowan_cursor.specs.declared.table.Table.{Table}
-use Rattle.rowan_cursor.specs.TableView.{root_of, path_at, cursor_of, element_of, paths_below, IsWithin, IsChildUpTo, StretchShows}
+use Rattle.rowan_cursor.specs.declared.table.search.Place.{Place}
+use Rattle.rowan_cursor.specs.Table.{Describes}
+use Rattle.rowan_cursor.specs.TableView.{root_of, path_at, cursor_of, element_of, paths_below, IsWithin, IsPlace, IsChildUpTo, StretchShows}
 use Rattle.rowan_cursor.specs.Moves.{Element, children_of, child_count}
 use Rattle.rowan_cursor.specs.Search.{IsRangeChild, IsOnlyRangeChild, Covers, Finds}
 use Rattle.rowan_cursor.specs.Cursor.{text_range}
@@ -17,11 +20,12 @@ use Rattle.rowan_cursor.specs.Equal.{start_of}
 use Rattle.rowan_cursor.proofs.EndLemmas.{end-next, end-last}
 use Rattle.rowan_cursor.proofs.PathLemmas.{subterm-child, offset-child, child_start-next}
 use Rattle.rowan_cursor.proofs.SkipLemmas.{row_count, child_path, child_later}
+use Rattle.rowan_cursor.proofs.TableLemmas.{slice_get-some, is_entry}
 
 -- ---- where a child lies
 
 -- by the children before it
-pub child_span : (root : NodeTerm) (p q : Path) (k : ℕ) → q ≡ p ++ k ∷ [] → k < child_count root p
+child_span : (root : NodeTerm) (p q : Path) (k : ℕ) → q ≡ p ++ k ∷ [] → k < child_count root p
     → ((range (Node root) q).start ≡ offset (Node root) p + child_start (children_of (subterm (Node root) p)) k) × ((range (Node root) q).end ≡ offset (Node root) p + child_end (children_of (subterm (Node root) p)) k)
 child_span root p q k path within =
     let ts = children_of (subterm (Node root) p) in
@@ -55,31 +59,50 @@ end_of_other t stop limit n c other =
     ∙ end-next root p (n - c.first) (omega (arith, next.1, place))
     ∙ sym (ap (λ q. offset (Node root) q + len_of (subterm (Node root) q)) here.0)
 
--- the child at a place among the children of the element with number n, whose numbers are those from `first` up to `stop`
-pub record IsAtPlace (t : Table) (n first stop k : ℕ) : Type 0 where
-  pub up : (limit : ℕ) → limit ≡ (text_range (cursor_of t n)).end → IsChildUpTo t stop limit (first + k)
-  pub path : path_at t (first + k) ≡ path_at t n ++ k ∷ []
+-- the child at a place among the children of an element, whose numbers are those from `first` up to `stop`
+pub record IsAtPlace (t : Table) (parent : Place) (first stop k : ℕ) : Type 0 where
+  pub up : (limit : ℕ) → limit ≡ parent.range.end → IsChildUpTo t stop limit (first + k)
+  pub count : k < child_count (root_of t) (path_at t parent.number)
+  pub path : path_at t (first + k) ≡ path_at t parent.number ++ k ∷ []
   pub less : first + k < stop
   pub within : IsWithin t (first + k)
-  pub later : n < first + k
+  pub later : parent.number < first + k
 
-pub at_place : (t : Table) (n first stop k : ℕ) → IsWithin t n → StretchShows t first stop (paths_below t n) → k < child_count (root_of t) (path_at t n) → IsAtPlace t n first stop k
-at_place t n first stop k here row bound =
+pub at_place : {t : Table} {parent : Place} {first stop : ℕ} (k : ℕ) → IsPlace t parent → StretchShows t first stop (paths_below t parent.number) → k < child_count (root_of t) (path_at t parent.number)
+    → IsAtPlace t parent first stop k
+at_place {t} {parent} {first} {stop} k here row count =
     let es = t.entries.items in
+    let n = parent.number in
     let root = root_of t in
     let p = path_at t n in
     let m = first + k in
-    let less : m < stop = omega (arith, bound, row_count es root p first stop row) in
+    let less : m < stop = omega (arith, count, row_count es root p first stop row) in
     let place : m - first ≡ k = omega arith in
     let path : path_at t m ≡ p ++ k ∷ [] = (child_path es root p first stop m row (omega arith) less).0 ∙ ap (λ i. p ++ i ∷ []) place in
     let within : m < length es = omega (arith, less, row.within) in
     record {
-      up = λ limit ends. record { parent = n; first = first; row = row; from = omega arith; to = less; ends = ends };
+      up = λ limit ends. record { parent = n; first = first; row = row; from = omega arith; to = less; ends = ends ∙ ap (λ (r : Span). r.end) here.lies };
+      count = count;
       path = path;
       less = less;
       within = within;
-      later = child_later es t.complete n m k here within path;
+      later = child_later es t.complete n m k here.within within path;
     }
+
+-- where its text lies, by the children before it
+pub place_lies : {t : Table} {parent : Place} {first stop k : ℕ} {own : Span} → IsAtPlace t parent first stop k → own ≡ text_range (cursor_of t (first + k))
+    → (own.start ≡ offset (Node (root_of t)) (path_at t parent.number) + child_start (children_of (subterm (Node (root_of t)) (path_at t parent.number))) k) × (own.end ≡ offset (Node (root_of t)) (path_at t parent.number) + child_end (children_of (subterm (Node (root_of t)) (path_at t parent.number))) k)
+place_lies {t} {parent} {first} {stop} {k} {own} here is =
+    let lies = child_span (root_of t) (path_at t parent.number) (path_at t (first + k)) k here.path here.count in
+    (ap (λ (r : Span). r.start) is ∙ lies.0, ap (λ (r : Span). r.end) is ∙ lies.1)
+
+-- a place ends within the limit of a text
+pub place_limit : {t : Table} {place : Place} → IsPlace t place → place.range.end ≤ byte_limit
+place_limit {t} {place} here =
+    let es = t.entries.items in
+    let e = slice_get-some es place.number here.within in
+    let is : Describes es place.number e.0 = is_entry es t.complete place.number e.0 e.1 in
+    omega (arith, is.end, is.start, ap (λ (r : Span). r.end) here.lies)
 
 -- ---- in the table
 

@@ -8,8 +8,9 @@ use Rattle.std.specs.Prelude.{◌≡◌, ℕ, ◌+◌, ◌-◌, ◌<◌, ◌≤�
 use Rattle.rowan_green.specs.declared.utility_types.NodeOrToken.TheVariants.{Node, Token}
 use Rattle.rowan_green.specs.Term.{TokenTerm, NodeTerm, token_len}
 use Rattle.rowan_green.specs.Path.{Path, subterm, begins, offset, range}
-use Rattle.rowan_green.specs.Search.{IsChildAt}
+use Rattle.rowan_green.specs.Search.{IsChildAt, digits}
 use Rattle.rowan_green.specs.Span.{Span}
+use Rattle.rowan_green.specs.Steps.{Tally, count_limit}
 use Rattle.rowan_cursor.specs.Cursor.{Cursor}
 use Rattle.rowan_cursor.specs.Moves.{Element, element_at, cursor_at, children_of, child_count, leaf_paths}
 
@@ -31,6 +32,13 @@ pub record IsRangeChild (root : NodeTerm) (span : Span) (p q : Path) : Type 0 wh
 pub record IsOnlyRangeChild (root : NodeTerm) (span : Span) (p q : Path) : Type 0 where
   pub is : span.start ≤ span.end → LiesIn span (range (Node root) q) → IsRangeChild root span p q
   pub only : (r : Path) → IsRangeChild root span p r → r ≡ q
+
+-- the steps of a search by halves among so many children: no visit, and a comparison at least if it has found one
+pub record CountsSearch (children : ℕ) (Found : Type 0) (old new : Tally) : Type 0 where
+  pub most : new.comparisons ≤ old.comparisons + digits children
+  pub least : Found → old.comparisons < count_limit → old.comparisons < new.comparisons
+  pub grows : old.comparisons ≤ new.comparisons
+  pub visits : new.visits ≡ old.visits
 
 -- behind the element at p, these follow in the chain of the range
 abbrev pub IsChain : NodeTerm → Span → Path → List Path → Type 0

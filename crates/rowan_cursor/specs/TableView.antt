@@ -5,6 +5,7 @@ use Rattle.rowan_green.specs.Path.{Path}
 use Rattle.rowan_green.specs.Term.{NodeTerm}
 use Rattle.rowan_cursor.specs.declared.table.Entry.{Entry}
 use Rattle.rowan_cursor.specs.declared.table.Table.{Table}
+use Rattle.rowan_cursor.specs.declared.table.search.Place.{Place}
 use Rattle.rowan_cursor.specs.Cursor.{Cursor, text_range}
 use Rattle.rowan_cursor.specs.Moves.{cursor_at, is_node_at, Element, element_at, numbers, child_paths, following, preceding}
 use Rattle.rowan_cursor.specs.Table.{root_node, entry_path, entry_children, Describes, IsRow, IsRowBack}
@@ -100,6 +101,11 @@ paths_behind t n = following (root_of t) (path_at t n)
 -- the paths of the siblings before the element with a number, nearest first
 abbrev pub paths_before : Table → ℕ → List Path
 paths_before t n = preceding (root_of t) (path_at t n)
+
+-- an element of the table, and the range of its text
+pub record IsPlace (t : Table) (place : Place) : Type 0 where
+  pub within : IsWithin t place.number
+  pub lies : place.range ≡ text_range (cursor_of t place.number)
 
 -- the element with this number is one of the children of another. Their numbers go up to `stop`, and that one's text to `limit`
 pub record IsChildUpTo (t : Table) (stop limit n : ℕ) : Type 0 where

@@ -90,11 +90,13 @@ impl Move {
     }
 }
 
-fn as_node(node: Option<SyntaxNode>) -> Option<SyntaxElement> {
+/// A node that was found, as an element.
+pub fn as_node(node: Option<SyntaxNode>) -> Option<SyntaxElement> {
     node.map(NodeOrToken::Node)
 }
 
-fn as_token(token: Option<SyntaxToken>) -> Option<SyntaxElement> {
+/// A token that was found, as an element.
+pub fn as_token(token: Option<SyntaxToken>) -> Option<SyntaxElement> {
     token.map(NodeOrToken::Token)
 }
 

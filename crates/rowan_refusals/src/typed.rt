@@ -1,6 +1,6 @@
 //! The calls of typed cursors, none of which asks for memory.
 
-use crate::moving::{Move, tell_each};
+use crate::moving::{self, Move, tell_each};
 use crate::transcript::{Stop, Transcript};
 use rowan::cursor::{self, ElementCalls};
 use rowan::{
@@ -100,18 +100,9 @@ fn at_raw_element(
 ) -> Result<Option<cursor::SyntaxElement>, Fault> {
     match way {
         Move::TreeTop => Ok(Some(NodeOrToken::Node(ElementCalls::tree_top(element)?))),
-        Move::Parent => match ElementCalls::parent(element)? {
-            Some(node) => Ok(Some(NodeOrToken::Node(node))),
-            None => Ok(None),
-        },
-        Move::FirstToken => match element.first_token()? {
-            Some(token) => Ok(Some(NodeOrToken::Token(token))),
-            None => Ok(None),
-        },
-        Move::LastToken => match element.last_token()? {
-            Some(token) => Ok(Some(NodeOrToken::Token(token))),
-            None => Ok(None),
-        },
+        Move::Parent => Ok(moving::as_node(ElementCalls::parent(element)?)),
+        Move::FirstToken => Ok(moving::as_token(element.first_token()?)),
+        Move::LastToken => Ok(moving::as_token(element.last_token()?)),
         Move::NextSiblingOrToken => ElementCalls::next_sibling_or_token(element),
         Move::PrevSiblingOrToken => ElementCalls::prev_sibling_or_token(element),
         _ => Ok(None),

@@ -2,7 +2,7 @@
 use Rattle.std.proofs.Common.{◌≡◌, ℕ, zero, suc, ◌+◌, ◌<◌, ◌≤◌, append_assoc, Bool, true, false, cond, List, [], ◌∷◌, ◌++◌, map, length, Option, Some, None, refl, sym, ◌∙◌, ap, subst, arith}
 use Rattle.std.specs.Prelude.{filter, Ok, Err, IfOk, IfErr, slice_get, ⊤}
 use Rattle.std.specs.Option.{option_map, option_map_or, option_and_then}
-use Rattle.std.proofs.lemmas.List.{append-nil}
+use Rattle.std.proofs.lemmas.List.{append-nil, flat_map_more, map-append}
 use Rattle.rowan_green.specs.declared.fault.Fault.{Fault}
 use Rattle.rowan_green.specs.declared.fault.Fault.TheVariants.{Memory}
 use Rattle.rowan_green.specs.declared.utility_types.NodeOrToken.TheVariants.{Node, Token}
@@ -313,10 +313,7 @@ operates c rest after o x left right h l y is =
 -- ---- the lines of what expressions read
 
 lines-more : (ds : List Cursor) (d : Cursor) → value_lines (map reading_at (ds ++ d ∷ [])) ≡ value_lines (map reading_at ds) ++ value_line (value_at d)
-lines-more [] d = append-nil (value_line (value_at d))
-lines-more (e ∷ ds) d =
-    ap (λ bs. value_line (value_at e) ++ bs) (lines-more ds d)
-    ∙ sym (append_assoc (value_line (value_at e)) (value_lines (map reading_at ds)) (value_line (value_at d)))
+lines-more ds d = ap value_lines (map-append reading_at ds (d ∷ [])) ∙ sym (flat_map_more (λ r. value_line r.1) [] (map reading_at ds) (reading_at d))
 
 lines-all : (c : Cursor) → value_lines (map reading_at (sexps_at c)) ≡ value_lines_at c
 lines-all c = by (term_at c) refl

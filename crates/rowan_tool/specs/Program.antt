@@ -2,6 +2,7 @@
 use Rattle.std.specs.Prelude.{◌≡◌, ◌≢◌, ℕ, ℤ, ◌≤◌, List, [], ◌∷◌, ◌++◌, length, map, codes, string_bytes, Option, Some, None, IfSome, IsUtf8, IsAscii, String}
 use Rattle.std.specs.Fmt.{signed_decimal}
 use Rattle.std.specs.Io.KnownBytes.{Appends}
+use Rattle.std.specs.List.{flat_map}
 use Rattle.std.specs.declared.alloc.Global.{Global}
 use Rattle.rowan_tool.specs.declared.program.Command.{Command}
 use Rattle.rowan_tool.specs.declared.program.Command.TheVariants.{Tree, Eval, Json}
@@ -12,6 +13,7 @@ use Rattle.rowan_tool.specs.Grammar.{IsParse}
 use Rattle.rowan_tool.specs.Sexp.{kind_of, name_of}
 use Rattle.rowan_api.specs.Printed.{called, debug_tree, tree_json}
 use Rattle.rowan_cursor.specs.Cursor.{Cursor, term_at}
+use Rattle.rowan_cursor.specs.Moves.{cursor_at}
 use Rattle.rowan_green.specs.declared.utility_types.NodeOrToken.TheVariants.{Node, Token}
 use Rattle.rowan_green.specs.Fits.{byte_limit}
 use Rattle.rowan_green.specs.Term.{node, NodeTerm, Term}
@@ -54,8 +56,7 @@ value_line None = codes "none" ++ 10 ∷ []
 
 -- a line for each expression: the number that it reads, or `none`
 abbrev pub value_lines : List Reading → List ℕ
-value_lines [] = []
-value_lines (r ∷ rs) = value_line r.1 ++ value_lines rs
+value_lines = flat_map (λ r. value_line r.1)
 
 abbrev pub value_lines_of : Option Term → List ℕ
 value_lines_of (Some (Node (node k f))) = value_lines (readings f)
@@ -74,16 +75,12 @@ sexp_name = called name_of kind_of
 abbrev pub json_line_at : Cursor → List ℕ
 json_line_at c = compact_text (tree_json sexp_name c) ++ 10 ∷ []
 
--- the cursor at the root of a tree
-abbrev pub root_of : NodeTerm → Cursor
-root_of tree = record { root = tree; path = [] }
-
 -- what a command shows of a text that has this tree: the lines of the tree, if the text is ASCII; the
 -- lines of its values; its JSON
 abbrev pub Shows : Command → (text : List ℕ) → (tree : NodeTerm) → (shown : List ℕ) → Type 0
-Shows Tree text tree shown = IsAscii text → shown ≡ debug_tree sexp_name (root_of tree)
-Shows Eval text tree shown = shown ≡ value_lines_at (root_of tree)
-Shows Json text tree shown = shown ≡ json_line_at (root_of tree)
+Shows Tree text tree shown = IsAscii text → shown ≡ debug_tree sexp_name (cursor_at tree [])
+Shows Eval text tree shown = shown ≡ value_lines_at (cursor_at tree [])
+Shows Json text tree shown = shown ≡ json_line_at (cursor_at tree [])
 
 -- the command shows this of a text, by the tree that the grammar gives for it
 pub record IsShown (command : Command) (text shown : List ℕ) : Type 0 where

@@ -81,7 +81,8 @@ impl<L: Language> SyntaxNodePtr<L> {
             IfOk result (Resolves means self.now.range root.now) }
         ensures counts { let means = means_kind L.meaning L.Kind.eq self.now.kind in
             IfOk result (λ _. CountsResolving means self.now.range root.now steps.old steps.new) }
-        ensures grows { steps.old.comparisons ≤ steps.new.comparisons }
+        ensures grows { (steps.old.comparisons ≤ steps.new.comparisons)
+            × (steps.old.visits ≤ steps.new.visits) }
         ensures err { IfErr result (λ e. e ≡ Fault.Memory) }
     {
         if root.parent()?.is_some() {
@@ -106,6 +107,7 @@ impl<L: Language> SyntaxNodePtr<L> {
         ensures is { let means = means_kind L.meaning L.Kind.eq self.now.kind in
             result ≡ is_meant means self.now.range node.now.root node.now.path }
         ensures visits { steps.new.visits ≡ one_more steps.old.visits }
+        ensures grows { steps.old.visits ≤ steps.new.visits }
         ensures comparisons { steps.new.comparisons ≡ steps.old.comparisons }
     {
         steps.visit();

@@ -1,6 +1,5 @@
 //! Nodes and tokens as JSON.
 ghost use Rattle.std.specs.Prelude.{◌≡◌, map, IfOk, OnOk};
-ghost use Rattle.serde_json.specs.Data.{null};
 ghost use Rattle.serde_json.specs.View.{view};
 ghost use Rattle.rowan_cursor.specs.Cursor.{text_range};
 ghost use Rattle.rowan_api.specs.Printed.{called, kind_called, node_object, tree_json};
@@ -27,14 +26,7 @@ pub(super) fn node_json<L: Language>(alloc: Global, node: &SyntaxNode) -> Result
             WalkEvent::Leave(element) => draft.leave::<L>(alloc, &element)?,
         }
     }
-    Ok(draft.inner.pop().unwrap_or(nothing()))
-}
-
-// The value where nothing stands.
-fn nothing() -> Value
-    ensures { view result ≡ null }
-{
-    Value::Null
+    Ok(draft.inner.pop().unwrap_or_default())
 }
 
 // The value of a token.

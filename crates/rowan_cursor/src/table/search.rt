@@ -2,14 +2,12 @@
 ghost use Rattle.std.specs.Prelude.{◌≡◌, ℕ, ◌+◌, ◌-◌, ◌<◌, ◌≤◌, ◌↔◌, IfSome, IsNone, IsSome, map};
 ghost use Rattle.std.specs.List.{AllByRecursion};
 ghost use Rattle.rowan_green.specs.Path.{Path};
-ghost use Rattle.rowan_green.specs.Search.{digits};
 ghost use Rattle.rowan_green.specs.Span.{Holds};
-ghost use Rattle.rowan_green.specs.Steps.{count_limit};
 ghost use Rattle.rowan_green.specs.TokenAtOffset.{tokens_of};
 ghost use Rattle.rowan_cursor.specs.Chunks.{SkipsTo};
 ghost use Rattle.rowan_cursor.specs.Cursor.{text_range};
 ghost use Rattle.rowan_cursor.specs.Moves.{child_count};
-ghost use Rattle.rowan_cursor.specs.Search.{IsRangeChild, IsOnlyRangeChild, Covers, IsChildBefore, IsLeafOver, touching};
+ghost use Rattle.rowan_cursor.specs.Search.{IsRangeChild, IsOnlyRangeChild, CountsSearch, Covers, IsChildBefore, IsLeafOver, touching};
 
 use super::Table;
 use rowan_green::steps::Steps;
@@ -17,8 +15,26 @@ use rowan_green::text::{TextRange, TextSize};
 use rowan_green::utility_types::TokenAtOffset;
 use std::cmp::Ordering;
 
+/// An entry, and where its text lies.
+#[derive(Clone, Copy)]
+struct Place {
+    number: usize,
+    range: TextRange,
+}
+
 impl Table {
-    ghost use Rattle.rowan_cursor.specs.TableView.{root_of, path_at, cursor_of, IsWithin, IsTokenIn, IsChildUpTo};
+    ghost use Rattle.rowan_cursor.specs.TableView.{root_of, path_at, cursor_of, IsWithin, IsTokenIn, IsPlace, IsChildUpTo};
+
+    fn place(&self, number: usize) -> Place
+        requires { IsWithin self.now number }
+        ensures number { result.number ≡ number }
+        ensures place { IsPlace self.now result }
+    {
+        Place {
+            number,
+            range: self.text_range(number),
+        }
+    }
 
     /// The child at a range of the root's text. Counts the comparisons.
     pub(crate) fn child_at_range(
@@ -28,27 +44,16 @@ impl Table {
         steps: &mut Steps,
     ) -> Option<usize>
         requires { IsWithin self.now number }
-        // the answer
         ensures child { let here = path_at self.now number in
             IfSome result (λ n. IsRangeChild (root_of self.now) range here (path_at self.now n)) }
         ensures none { let here = path_at self.now number in
             IsNone result → (q : Path) → ¬ IsRangeChild (root_of self.now) range here q }
         ensures within { IfSome result (IsWithin self.now) }
-        ensures later { IfSome result (λ n. number < n) }
-
-        // the counters
-        ensures most { let children = child_count (root_of self.now) (path_at self.now number) in
-            steps.new.comparisons ≤ steps.old.comparisons + digits children }
-        ensures least { IsSome result → steps.old.comparisons < count_limit
-            → steps.old.comparisons < steps.new.comparisons }
-        ensures grows { steps.old.comparisons ≤ steps.new.comparisons }
-        ensures visits { steps.new.visits ≡ steps.old.visits }
+        ensures counts { let children = child_count (root_of self.now) (path_at self.now number) in
+            CountsSearch children (IsSome result) steps.old steps.new }
     {
-        let end = self.text_range(number).end();
-        match self.child_in(number, end, range, steps) {
-            Some((child, _)) => Some(child),
-            None => None,
-        }
+        let child = self.child_in(&self.place(number), range, steps)?;
+        Some(child.number)
     }
 
     // Where the text of a child lies: up to where the next child's begins, and the last's up to where the parent's ends. The
@@ -64,94 +69,65 @@ impl Table {
         TextRange::new(start, self.start(child + 1))
     }
 
-    // The only child that can be the one at a range, and where its text lies; none, if there are no children. By halves: it
-    // reads entries alone, which stand side by side. Counts the comparisons.
-    fn only_child_at(
-        &self,
-        number: usize,
-        end: TextSize,
-        range: TextRange,
-        steps: &mut Steps,
-    ) -> Option<(usize, TextRange)>
-        requires number { IsWithin self.now number }
-        requires end { end ≡ (text_range (cursor_of self.now number)).end }
-        requires from { (text_range (cursor_of self.now number)).start ≤ range.start }
-        // the answer
-        ensures only { let here = path_at self.now number in IfSome result
-            (λ c. IsOnlyRangeChild (root_of self.now) range here (path_at self.now c.0)) }
-        ensures range { IfSome result (λ c. c.1 ≡ text_range (cursor_of self.now c.0)) }
-        ensures none { IsNone result
-            → child_count (root_of self.now) (path_at self.now number) ≡ 0 }
-        ensures within { IfSome result (λ c. IsWithin self.now c.0) }
-        ensures later { IfSome result (λ c. number < c.0) }
+    // The only child that can be the one at a range; none, if there are no children. By halves: it reads entries alone, which
+    // stand side by side. Counts the comparisons.
+    fn only_child_at(&self, parent: &Place, range: TextRange, steps: &mut Steps) -> Option<Place>
+        requires place { IsPlace self.now parent.now }
+        requires from { parent.now.range.start ≤ range.start }
 
-        // the counters
-        ensures most { let children = child_count (root_of self.now) (path_at self.now number) in
-            steps.new.comparisons ≤ steps.old.comparisons + digits children }
-        ensures least { IsSome result → steps.old.comparisons < count_limit
-            → steps.old.comparisons < steps.new.comparisons }
-        ensures grows { steps.old.comparisons ≤ steps.new.comparisons }
-        ensures visits { steps.new.visits ≡ steps.old.visits }
+        ensures only { let here = path_at self.now parent.now.number in IfSome result
+            (λ c. IsOnlyRangeChild (root_of self.now) range here (path_at self.now c.number)) }
+        ensures place { IfSome result (IsPlace self.now) }
+        ensures none { IsNone result
+            → child_count (root_of self.now) (path_at self.now parent.now.number) ≡ 0 }
+        ensures later { IfSome result (λ c. parent.now.number < c.number) }
+        ensures counts { let children = child_count (root_of self.now) (path_at self.now parent.now.number) in
+            CountsSearch children (IsSome result) steps.old steps.new }
     {
-        let children = self.child_numbers(number);
+        let children = self.child_numbers(parent.number);
         if children.start == children.end {
             return None;
         }
+        let end = parent.range.end();
         let mut low = 0;
         let mut high = children.end - children.start;
         while low < high {
             let middle = low + (high - low) / 2;
-            let child = children.start + middle;
-            let own = self.child_range(child, children.end, end);
+            let number = children.start + middle;
+            let own = self.child_range(number, children.end, end);
             steps.compare();
             match own.ordering(range) {
                 Ordering::Less => low = middle + 1,
-                Ordering::Equal => return Some((child, own)),
+                Ordering::Equal => return Some(Place { number, range: own }),
                 Ordering::Greater => high = middle,
             }
         }
-        let last = children.start + low.saturating_sub(1);
-        Some((last, self.child_range(last, children.end, end)))
+        let number = children.start + low.saturating_sub(1);
+        let range = self.child_range(number, children.end, end);
+        Some(Place { number, range })
     }
 
-    // The child at a range of the root's text, and where the child's text ends, by where the entry's ends. Counts the
-    // comparisons.
-    fn child_in(
-        &self,
-        number: usize,
-        end: TextSize,
-        range: TextRange,
-        steps: &mut Steps,
-    ) -> Option<(usize, TextSize)>
-        requires number { IsWithin self.now number }
-        requires end { end ≡ (text_range (cursor_of self.now number)).end }
-        // the answer
-        ensures child { let here = path_at self.now number in
-            IfSome result (λ c. IsRangeChild (root_of self.now) range here (path_at self.now c.0)) }
-        ensures end { IfSome result (λ c. c.1 ≡ (text_range (cursor_of self.now c.0)).end) }
-        ensures none { let here = path_at self.now number in
-            IsNone result → (q : Path) → ¬ IsRangeChild (root_of self.now) range here q }
-        ensures within { IfSome result (λ c. IsWithin self.now c.0) }
-        ensures later { IfSome result (λ c. number < c.0) }
+    // The child at a range of the root's text. Counts the comparisons.
+    fn child_in(&self, parent: &Place, range: TextRange, steps: &mut Steps) -> Option<Place>
+        requires { IsPlace self.now parent.now }
 
-        // the counters
-        ensures most { let children = child_count (root_of self.now) (path_at self.now number) in
-            steps.new.comparisons ≤ steps.old.comparisons + digits children }
-        ensures least { IsSome result → steps.old.comparisons < count_limit
-            → steps.old.comparisons < steps.new.comparisons }
-        ensures grows { steps.old.comparisons ≤ steps.new.comparisons }
-        ensures visits { steps.new.visits ≡ steps.old.visits }
+        ensures child { let here = path_at self.now parent.now.number in IfSome result
+            (λ c. IsRangeChild (root_of self.now) range here (path_at self.now c.number)) }
+        ensures place { IfSome result (IsPlace self.now) }
+        ensures none { let here = path_at self.now parent.now.number in
+            IsNone result → (q : Path) → ¬ IsRangeChild (root_of self.now) range here q }
+        ensures later { IfSome result (λ c. parent.now.number < c.number) }
+        ensures counts { let children = child_count (root_of self.now) (path_at self.now parent.now.number) in
+            CountsSearch children (IsSome result) steps.old steps.new }
     {
-        if range.start() < self.start(number) {
+        if range.start() < parent.range.start() {
             return None;
         }
-        let Some(only) = self.only_child_at(number, end, range, steps) else {
-            return None;
-        };
-        if !only.1.contains_range(range) {
+        let only = self.only_child_at(parent, range, steps)?;
+        if !only.range.contains_range(range) {
             return None;
         }
-        Some((only.0, only.1.end()))
+        Some(only)
     }
 
     /// The element that covers a range of the root's text, of those at and below an entry.
@@ -161,22 +137,19 @@ impl Table {
             Covers (root_of self.now) range here (path_at self.now result) }
         ensures within { IsWithin self.now result }
     {
-        let end = self.text_range(number).end();
-        self.covering_in(number, end, range).0
+        self.covering(&self.place(number), range).number
     }
 
-    // The element that covers a range, and where its text ends, by where the entry's ends.
-    fn covering_in(&self, number: usize, end: TextSize, range: TextRange) -> (usize, TextSize)
-        requires number { IsWithin self.now number }
-        requires end { end ≡ (text_range (cursor_of self.now number)).end }
-        ensures covers { let here = path_at self.now number in
-            Covers (root_of self.now) range here (path_at self.now result.0) }
-        ensures end { result.1 ≡ (text_range (cursor_of self.now result.0)).end }
-        ensures within { IsWithin self.now result.0 }
+    // The place of the element that covers a range, of those at and below a place.
+    fn covering(&self, top: &Place, range: TextRange) -> Place
+        requires { IsPlace self.now top.now }
+        ensures covers { let here = path_at self.now top.now.number in
+            Covers (root_of self.now) range here (path_at self.now result.number) }
+        ensures place { IsPlace self.now result }
     {
         let mut steps = Steps::new();
-        let mut covering = (number, end);
-        while let Some(child) = self.child_in(covering.0, covering.1, range, &mut steps) {
+        let mut covering = *top;
+        while let Some(child) = self.child_in(&covering, range, &mut steps) {
             covering = child;
         }
         covering
@@ -221,42 +194,38 @@ impl Table {
         number
     }
 
-    // The token that has a byte of the root's text, at or below an entry that has it, whose text ends at `end`.
-    fn leaf_over(&self, number: usize, end: TextSize, byte: TextSize) -> usize
-        requires number { IsWithin self.now number }
-        requires end { end ≡ (text_range (cursor_of self.now number)).end }
-        requires from { (text_range (cursor_of self.now number)).start ≤ byte }
-        requires to { byte < (text_range (cursor_of self.now number)).end }
-        ensures leaf { let here = path_at self.now number in
+    // The token that has a byte of the root's text, at or below a place that has it.
+    fn leaf_over(&self, top: &Place, byte: TextSize) -> usize
+        requires place { IsPlace self.now top.now }
+        requires from { top.now.range.start ≤ byte }
+        requires to { byte < top.now.range.end }
+        ensures leaf { let here = path_at self.now top.now.number in
             IsLeafOver (root_of self.now) byte here (path_at self.now result) }
         ensures token { IsTokenIn self.now result }
     {
         let over = TextRange::at(byte, TextSize::from(1));
-        self.covering_in(number, end, over).0
+        self.covering(top, over).number
     }
 
-    // The tokens that have the byte before an offset of the root's text and the byte behind it, at or below an entry that has
-    // both bytes, and whose text ends at `end`. The searches part at the element that covers both.
-    fn leaves_beside(&self, number: usize, end: TextSize, offset: TextSize) -> (usize, usize)
-        // the entry has both bytes
-        requires number { IsWithin self.now number }
-        requires end { end ≡ (text_range (cursor_of self.now number)).end }
-        requires from { (text_range (cursor_of self.now number)).start < offset }
-        requires to { offset < (text_range (cursor_of self.now number)).end }
+    // The tokens that have the byte before an offset of the root's text and the byte behind it, at or below a place that has
+    // both bytes. The searches part at the element that covers both.
+    fn leaves_beside(&self, top: &Place, offset: TextSize) -> (usize, usize)
+        // the place has both bytes
+        requires place { IsPlace self.now top.now }
+        requires from { top.now.range.start < offset }
+        requires to { offset < top.now.range.end }
 
         // the tokens
-        ensures left { let here = path_at self.now number in
+        ensures left { let here = path_at self.now top.now.number in
             IsLeafOver (root_of self.now) (offset - 1) here (path_at self.now result.0) }
-        ensures right { let here = path_at self.now number in
+        ensures right { let here = path_at self.now top.now.number in
             IsLeafOver (root_of self.now) offset here (path_at self.now result.1) }
         ensures tokens { IsTokenIn self.now result.0 × IsTokenIn self.now result.1 }
     {
         let before = TextSize::from(u32::from(offset) - 1);
         let beside = TextRange::at(before, TextSize::from(2));
-        let both = self.covering_in(number, end, beside);
-        let left = self.leaf_over(both.0, both.1, before);
-        let right = self.leaf_over(both.0, both.1, offset);
-        (left, right)
+        let both = self.covering(top, beside);
+        (self.leaf_over(&both, before), self.leaf_over(&both, offset))
     }
 
     /// The tokens at or below an entry that touch an offset of the root's text. The offset lies in the entry's text or at an end
@@ -270,19 +239,18 @@ impl Table {
             (result ≡ TokenAtOffset.None) ↔ (whole.start ≡ whole.end) }
         ensures tokens { AllByRecursion (IsTokenIn self.now) (tokens_of result) }
     {
-        let range = self.text_range(number);
-        if range.is_empty() {
+        let top = self.place(number);
+        if top.range.is_empty() {
             return TokenAtOffset::None;
         }
-        let end = range.end();
-        if offset == range.start() {
-            return TokenAtOffset::Single(self.leaf_over(number, end, offset));
+        if offset == top.range.start() {
+            return TokenAtOffset::Single(self.leaf_over(&top, offset));
         }
-        if offset == end {
+        if offset == top.range.end() {
             let last = TextSize::from(u32::from(offset) - 1);
-            return TokenAtOffset::Single(self.leaf_over(number, end, last));
+            return TokenAtOffset::Single(self.leaf_over(&top, last));
         }
-        let (left, right) = self.leaves_beside(number, end, offset);
+        let (left, right) = self.leaves_beside(&top, offset);
         if left == right {
             TokenAtOffset::Single(left)
         } else {

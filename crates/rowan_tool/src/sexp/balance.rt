@@ -8,10 +8,7 @@ pub fn is_balanced(text: &str) -> bool
     ensures { IsTrue result ↔ IsBalanced text.now }
 {
     let bytes = text.as_bytes();
-    if bytes.is_empty() {
-        return false;
-    }
-    if bytes[0] != b'(' {
+    if bytes.first() != Some(&b'(') {
         return false;
     }
     let mut depth = 0;

@@ -1,4 +1,4 @@
-use Rattle.std.proofs.Common.{arith, ◌∙◌, ap}
+use Rattle.std.proofs.Common.{arith, ◌∙◌}
 use Rattle.serde_json.specs.Data.{null}
 use Rattle.serde_json.specs.View.{view}
 use Rattle.rowan_api.specs.Printed.{called}
@@ -19,8 +19,7 @@ pub returns : goal.returns
 returns g c =
     let name = called g.L.Language.name g.L.Language.meaning in
     let draft = c.loop-event.draft in
-    ap view c.unwrap_or.ensures
-    ∙ last-mapped view draft.inner.items c.pop.new.self.items c.pop.result c.nothing.result null c.pop.ensures.items
+    last-mapped view draft.inner.items c.pop.new.self.items c.pop.result c.unwrap_or_default.result null c.pop.ensures.items
     (λ none. let gone = rw none at c.pop.ensures.cases in empty-length draft.inner.items (omega (arith, gone.0, draft.inner.ok.0)))
-    c.nothing.ensures
+    c.unwrap_or_default.ensures
     ∙ makes-all name c.args.node.now c.loop-event.event-iterator c.next.new.self (values_of draft) c.loop-event.invariant.2 c.in-None.ensures.steps

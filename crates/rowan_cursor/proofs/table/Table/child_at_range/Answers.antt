@@ -1,5 +1,9 @@
-use Rattle.std.proofs.Common.{refl}
+use Rattle.std.proofs.Common.{refl, sym, subst}
+use Rattle.rowan_cursor.specs.Search.{IsRangeChild}
+use Rattle.rowan_cursor.specs.TableView.{root_of, path_at}
 use Rattle.rowan_cursor.proofs.table.Table.child_at_range.Goals as goal
 
-pub returns-in-None-clause-none : goal.returns-in-None-clause-none
-returns-in-None-clause-none c = λ none q h. c.in-None.ensures.none refl q h
+pub returns-in_err-child-clause-none : goal.returns-in_err-child-clause-none
+returns-in_err-child-clause-none c = λ none q h.
+    let t = c.args.self.now in
+    c.in_err-child.ensures.none refl q (subst (λ n. IsRangeChild (root_of t) c.args.range (path_at t n) q) (sym c.place.ensures.number) h)

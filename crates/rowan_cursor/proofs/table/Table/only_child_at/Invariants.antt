@@ -10,7 +10,7 @@ use Rattle.rowan_cursor.proofs.table.Table.only_child_at.Given as goal
 abbrev pub invariant-loop-low : goal.invariant-loop-low
 invariant-loop-low l =
     let root = Node (root_of l.self) in
-    let p = path_at l.self l.number in
+    let p = path_at l.self l.fn.parent.number in
     let ts = children_of (subterm root p) in
     IsNarrowed ts (l.range.start - offset root p) (l.range.end - offset root p) l.low l.high
     × IsCounted (length ts) (l.high - l.low) l.initial.steps.comparisons l.steps.comparisons

@@ -1,5 +1,4 @@
 use Rattle.std.proofs.Common.{sym, ◌∙◌, ap, Some, None, arith}
-use Rattle.rowan_green.specs.declared.utility_types.NodeOrToken.TheVariants.{Node, Token}
 use Rattle.rowan.specs.Pointer.{means_kind}
 use Rattle.rowan.proofs.PointerLemmas.{in-view, search-here, search-none, search-token, search-next, search-from, finds-node, finds-token, finds-none, finds-smaller, finds-standing, root-path, parent-none, rises-some, top-resolves, top-counts}
 use Rattle.rowan.proofs.ast.ptr.SyntaxNodePtr+L.try_to_node_counted.Goals as goal
@@ -23,6 +22,7 @@ loop-self-preserved g c =
       finds-standing span node child f,
       λ found last s. c.loop-self.invariant.1 found last (search-next means span node.root node.path child.path found c.loop-self.steps middle new last c.loop-self.invariant.0 (sym c.is_to.ensures.is ∙ c.loop-self-test.true) f.child f.node c.is_to.ensures.visits c.is_to.ensures.comparisons counts.visits counts.most counts.grows (rises-some c.in_ok-child.field-0 c.in-Some.child c.in-Some.is c.in_ok-child.ensures.least) (search-from means span node child found new last f s)),
       omega (arith, c.loop-self.invariant.2, c.is_to.ensures.comparisons, counts.grows),
+      omega (arith, c.loop-self.invariant.3, c.is_to.ensures.grows, counts.visits),
     )
 
 -- no child

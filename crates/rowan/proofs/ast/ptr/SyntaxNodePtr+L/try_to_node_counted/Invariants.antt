@@ -14,6 +14,7 @@ invariant-loop-self g l =
     (is_node_at l.node.root l.node.path ≡ true)
     × ((found : Option Cursor) (last : Tally) → Search means l.self.range l.node.root l.node.path found l.steps last → Search means l.self.range l.root.root l.root.path found l.fn.steps last)
     × (l.fn.steps.comparisons ≤ l.steps.comparisons)
+    × (l.fn.steps.visits ≤ l.steps.visits)
 
 abbrev pub decreases-loop-self : goal.decreases-loop-self
 decreases-loop-self g l = size_at l.node.root l.node.path
