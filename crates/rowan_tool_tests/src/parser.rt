@@ -1,6 +1,6 @@
 //! The parser of s-expressions.
 use rowan::{Fault, TextRange, TextSize};
-use rowan_tool::sexp::{SyntaxKind, parse};
+use rowan_tool::sexp::{SyntaxKind, parse, reparse_all};
 use std::alloc::Global;
 use std::test::Fail;
 
@@ -10,6 +10,13 @@ fn cursor_stands_at_the_root(rt: HostRuntime) -> Result<(), Fail> {
     assert!(rt; root.kind() == SyntaxKind::ROOT);
     assert!(rt; root.text_range() == TextRange::new(TextSize::from(0), TextSize::from(6)));
     assert!(rt; root.to_string(rt.alloc())?.as_str() == "(a é)");
+    Ok(())
+}
+
+#[test]
+fn no_edits_leave_the_tree_of_the_text(rt: HostRuntime) -> Result<(), Fail> {
+    let parsed = parse(rt.alloc(), "(a")?;
+    assert!(rt; reparse_all(rt.alloc(), "(a", &[])? == *parsed.green());
     Ok(())
 }
 
