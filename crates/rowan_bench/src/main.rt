@@ -7,6 +7,7 @@ mod depth;
 mod draws;
 mod edits;
 mod printed;
+mod reparse;
 mod timed;
 mod typed;
 mod walks;
@@ -34,6 +35,7 @@ usage: rowan_bench depth parse|compare|show LEVELS
        rowan_bench typed raw|walk|pointers TURNS
        rowan_bench edits replace|root|trace|cursors|green TURNS
        rowan_bench printed debug_tree|json TURNS
+       rowan_bench reparse list|table|whole TURNS
 
 depth   parses that many lists, one in the other, and then
           parse    drops the tree
@@ -74,7 +76,11 @@ edits   parses the s-expressions of standard input, and then in each turn
           green    makes them in green trees alone, and then a cursor at the last root
 printed parses the s-expressions of standard input, makes a cursor at the root, and then in each turn
           debug_tree  prints the tree, a line for each node and token
-          json        makes the JSON value of the tree, and its compact text";
+          json        makes the JSON value of the tree, and its compact text
+reparse parses the s-expressions of standard input, and then in each turn
+          list     parses a list of 100 bytes or more in the middle anew, 1,000 times, by a cursor that is there
+          table    parses it anew 10 times after a first one, each time in a new tree, where it is found by a new cursor
+          whole    parses the whole text anew";
 
 fn main(rt: HostRuntime) -> ExitCode {
     match run(&rt) {
@@ -106,6 +112,7 @@ fn run(rt: &HostRuntime) -> Result<()> {
         "typed" => walk_typed(rt, words),
         "edits" => replace(rt, words),
         "printed" => print(rt, words),
+        "reparse" => parse_anew(rt, words),
         _ => bail!("there is no such command"),
     }
 }
@@ -278,6 +285,18 @@ fn print(rt: &HostRuntime, words: &[String]) -> Result<()> {
     let parsed = sexp::parse(rt.alloc(), text.as_str())?;
     let (total, len) = printed::time(rt, parsed.green(), form, turns)?;
     println!(rt; "{} ns, {len}", total.as_nanos())?;
+    Ok(())
+}
+
+fn parse_anew(rt: &HostRuntime, words: &[String]) -> Result<()> {
+    let operation = reparse::Operation::from_word(word_at(words, 1)).context(
+        "list, table or whole is missing",
+    )?;
+    let turns = number_at(words, 2)?;
+    let text = io::read_to_string(rt.alloc(), rt.reader())?;
+    let parsed = sexp::parse(rt.alloc(), text.as_str())?;
+    let (total, marks) = reparse::time(rt, parsed.green(), operation, turns)?;
+    println!(rt; "{} ns, {marks}", total.as_nanos())?;
     Ok(())
 }
 
