@@ -6,6 +6,7 @@ mod depth;
 mod draws;
 mod edits;
 mod printed;
+mod reparse;
 mod timed;
 mod typed;
 mod walks;
@@ -29,6 +30,7 @@ usage: beside_rowan tree|json|eval
        beside_rowan typed raw|walk|pointers TURNS
        beside_rowan edits replace|root|trace|cursors|green TURNS
        beside_rowan printed debug_tree|json|value TURNS
+       beside_rowan reparse list|table|whole TURNS
 
 The first line is what the program rowan does. The others do what rowan_bench does by the same words, and write the same lines,
 but for what rowan does not tell: a cache's counts and the comparisons of a search. There is no `search`: rowan keeps
@@ -56,6 +58,7 @@ pub fn run(words: &[&str]) -> Result<(), Failure> {
         "typed" => walk_typed(words),
         "edits" => replace(words),
         "printed" => print(words),
+        "reparse" => parse_anew(words),
         _ => Err("there is no such command".into()),
     }
 }
@@ -203,6 +206,16 @@ fn print(words: &[&str]) -> Result<(), Failure> {
     let tree = sexp::parse(&read_input()?);
     let (total, len) = printed::time(tree, form, turns)?;
     println!("{} ns, {len}", total.as_nanos());
+    Ok(())
+}
+
+fn parse_anew(words: &[&str]) -> Result<(), Failure> {
+    let operation = reparse::Operation::from_word(word_at(words, 1))
+        .ok_or("list, table or whole is missing")?;
+    let turns = number_at(words, 2)?;
+    let tree = sexp::parse(&read_input()?);
+    let (total, marks) = reparse::time(tree, operation, turns);
+    println!("{} ns, {marks}", total.as_nanos());
     Ok(())
 }
 
