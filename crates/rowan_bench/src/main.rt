@@ -79,7 +79,7 @@ printed parses the s-expressions of standard input, makes a cursor at the root, 
           json        makes the JSON value of the tree, and its compact text
 reparse parses the s-expressions of standard input, and then in each turn
           list     parses a list of 100 bytes or more in the middle anew, 1,000 times, by a cursor that is there
-          table    parses it anew 10 times after a first one, each time in a new tree, where it is found by a new cursor
+          table    finds it, parses it anew and makes a cursor at the new root, 10 times, each in the tree of the time before
           whole    parses the whole text anew";
 
 fn main(rt: HostRuntime) -> ExitCode {

@@ -10,7 +10,7 @@ use std::time::{Duration, Instant};
 /// How often the list is parsed anew in one turn, where the cursor at it is there.
 const TIMES: usize = 1_000;
 
-/// How often it is in one turn, where it is found in a tree that has no table yet.
+/// How many trees are made in one turn, each from the one before.
 const TREES: usize = 10;
 
 /// The list has at least so many bytes.
@@ -21,7 +21,7 @@ const LEAST: u32 = 100;
 pub enum Operation {
     /// The list is parsed anew, by a cursor that is there.
     List,
-    /// The list is parsed anew, with a cursor at the new root, where the list is found again.
+    /// The list is found, and parsed anew, and a cursor is made at the new root.
     Table,
     /// The whole text is parsed anew.
     Whole,
@@ -77,22 +77,22 @@ fn parse_often(alloc: Global, list: &List, text: &str) -> Result<GreenNode, Faul
     Ok(tree)
 }
 
-/// Parses the list at an offset anew, each time in the tree that the time before left, and answers the last one. At the root of
-/// each a cursor is made, and the list is found again.
+/// Finds the list at an offset, parses it anew and makes a cursor at the new root, in each tree that comes of the one before.
+/// Answers the last one.
 fn parse_in_each(
     alloc: Global,
-    list: &List,
+    root: &SyntaxNode<Lang>,
     offset: TextSize,
     text: &str,
 ) -> Result<GreenNode, Fault> {
-    let mut tree = sexp::reparse_list(alloc, list, text)?;
+    let mut root = root.clone()?;
     for _ in 0..TREES {
-        let root = SyntaxNode::new_root(alloc, tree.clone()?)?;
         if let Some(list) = list_at(&root, offset)? {
-            tree = sexp::reparse_list(alloc, &list, text)?;
+            let tree = sexp::reparse_list(alloc, &list, text)?;
+            root = SyntaxNode::new_root(alloc, tree)?;
         }
     }
-    Ok(tree)
+    Ok(root.green().clone()?)
 }
 
 /// What a turn of an operation needs, which is made before the time is taken.
@@ -100,7 +100,7 @@ fn parse_in_each(
 enum Turn {
     Nothing,
     List(List, String),
-    Table(List, TextSize, String),
+    Table(SyntaxNode<Lang>, TextSize, String),
     Whole(String),
 }
 
@@ -114,7 +114,7 @@ impl Turn {
         let text = marked(alloc, &list)?;
         match operation {
             Operation::List => Ok(Turn::List(list, text)),
-            Operation::Table => Ok(Turn::Table(list, offset, text)),
+            Operation::Table => Ok(Turn::Table(root, offset, text)),
             Operation::Whole => {
                 let tree = sexp::reparse_list(alloc, &list, text.as_str())?;
                 Ok(Turn::Whole(text_of(alloc, &tree)?))
@@ -126,8 +126,8 @@ impl Turn {
         match self {
             Turn::Nothing => Ok(None),
             Turn::List(list, text) => Ok(Some(parse_often(alloc, list, text.as_str())?)),
-            Turn::Table(list, offset, text) => {
-                Ok(Some(parse_in_each(alloc, list, *offset, text.as_str())?))
+            Turn::Table(root, offset, text) => {
+                Ok(Some(parse_in_each(alloc, root, *offset, text.as_str())?))
             }
             Turn::Whole(text) => Ok(Some(sexp::parse(alloc, text.as_str())?.green().clone()?)),
         }

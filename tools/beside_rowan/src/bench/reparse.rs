@@ -8,7 +8,7 @@ use std::time::{Duration, Instant};
 /// How often the list is parsed anew in one turn, where the cursor at it is there.
 const TIMES: usize = 1_000;
 
-/// How often it is in one turn, where it is found in a tree that has no cursor yet.
+/// How many trees are made in one turn, each from the one before.
 const TREES: usize = 10;
 
 /// The list has at least so many bytes.
@@ -19,7 +19,7 @@ const LEAST: u32 = 100;
 pub enum Operation {
     /// The list is parsed anew, by a cursor that is there.
     List,
-    /// The list is parsed anew, with a cursor at the new root, where the list is found again.
+    /// The list is found, and parsed anew, and a cursor is made at the new root.
     Table,
     /// The whole text is parsed anew.
     Whole,
@@ -88,22 +88,21 @@ fn parse_often(list: &List, text: &str) -> Option<GreenNode> {
     Some(tree)
 }
 
-/// Parses the list at an offset anew, each time in the tree that the time before left, and answers the last one. At the root of
-/// each a cursor is made, and the list is found again.
-fn parse_in_each(list: &List, offset: TextSize, text: &str) -> Option<GreenNode> {
-    let mut tree = reparse_list(list, text)?;
+/// Finds the list at an offset, parses it anew and makes a cursor at the new root, in each tree that comes of the one before.
+/// Answers the last one.
+fn parse_in_each(root: &SyntaxNode, offset: TextSize, text: &str) -> Option<GreenNode> {
+    let mut root = root.clone();
     for _ in 0..TREES {
-        let root = SyntaxNode::new_root(tree);
-        tree = reparse_list(&list_at(&root, offset)?, text)?;
+        root = SyntaxNode::new_root(reparse_list(&list_at(&root, offset)?, text)?);
     }
-    Some(tree)
+    Some(GreenNodeData::to_owned(&root.green()))
 }
 
 /// What a turn of an operation needs, which is made before the time is taken.
 enum Turn {
     Nothing,
     List(List, String),
-    Table(List, TextSize, String),
+    Table(SyntaxNode, TextSize, String),
     Whole(String),
 }
 
@@ -117,7 +116,7 @@ impl Turn {
         let text = marked(&list);
         match operation {
             Operation::List => Turn::List(list, text),
-            Operation::Table => Turn::Table(list, offset, text),
+            Operation::Table => Turn::Table(root, offset, text),
             Operation::Whole => match reparse_list(&list, &text) {
                 Some(tree) => Turn::Whole(tree.to_string()),
                 None => Turn::Nothing,
@@ -129,7 +128,7 @@ impl Turn {
         match self {
             Turn::Nothing => None,
             Turn::List(list, text) => parse_often(list, text),
-            Turn::Table(list, offset, text) => parse_in_each(list, *offset, text),
+            Turn::Table(root, offset, text) => parse_in_each(root, *offset, text),
             Turn::Whole(text) => Some(sexp::parse(text)),
         }
     }
