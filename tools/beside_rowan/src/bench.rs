@@ -180,8 +180,8 @@ fn walk(words: &[&str]) -> Result<(), Failure> {
 }
 
 fn walk_typed(words: &[&str]) -> Result<(), Failure> {
-    let operation = typed::Operation::from_word(word_at(words, 1))
-        .ok_or("raw, walk or pointers is missing")?;
+    let operation =
+        typed::Operation::from_word(word_at(words, 1)).ok_or("raw, walk or pointers is missing")?;
     let turns = number_at(words, 2)?;
     let tree = sexp::parse(&read_input()?);
     let (total, number) = typed::time(tree, operation, turns);

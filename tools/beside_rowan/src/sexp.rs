@@ -5,7 +5,7 @@ use rowan::ast::{support, AstChildren, AstNode};
 use rowan::{GreenNode, GreenNodeBuilder, NodeCache};
 
 /// The kind of a token or a node of an s-expression.
-#[allow(non_camel_case_types)]
+#[allow(non_camel_case_types, clippy::upper_case_acronyms)]
 #[derive(Clone, Copy, PartialEq, Eq, PartialOrd, Ord, Hash, Debug)]
 #[repr(u16)]
 pub enum SyntaxKind {

@@ -67,7 +67,7 @@ impl Move {
     }
 
     /// Where it leads, if anywhere.
-    fn from_place(self, place: &SyntaxElement) -> Option<SyntaxElement> {
+    fn leads_from(self, place: &SyntaxElement) -> Option<SyntaxElement> {
         match (self, place) {
             (Move::Parent, _) => place.parent().map(SyntaxElement::from),
             (Move::FirstChild, NodeOrToken::Node(node)) => node.first_child_or_token(),
@@ -90,7 +90,7 @@ fn make_moves(root: &SyntaxNode, moves: &[Move]) -> Visited {
     let mut places = 1;
     let mut place = SyntaxElement::from(root.clone());
     for to in moves {
-        if let Some(next) = to.from_place(&place) {
+        if let Some(next) = to.leads_from(&place) {
             place = next;
             places += 1;
         }
@@ -117,7 +117,7 @@ impl NodeMove {
     }
 
     /// Where it leads, if anywhere.
-    fn from_node(self, node: &SyntaxNode) -> Option<SyntaxNode> {
+    fn leads_from(self, node: &SyntaxNode) -> Option<SyntaxNode> {
         match self {
             NodeMove::Parent => node.parent(),
             NodeMove::NextSibling => node.next_sibling(),
@@ -137,7 +137,7 @@ fn make_node_moves(root: &SyntaxNode, moves: &[NodeMove]) -> Visited {
     let mut places = 1;
     let mut node = root.clone();
     for to in moves {
-        if let Some(next) = to.from_node(&node) {
+        if let Some(next) = to.leads_from(&node) {
             node = next;
             places += 1;
         }

@@ -93,7 +93,7 @@ fn middle_edit(root: &SyntaxNode) -> Option<(SyntaxToken, Edit)> {
 }
 
 fn green_of(root: &SyntaxNode) -> GreenNode {
-    GreenNodeData::to_owned(&root.green())
+    root.green().to_owned()
 }
 
 /// Makes the edit so often, and answers the last tree.

@@ -40,8 +40,8 @@ impl Operation {
 /// The innermost list of `LEAST` bytes or more around the token at an offset, of two the right one.
 fn list_at(root: &SyntaxNode, offset: TextSize) -> Option<List> {
     let token = root.token_at_offset(offset).right_biased()?;
-    let mut nodes = std::iter::successors(token.parent(), SyntaxNode::parent);
-    nodes.find_map(|it| if u32::from(it.text_range().len()) < LEAST { None } else { List::cast(it) })
+    let nodes = std::iter::successors(token.parent(), SyntaxNode::parent);
+    nodes.filter(|node| u32::from(node.text_range().len()) >= LEAST).find_map(List::cast)
 }
 
 /// The text of a list, with a mark in the place of each hyphen. It is a list, too, and as long.
@@ -95,7 +95,7 @@ fn parse_in_each(root: &SyntaxNode, offset: TextSize, text: &str) -> Option<Gree
     for _ in 0..TREES {
         root = SyntaxNode::new_root(reparse_list(&list_at(&root, offset)?, text)?);
     }
-    Some(GreenNodeData::to_owned(&root.green()))
+    Some(root.green().to_owned())
 }
 
 /// What a turn of an operation needs, which is made before the time is taken.
