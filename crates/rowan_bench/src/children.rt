@@ -3,6 +3,7 @@ ghost use Rattle.std.specs.Prelude.{◌<◌, length};
 ghost use Rattle.rowan_green.specs.Term.{node_children};
 
 use crate::draws::Draws;
+use rowan::cursor::SyntaxNode;
 use rowan::{Fault, GreenElement, GreenNode, GreenToken, Steps, SyntaxKind, TextRange, TextSize};
 use std::alloc::Global;
 
@@ -91,6 +92,18 @@ pub fn search(node: &GreenNode, ranges: &[TextRange], steps: &mut Steps) -> usiz
         }
     }
     found
+}
+
+/// Searches the child at each of these ranges, by a cursor at the node, and answers how many there are.
+pub fn reach(root: &SyntaxNode, ranges: &[TextRange]) -> Result<usize, Fault> {
+    let whole = root.text_range();
+    let mut found = 0usize;
+    for range in ranges {
+        if whole.contains_range(*range) && root.child_or_token_at_range(*range)?.is_some() {
+            found = found.saturating_add(1);
+        }
+    }
+    Ok(found)
 }
 
 /// An edit of a node at one of its children.

@@ -6,6 +6,8 @@ mod cursors;
 mod depth;
 mod draws;
 mod edits;
+mod printed;
+mod reparse;
 mod timed;
 mod typed;
 mod walks;
@@ -26,11 +28,14 @@ usage: rowan_bench depth parse|compare|show LEVELS
        rowan_bench parse
        rowan_bench intern tokens|nodes COUNT
        rowan_bench search shared|own CHILDREN TIMES
+       rowan_bench reach shared|own CHILDREN TIMES
        rowan_bench edit shared|own CHILDREN TIMES
        rowan_bench cursors fill|whole|walk|move|nodes TURNS
        rowan_bench walks events|offset|cover|copy|find|equal TURNS
        rowan_bench typed raw|walk|pointers TURNS
        rowan_bench edits replace|root|trace|cursors|green TURNS
+       rowan_bench printed debug_tree|json TURNS
+       rowan_bench reparse list|table|whole TURNS
 
 depth   parses that many lists, one in the other, and then
           parse    drops the tree
@@ -43,6 +48,7 @@ intern  makes that many tokens, or nodes of two tokens, no two equal, and keeps 
 search  searches the child at so many ranges in a node over that many tokens, where
           shared   equal tokens are one, as a cache makes them
           own      each token has memory of its own
+reach   makes the same searches by a cursor at that node
 edit    makes each edit of such a node so often, and copies its list of children as often;
         what was made is dropped within the time
 cursors parses the s-expressions of standard input, and then in each turn
@@ -67,7 +73,14 @@ edits   parses the s-expressions of standard input, and then in each turn
           root     makes a cursor at the root of the tree with that replacement
           trace    replaces tokens at 1,000 offsets, which are drawn, one after the other, by one trace
           cursors  makes the same replacements, with a cursor at each new root
-          green    makes them in green trees alone, and then a cursor at the last root";
+          green    makes them in green trees alone, and then a cursor at the last root
+printed parses the s-expressions of standard input, makes a cursor at the root, and then in each turn
+          debug_tree  prints the tree, a line for each node and token
+          json        makes the JSON value of the tree, and its compact text
+reparse parses the s-expressions of standard input, and then in each turn
+          list     parses a list of 100 bytes or more in the middle anew, 1,000 times, by a cursor that is there
+          table    finds it, parses it anew and makes a cursor at the new root, 10 times, each in the tree of the time before
+          whole    parses the whole text anew";
 
 fn main(rt: HostRuntime) -> ExitCode {
     match run(&rt) {
@@ -92,11 +105,14 @@ fn run(rt: &HostRuntime) -> Result<()> {
         "parse" => parse(rt),
         "intern" => intern(rt, words),
         "search" => search(rt, words),
+        "reach" => reach(rt, words),
         "edit" => edit(rt, words),
         "cursors" => move_cursors(rt, words),
         "walks" => walk(rt, words),
         "typed" => walk_typed(rt, words),
         "edits" => replace(rt, words),
+        "printed" => print(rt, words),
+        "reparse" => parse_anew(rt, words),
         _ => bail!("there is no such command"),
     }
 }
@@ -181,6 +197,18 @@ fn search(rt: &HostRuntime, words: &[String]) -> Result<()> {
     Ok(())
 }
 
+fn reach(rt: &HostRuntime, words: &[String]) -> Result<()> {
+    let (tokens, times) = tokens(rt, words)?;
+    let node = children::node(rt.alloc(), tokens)?;
+    let ranges = children::ranges(rt.alloc(), &node, times)?;
+    let root = SyntaxNode::new_root(rt.alloc(), node)?;
+    let start = Instant::now(rt)?;
+    let found = children::reach(&root, ranges.as_slice())?;
+    let nanos = start.elapsed(rt)?.as_nanos();
+    println!(rt; "reach {nanos} ns, {found} found")?;
+    Ok(())
+}
+
 fn edit(rt: &HostRuntime, words: &[String]) -> Result<()> {
     let (tokens, times) = tokens(rt, words)?;
     let node = children::node(rt.alloc(), tokens.clone()?)?;
@@ -244,6 +272,30 @@ fn replace(rt: &HostRuntime, words: &[String]) -> Result<()> {
     let text = io::read_to_string(rt.alloc(), rt.reader())?;
     let parsed = sexp::parse(rt.alloc(), text.as_str())?;
     let (total, marks) = edits::time(rt, parsed.green(), operation, turns)?;
+    println!(rt; "{} ns, {marks}", total.as_nanos())?;
+    Ok(())
+}
+
+fn print(rt: &HostRuntime, words: &[String]) -> Result<()> {
+    let form = printed::Form::from_word(word_at(words, 1)).context(
+        "debug_tree or json is missing",
+    )?;
+    let turns = number_at(words, 2)?;
+    let text = io::read_to_string(rt.alloc(), rt.reader())?;
+    let parsed = sexp::parse(rt.alloc(), text.as_str())?;
+    let (total, len) = printed::time(rt, parsed.green(), form, turns)?;
+    println!(rt; "{} ns, {len}", total.as_nanos())?;
+    Ok(())
+}
+
+fn parse_anew(rt: &HostRuntime, words: &[String]) -> Result<()> {
+    let operation = reparse::Operation::from_word(word_at(words, 1)).context(
+        "list, table or whole is missing",
+    )?;
+    let turns = number_at(words, 2)?;
+    let text = io::read_to_string(rt.alloc(), rt.reader())?;
+    let parsed = sexp::parse(rt.alloc(), text.as_str())?;
+    let (total, marks) = reparse::time(rt, parsed.green(), operation, turns)?;
     println!(rt; "{} ns, {marks}", total.as_nanos())?;
     Ok(())
 }
