@@ -5,16 +5,21 @@ use std::alloc::{AllocError, Global};
 use std::io::ErrorKind;
 use std::test::Fail;
 
-/// The outcome of `tree` over an input, and what was written.
-fn tree_over(
+/// How a run with one word ended, and what it wrote.
+fn outcome(
     alloc: Global,
+    command: &str,
     mut input: FailingReader<'_>,
-    writes: usize,
+    mut output: FailingWriter,
 ) -> Result<(Result<(), Stop>, Vec<u8>), Fail> {
-    let args = words(alloc, &["tree"])?;
-    let mut output = FailingWriter::new(alloc, writes);
+    let args = words(alloc, &[command])?;
     let outcome = run(alloc, args.as_slice(), &mut input, &mut output);
-    let FailingWriter { written, left: _ } = output;
+    let FailingWriter {
+        written,
+        most: _,
+        left: _,
+        kind: _,
+    } = output;
     Ok((outcome, written))
 }
 
@@ -34,75 +39,153 @@ const LIST_TREE: &str = r#"ROOT@0..7
     R_PAREN@6..7 ")"
 "#;
 
-/// Whether `tree` over an input stops so and writes this.
+const ONE: &str = "1";
+
+const ONE_JSON: &str =
+    r#"{"children":[{"children":[{"kind":"WORD","text":"1","text_range":[0,1]}],"kind":"ATOM","text_range":[0,1]}],"kind":"ROOT","text_range":[0,1]}
+"#;
+
+/// A command, its input, and what it writes.
+const ANSWERS: [(&str, &str, &str); 3] = [
+    ("tree", LIST, LIST_TREE),
+    ("json", ONE, ONE_JSON),
+    ("eval", LIST, "3\n"),
+];
+
+/// How many bytes a stream moves at a time.
+const SHORT: [usize; 2] = [1, 3];
+
+/// How many calls move so many bytes.
+fn calls(bytes: usize, most: usize) -> usize {
+    bytes.div_ceil(most.max(1))
+}
+
+/// Whether a command over an input stops so and writes this.
 fn answers(
     alloc: Global,
+    command: &str,
     input: FailingReader<'_>,
     expected: Result<(), Stop>,
     text: &str,
 ) -> Result<bool, Fail> {
-    let (outcome, written) = tree_over(alloc, input, 1_000)?;
+    let output = FailingWriter::sound(alloc, input.most);
+    let (outcome, written) = outcome(alloc, command, input, output)?;
     Ok(outcome == expected && written.as_slice() == text.as_bytes())
 }
 
+/// Whether a command answers as without a failure where any one read is interrupted, and stops where any one fails.
+fn stands_each_read(
+    alloc: Global,
+    (command, text, shown): (&str, &str, &str),
+    most: usize,
+) -> Result<bool, Fail> {
+    // the last read finds the end
+    for reads in 0..=calls(text.len(), most) {
+        let input = FailingReader::new(text.as_bytes(), most, reads, ErrorKind::Interrupted);
+        if !answers(alloc, command, input, Ok(()), shown)? {
+            return Ok(false);
+        }
+        let input = FailingReader::new(text.as_bytes(), most, reads, ErrorKind::PermissionDenied);
+        if !answers(alloc, command, input, Err(Stop::CannotRead), "")? {
+            return Ok(false);
+        }
+    }
+    answers(
+        alloc,
+        command,
+        FailingReader::sound(text.as_bytes(), most),
+        Ok(()),
+        shown,
+    )
+}
+
 #[test]
-fn interrupted_reads_are_made_again(rt: HostRuntime) -> Result<(), Fail> {
-    for reads in 0..6 {
-        let input = FailingReader::new(LIST.as_bytes(), reads, ErrorKind::Interrupted);
-        assert!(rt;
-            answers(rt.alloc(), input, Ok(()), LIST_TREE)?,
-            "after {reads} reads"
-        );
+fn reads_again_or_stops_at_each_read(rt: HostRuntime) -> Result<(), Fail> {
+    for answer in ANSWERS {
+        for most in SHORT {
+            assert!(rt;
+                stands_each_read(rt.alloc(), answer, most)?,
+                "{}, {most} bytes",
+                answer.0
+            );
+        }
     }
     Ok(())
 }
 
-#[test]
-fn stops_at_each_failed_read(rt: HostRuntime) -> Result<(), Fail> {
-    for reads in 0..4 {
-        let input = FailingReader::new(LIST.as_bytes(), reads, ErrorKind::PermissionDenied);
-        let expected = Err(Stop::CannotRead);
-        assert!(rt;
-            answers(rt.alloc(), input, expected, "")?,
-            "after {reads} reads"
-        );
+/// How a command ends whose write or flush fails in this way after so many, and how many bytes of its answer it wrote;
+/// none where it wrote others.
+fn after_writes(
+    alloc: Global,
+    (command, text, shown): (&str, &str, &str),
+    most: usize,
+    writes: usize,
+    kind: ErrorKind,
+) -> Result<Option<(Result<(), Stop>, usize)>, Fail> {
+    let input = FailingReader::sound(text.as_bytes(), 1_000);
+    let output = FailingWriter::new(alloc, most, writes, kind);
+    let (outcome, written) = outcome(alloc, command, input, output)?;
+    if shown.as_bytes().starts_with(written.as_slice()) {
+        Ok(Some((outcome, written.len())))
+    } else {
+        Ok(None)
     }
-    Ok(())
 }
 
-/// Whether `tree` with a write that fails after so many stops for it, with the beginning of the tree written.
-fn stops_at_write(alloc: Global, writes: usize) -> Result<bool, Fail> {
-    let input = FailingReader::new(LIST.as_bytes(), 1_000, ErrorKind::PermissionDenied);
-    let (outcome, written) = tree_over(alloc, input, writes)?;
-    Ok(outcome == Err(Stop::CannotWrite) && LIST_TREE.as_bytes().starts_with(written.as_slice()))
+/// Whether a command goes on where any one write is interrupted, and stops where any one fails, with what was written before.
+fn stands_each_write(alloc: Global, answer: (&str, &str, &str), most: usize) -> Result<bool, Fail> {
+    let len = answer.2.len();
+    for writes in 0..calls(len, most) {
+        let interrupted = after_writes(alloc, answer, most, writes, ErrorKind::Interrupted)?;
+        let failed = after_writes(alloc, answer, most, writes, ErrorKind::BrokenPipe)?;
+        let before = writes.saturating_mul(most);
+        if interrupted != Some((Ok(()), len)) || failed != Some((Err(Stop::CannotWrite), before)) {
+            return Ok(false);
+        }
+    }
+    // the flush
+    let failed = after_writes(alloc, answer, most, calls(len, most), ErrorKind::BrokenPipe)?;
+    Ok(failed == Some((Err(Stop::CannotWrite), len)))
 }
 
-/// The last call that fails is the flush.
 #[test]
-fn stops_at_each_failed_write(rt: HostRuntime) -> Result<(), Fail> {
-    for writes in 0..=LIST_TREE.len().div_ceil(3) {
-        assert!(rt;
-            stops_at_write(rt.alloc(), writes)?,
-            "after {writes} writes"
-        );
+fn writes_again_or_stops_at_each_write(rt: HostRuntime) -> Result<(), Fail> {
+    for answer in ANSWERS {
+        for most in SHORT {
+            assert!(rt;
+                stands_each_write(rt.alloc(), answer, most)?,
+                "{}, {most} bytes",
+                answer.0
+            );
+        }
+        // a writer that takes nothing
+        let none = after_writes(rt.alloc(), answer, 0, usize::MAX, ErrorKind::BrokenPipe)?;
+        assert!(rt; none == Some((Err(Stop::CannotWrite), 0)), "{}", answer.0);
     }
     Ok(())
 }
 
 /// Bytes that are no text.
-const NO_TEXTS: [&[u8]; 5] = [
+const NO_TEXTS: [&[u8]; 8] = [
     b"\xff",
     b"a\xc3",
     b"(\xe2\x82",
+    b"(a) \xf0\x9d\x84",
     b"\xed\xa0\x80",
     b"\xc0\xaf",
+    b"\xf4\x90\x80\x80",
+    b"\xff\xfe(\x00)\x00",
 ];
 
 #[test]
 fn refuses_bytes_that_are_no_text(rt: HostRuntime) -> Result<(), Fail> {
     for bytes in NO_TEXTS {
-        let input = FailingReader::new(bytes, 1_000, ErrorKind::PermissionDenied);
-        assert!(rt; answers(rt.alloc(), input, Err(Stop::NotUtf8), "")?);
+        for (command, _, _) in ANSWERS {
+            for most in SHORT {
+                let input = FailingReader::sound(bytes, most);
+                assert!(rt; answers(rt.alloc(), command, input, Err(Stop::NotUtf8), "")?);
+            }
+        }
     }
     Ok(())
 }
@@ -121,10 +204,10 @@ const NO_COMMANDS: [&[&str]; 7] = [
 /// Whether the program refuses these arguments, and neither reads nor writes.
 fn is_usage(alloc: Global, list: &[&str]) -> Result<bool, AllocError> {
     let args = words(alloc, list)?;
-    let mut input = FailingReader::new(LIST.as_bytes(), 0, ErrorKind::PermissionDenied);
-    let mut output = FailingWriter::new(alloc, 0);
+    let mut input = FailingReader::new(LIST.as_bytes(), 3, 0, ErrorKind::PermissionDenied);
+    let mut output = FailingWriter::new(alloc, 3, 0, ErrorKind::BrokenPipe);
     let outcome = run(alloc, args.as_slice(), &mut input, &mut output);
-    Ok(outcome == Err(Stop::Usage) && input.left == 0 && output.written.is_empty())
+    Ok(outcome == Err(Stop::Usage) && input.left == 0 && output.left == 0)
 }
 
 #[test]

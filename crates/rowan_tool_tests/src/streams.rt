@@ -2,17 +2,28 @@
 use std::alloc::{AllocError, Global};
 use std::io::{self, ErrorKind, Read, Write};
 
-/// Reads at most three bytes at a time. One call fails: the one after `left` others.
+/// Reads at most `most` bytes at a time. One call fails: the one after `left` others.
 #[derive(Drop)]
 pub struct FailingReader<'a> {
     pub rest: &'a [u8],
+    pub most: usize,
     pub left: usize,
     pub kind: ErrorKind,
 }
 
 impl<'a> FailingReader<'a> {
-    pub fn new(rest: &'a [u8], left: usize, kind: ErrorKind) -> FailingReader<'a> {
-        FailingReader { rest, left, kind }
+    pub fn new(rest: &'a [u8], most: usize, left: usize, kind: ErrorKind) -> FailingReader<'a> {
+        FailingReader {
+            rest,
+            most,
+            left,
+            kind,
+        }
+    }
+
+    /// One that does not fail.
+    pub fn sound(rest: &'a [u8], most: usize) -> FailingReader<'a> {
+        FailingReader::new(rest, most, usize::MAX, ErrorKind::PermissionDenied)
     }
 }
 
@@ -23,36 +34,49 @@ impl Read for FailingReader<'_> {
             return Err(io::Error::from(self.kind));
         }
         self.left -= 1;
-        let count = buffer.len().min(3);
+        let count = buffer.len().min(self.most);
         self.rest.read(&mut buffer[..count])
     }
 }
 
-/// Writes at most three bytes at a time, and fails once it was written or flushed `left` times.
+/// Writes at most `most` bytes at a time. One call fails, to write or to flush: the one after `left` others.
 #[derive(Drop)]
 pub struct FailingWriter {
     pub written: Vec<u8>,
+    pub most: usize,
     pub left: usize,
+    pub kind: ErrorKind,
 }
 
 impl FailingWriter {
-    pub fn new(alloc: Global, left: usize) -> FailingWriter {
+    pub fn new(alloc: Global, most: usize, left: usize, kind: ErrorKind) -> FailingWriter {
         let written = Vec::new(alloc);
-        FailingWriter { written, left }
+        FailingWriter {
+            written,
+            most,
+            left,
+            kind,
+        }
+    }
+
+    /// One that does not fail.
+    pub fn sound(alloc: Global, most: usize) -> FailingWriter {
+        FailingWriter::new(alloc, most, usize::MAX, ErrorKind::PermissionDenied)
     }
 }
 
 impl Write for FailingWriter {
     fn write(&mut self, bytes: &[u8]) -> io::Result<usize> {
         self.flush()?;
-        let count = bytes.len().min(3);
+        let count = bytes.len().min(self.most);
         self.written.extend_from_slice(&bytes[..count])?;
         Ok(count)
     }
 
     fn flush(&mut self) -> io::Result<()> {
         if self.left == 0 {
-            return Err(io::Error::from(ErrorKind::BrokenPipe));
+            self.left = usize::MAX;
+            return Err(io::Error::from(self.kind));
         }
         self.left -= 1;
         Ok(())
