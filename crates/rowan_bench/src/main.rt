@@ -23,7 +23,8 @@ use std::time::Instant;
 use std::{env, io};
 
 const HELP: &str = "\
-usage: rowan_bench depth parse|compare|show LEVELS
+usage: rowan_bench depth parse|compare|hash|show LEVELS
+       rowan_bench depth walk|search|copy|replace|point|lines|json LEVELS
        rowan_bench build TOKENS
        rowan_bench parse
        rowan_bench intern tokens|nodes COUNT
@@ -40,7 +41,15 @@ usage: rowan_bench depth parse|compare|show LEVELS
 depth   parses that many lists, one in the other, and then
           parse    drops the tree
           compare  compares it with the tree of another parse
+          hash     hashes both
           show     writes its text
+          walk     goes through its nodes
+          search   searches the token in the middle, and what covers the place there
+          copy     copies its text
+          replace  replaces the token in the middle
+          point    resolves a pointer to the innermost list
+          lines    makes the lines of the printed tree, which are quadratic in the levels
+          json     makes its JSON, and drops that
         The status is 0 if it ends; a stack that is too small ends the process by a signal.
 build   builds a tree of that many tokens, with a new cache and once more with the same cache
 parse   parses the s-expressions of standard input, with a new cache and once more with the same cache
@@ -135,7 +144,7 @@ fn number_at(words: &[String], place: usize) -> Result<usize> {
 
 fn nest(rt: &HostRuntime, words: &[String]) -> Result<()> {
     let operation = Operation::from_word(word_at(words, 1)).context(
-        "parse, compare or show is missing",
+        "what is done with the tree is missing",
     )?;
     let levels = number_at(words, 2)?;
     let bytes = operation.run(rt.alloc(), levels)?;

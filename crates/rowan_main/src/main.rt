@@ -2,22 +2,26 @@
 #![tactic(auto)]
 
 use rowan_tool::program::{self, Stop};
+use std::io::ErrorKind;
 use std::process::ExitCode;
 use std::{env, io};
 
 fn main(rt: HostRuntime) -> ExitCode {
-    let words: Option<Vec<String>> = match env::args(&rt) {
-        Ok(args) => args.skip(1).collect(rt.alloc()).ok(),
-        Err(_) => None,
-    };
-    let outcome = match words {
-        Some(words) => program::run(rt.alloc(), &words, &mut rt.reader(), &mut io::writer(&rt)),
-        None => Err(Stop::NoMemory),
-    };
-    let Err(stop) = outcome else {
+    let Err(stop) = run(&rt) else {
         return ExitCode::SUCCESS;
     };
     // Where standard error takes no line either, the status alone tells.
     let _ = eprintln!(rt; "{}", stop.line());
     ExitCode::from(stop.status())
+}
+
+/// Runs the program with the words behind its name. One that is no text is no command.
+fn run(rt: &HostRuntime) -> Result<(), Stop> {
+    let args = match env::args(rt) {
+        Ok(args) => args,
+        Err(error) if error.kind() == ErrorKind::InvalidData => return Err(Stop::Usage),
+        Err(_) => return Err(Stop::NoMemory),
+    };
+    let words: Vec<String> = args.skip(1).collect(rt.alloc())?;
+    program::run(rt.alloc(), &words, &mut rt.reader(), &mut io::writer(rt))
 }
