@@ -1,6 +1,6 @@
 -- Reparsing: a list of a tree is put in the place of another. It is the tree of the text that takes that one's place, so where the
 -- tree was that of its text, it is so again, and nothing else needs to be parsed.
-use Rattle.std.specs.Prelude.{◌≡◌, ◌≢◌, ◌⊎◌, ⊤, ℕ, ◌<◌, ◌≤◌, List, [], ◌∷◌, ◌++◌, length, Some}
+use Rattle.std.specs.Prelude.{◌≡◌, ◌≢◌, ◌⊎◌, ⊤, Bool, ℕ, ◌<◌, ◌≤◌, List, [], ◌∷◌, ◌++◌, length, map, Some, String, string_bytes}
 use Rattle.rowan_green.specs.declared.fault.Fault.{Fault}
 use Rattle.rowan_green.specs.declared.fault.Fault.TheVariants.{TextTooLong, Memory, NotFound, NotOneList}
 use Rattle.rowan_green.specs.declared.utility_types.NodeOrToken.TheVariants.{Node}
@@ -9,11 +9,13 @@ use Rattle.rowan_green.specs.Fits.{byte_limit, Fits}
 use Rattle.rowan_green.specs.Path.{Path, subterm, range}
 use Rattle.rowan_green.specs.Span.{Span}
 use Rattle.rowan_green.specs.Term.{NodeTerm, node_kind}
-use Rattle.rowan_cursor.specs.Cursor.{Cursor}
+use Rattle.rowan_cursor.specs.Cursor.{Cursor, StandsAt, text_range}
 use Rattle.rowan_cursor.specs.Replacement.{IsReplacement, with_replacement}
+use Rattle.rowan.specs.Pointer.{is_meant}
 use Rattle.rowan_tool.specs.declared.sexp.lang.SyntaxKind.TheVariants.{LIST}
+use Rattle.rowan_tool.specs.Casts.{is_list}
 use Rattle.rowan_tool.specs.Grammar.{IsParse, IsBalanced, IsOneList}
-use Rattle.rowan_tool.specs.Sexp.{number_of}
+use Rattle.rowan_tool.specs.Sexp.{number_of, kind_of}
 
 -- ---- one list
 
@@ -32,11 +34,22 @@ WhyNoReparse c text TextTooLong = IsBalanced text
 WhyNoReparse c text Memory = IsBalanced text
 WhyNoReparse c text _ = ⊥
 
+-- why a text is not parsed as one list: it is none; it is one, but too long; or there is no memory
+abbrev pub WhyNoList : List ℕ → Fault → Type 0
+WhyNoList text NotOneList = ¬ IsBalanced text
+WhyNoList text TextTooLong = IsBalanced text × (byte_limit < length text)
+WhyNoList text Memory = IsBalanced text
+WhyNoList text _ = ⊥
+
 -- ---- edits, one after the other
 
 -- an edit: a range of the latest text, and the text that takes its place
 abbrev pub Edit : Type 0
 Edit = Span × List ℕ
+
+-- the edits that ranges and strings are
+abbrev pub edits_of : {Z : Type 0} → List (Span × String Z) → List Edit
+edits_of given = map (λ edit. (edit.0, string_bytes edit.1)) given
 
 -- the text after an edit, and after some, each of which is made in the text that the one before left
 abbrev pub edited : List ℕ → Edit → List ℕ
@@ -55,6 +68,23 @@ pub record IsListIn (text : List ℕ) (span : Span) : Type 0 where
   pub stands : subterm (Node tree) path ≡ Some (Node list)
   pub kind : node_kind list ≡ number_of LIST
   pub lies : range (Node tree) path ≡ span
+
+-- the cursor is at a list of the tree, and has this range
+pub record IsListAt (tree : NodeTerm) (span : Span) (c : Cursor) : Type 0 where
+  pub root : c.root ≡ tree
+  pub list : NodeTerm
+  pub stands : StandsAt c list
+  pub kind : node_kind list ≡ number_of LIST
+  pub lies : text_range c ≡ span
+
+-- whether a node of the kind of lists, with this range, stands at a path
+abbrev pub is_list_at : Span → NodeTerm → Path → Bool
+is_list_at span root q = is_meant (λ kind. is_list (kind_of kind)) span root q
+
+-- no list is found: where the tree is that of a text, the text has no list with this range
+abbrev pub HasNoList : NodeTerm → Span → Fault → Type 0
+HasNoList tree span fault =
+    (fault ≡ NotFound) × ((text : List ℕ) → IsParse text tree → ¬ IsListIn text span)
 
 -- one list of the text becomes another, and the text stays within the limit
 pub record IsEdit (text : List ℕ) (edit : Edit) : Type 0 where

@@ -7,6 +7,7 @@ pub mod laws;
 mod lexer;
 mod parsed;
 mod parser;
+mod reparse;
 
 pub use ast::{Atom, List, Root, Sexp};
 pub use balance::is_balanced;
@@ -14,3 +15,4 @@ pub use lang::{Lang, SyntaxKind};
 pub use lexer::{Token, lex};
 pub use parsed::Parse;
 pub use parser::{parse, parse_with};
+pub use reparse::{reparse_all, reparse_list};

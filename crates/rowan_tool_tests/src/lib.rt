@@ -16,6 +16,8 @@ mod parts;
 #[cfg(test)]
 mod program;
 #[cfg(test)]
+mod reparse;
+#[cfg(test)]
 mod streams;
 #[cfg(test)]
 mod typed;
