@@ -38,7 +38,7 @@ mutual
 IsFinished-own : (n : NodeTerm) → IsFinished (node_word n) n
 IsFinished-own n = record { items = Whole (Node n) ∷ []; parts = record { spells = sym (append-nil (node_word n)) }; terms = refl }
 
-tokens-node : (n : NodeTerm) → tokens (Node n) ≡ node_tokens n
+pub tokens-node : (n : NodeTerm) → tokens (Node n) ≡ node_tokens n
 tokens-node n = sym (tokens-finished (node_word n) n (IsFinished-own n)) ∙ word_tokens-node n
 
 -- ---- the word of a tree
@@ -61,7 +61,7 @@ rest_word-kind n k t us e = ap (λ j. symbols_of (kind_of j) n t ++ rest_word (o
 abbrev alone_word : ℕ → TokenTerm → Forest → List Symbol → List Symbol
 alone_word k t f w = node_word (node k (token_then t f)) ++ w
 
-last_split : (last : Bool) (f : Forest) → last && is_empty f ≡ true → (last ≡ true) × (f ≡ empty)
+pub last_split : (last : Bool) (f : Forest) → last && is_empty f ≡ true → (last ≡ true) × (f ≡ empty)
 last_split true empty e = (refl, refl)
 last_split true (node_then n f) e = absurd (cc)
 last_split true (token_then t f) e = absurd (cc)

@@ -13,7 +13,7 @@ use Rattle.rowan_tool.specs.Grammar.{IsParse, token_terms}
 use Rattle.rowan_tool.specs.Parsing.{IsTree, symbols_of, open_after, rest_word, sexp_word}
 use Rattle.rowan_tool.proofs.GrammarLemmas.{sexp_from_word}
 
-kind_of-number : (kind : SyntaxKind) → kind_of (number_of kind) ≡ kind
+pub kind_of-number : (kind : SyntaxKind) → kind_of (number_of kind) ≡ kind
 kind_of-number L_PAREN = refl
 kind_of-number R_PAREN = refl
 kind_of-number WORD = refl

@@ -6,12 +6,12 @@ ghost use Rattle.rowan_green.specs.Fits.{byte_limit};
 ghost use Rattle.rowan_green.specs.Term.{node_text};
 ghost use Rattle.rowan_cursor.specs.Cursor.{text_range};
 ghost use Rattle.rowan_cursor.specs.Moves.{is_node_at};
-ghost use Rattle.rowan_tool.specs.Grammar.{IsParse, IsOneList, IsBalanced};
+ghost use Rattle.rowan_tool.specs.Grammar.{IsParse, IsOneList};
 ghost use Rattle.rowan_tool.specs.Reparse.{IsReparse, WhyNoReparse, WhyNoList, IsListAt, is_list_at, HasNoList, edits_of, text_after, AreEdits, WhyNoEdits};
 
 use crate::sexp::ast::List;
 use crate::sexp::balance::is_balanced;
-use crate::sexp::lang::{Lang, SyntaxKind};
+use crate::sexp::lang::Lang;
 use crate::sexp::parser::parse;
 use rowan::ast::AstNode;
 use rowan::{Fault, GreenNode, NodeOrToken, SyntaxNode, TextRange};
@@ -22,11 +22,9 @@ use std::alloc::Global;
 /// balanced list, which is looked at before all else, by a scan that takes no memory; `Err(Fault::TextTooLong)` where the new
 /// text, or a node of the new tree, would have more than 4,294,967,295 bytes; `Err(Fault::Memory)` for want of memory.
 ///
-/// Nothing of the old text is read: what this takes grows with the new text, and with the number of children of the nodes above
-/// the list.
+/// Of the old tree only the nodes above the list are made anew, one for each; no text of it is read.
 pub fn reparse_list(alloc: Global, list: &List, new_text: &str) -> Result<GreenNode, Fault>
     ensures ok { IfOk result (IsReparse list.now new_text.now) }
-    ensures balanced { OnOk result (IsBalanced new_text.now) }
     ensures text { let place = text_range list.now in IfOk result (λ n. node_text n
         ≡ spliced (node_text list.now.root) place.start place.end new_text.now) }
 
@@ -35,14 +33,14 @@ pub fn reparse_list(alloc: Global, list: &List, new_text: &str) -> Result<GreenN
         → IsParse (node_text n) n) }
     ensures err { IfErr result (WhyNoReparse list.now new_text.now) }
 {
+    let node = list.syntax();
     let green = one_list(alloc, new_text)?;
-    list.syntax().replace_with(green)
+    node.replace_with(green)
 }
 
 /// The list that a text is.
 fn one_list(alloc: Global, text: &str) -> Result<GreenNode, Fault>
     ensures ok { IfOk result (IsOneList text.now) }
-    ensures balanced { OnOk result (IsBalanced text.now) }
     ensures err { IfErr result (WhyNoList text.now) }
 {
     if !is_balanced(text) {
@@ -62,12 +60,13 @@ fn one_list(alloc: Global, text: &str) -> Result<GreenNode, Fault>
 /// anew from the string. Ranges count bytes of the text as it is then. The first edit that is refused ends it:
 /// `Err(Fault::NotFound)` where no list of the tree has the range, `Err(Fault::NotOneList)` where there is one, but the string is
 /// not one balanced list, and `Err(Fault::TextTooLong)` where the text would have more than 4,294,967,295 bytes, as where the
-/// first text has. `Err(Fault::Memory)` for want of memory.
+/// first text has. `Err(Fault::Memory)` for want of memory, and where a tree has more than 4,294,967,295 nodes and tokens.
 ///
 /// ```rust
+/// let range = TextRange::new(TextSize::from(3), TextSize::from(11));
 /// let edits = vec![in alloc; (range, String::from_str(alloc, "(* 7 (+ 1 1))")?)]?;
-/// let green = sexp::reparse_all(alloc, "(+ (* 15 2) 62)", edits.as_slice())?;    // where range is 3..11
-/// println!(rt; "{}", green)?;                                                   // (+ (* 7 (+ 1 1)) 62)
+/// let green = sexp::reparse_all(alloc, "(+ (* 15 2) 62)", edits.as_slice())?;
+/// println!(rt; "{green}")?;    // (+ (* 7 (+ 1 1)) 62)
 /// ```
 pub fn reparse_all(
     alloc: Global,
