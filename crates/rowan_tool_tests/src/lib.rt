@@ -16,8 +16,6 @@ mod parts;
 #[cfg(test)]
 mod program;
 #[cfg(test)]
-mod reparse;
-#[cfg(test)]
 mod streams;
 #[cfg(test)]
 mod typed;
