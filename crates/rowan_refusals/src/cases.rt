@@ -724,11 +724,7 @@ pub const CASES: [Case; 43] = [
             Step::Make(Make::ReparsedAll(SUM)),
             Step::Make(Make::Parsed(SUM)),
             Step::Equal,
-            Step::Make(Make::ListEdits(&[
-                (0, 15, "(a (b))"),
-                (3, 6, "(c (d) e)"),
-                (6, 9, "()"),
-            ])),
+            Step::Make(Make::ListEdits(&[(0, 15, "(a (b))"), (3, 6, "(c (d) e)"), (6, 9, "()")])),
             Step::Make(Make::ReparsedAll(SUM)),
             Step::Make(Make::Parsed("(a (c () e))")),
             Step::Equal,
