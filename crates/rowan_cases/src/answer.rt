@@ -74,8 +74,6 @@ pub enum Answer<'a> {
     NoTree,
     /// A building instruction after a tree is finished.
     NoBuilder,
-    /// The instruction has no call yet.
-    Unsupported,
 }
 
 /// An answer, and the number of the line that it is to.
@@ -146,7 +144,6 @@ impl<'a> Answer<'a> {
             Answer::Nowhere => String::from_str(alloc, "Nowhere"),
             Answer::NoTree => String::from_str(alloc, "NoTree"),
             Answer::NoBuilder => String::from_str(alloc, "NoBuilder"),
-            Answer::Unsupported => String::from_str(alloc, "Unsupported"),
         }
     }
 }

@@ -52,7 +52,7 @@ pub fn build<'cache, 's>(
             Instruction::Call(_)
             | Instruction::ScriptStep(_)
             | Instruction::Step(_)
-            | Instruction::UnreadMove => Answer::NoTree,
+            | Instruction::EditList(_) => Answer::NoTree,
         };
         answers.push(line.answered(answer))?;
     }

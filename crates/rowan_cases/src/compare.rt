@@ -1,17 +1,14 @@
 //! Compares answers with stored ones.
 
-use crate::answer::{Answer, Answered};
+use crate::answer::Answered;
 use std::alloc::{AllocError, Global};
 use std::fmt;
 
 /// What a comparison found.
 #[derive(Drop)]
 pub enum Comparison<'a> {
-    /// All answers are equal, but for those that say `Unsupported`, which were passed over.
-    Equal {
-        equal: usize,
-        unsupported: usize,
-    },
+    /// All answers are equal, so many.
+    Equal(usize),
     /// The answer to this line of the case file is another one. There is nothing on a side that has fewer answers.
     Other {
         line: Option<usize>,
@@ -23,13 +20,7 @@ pub enum Comparison<'a> {
 impl<'a> fmt::Display for Comparison<'a> {
     fn fmt<W: fmt::Write>(&self, f: &mut fmt::Formatter<W>) -> fmt::Result {
         match self {
-            Comparison::Equal {
-                equal,
-                unsupported: 0,
-            } => write!(f, "{equal} answers equal"),
-            Comparison::Equal { equal, unsupported } => {
-                write!(f, "{equal} answers equal, {unsupported} unsupported")
-            }
+            Comparison::Equal(count) => write!(f, "{count} answers equal"),
             Comparison::Other { line, wanted, got } => {
                 match line {
                     Some(line) => write!(f, "another answer to line {line}")?,
@@ -45,7 +36,7 @@ impl<'a> fmt::Display for Comparison<'a> {
     }
 }
 
-/// Compares answers with the lines of a stored text, up to the first other one. `Unsupported` goes with any stored answer.
+/// Compares answers with the lines of a stored text, up to the first other one.
 pub fn compare<'a>(
     alloc: Global,
     answers: &[Answered<'_>],
@@ -53,13 +44,10 @@ pub fn compare<'a>(
 ) -> Result<Comparison<'a>, AllocError> {
     let mut lines = stored.split('\n').filter(|line| !line.is_empty());
     let mut equal = 0usize;
-    let mut unsupported = 0usize;
     for answered in answers {
         let wanted = lines.next();
         let got = answered.answer.text(alloc)?;
-        let is_unsupported = matches!(answered.answer, Answer::Unsupported);
         match wanted {
-            Some(_) if is_unsupported => unsupported = unsupported.saturating_add(1),
             Some(text) if text == got.as_str() => equal = equal.saturating_add(1),
             _ => {
                 return Ok(Comparison::Other {
@@ -71,7 +59,7 @@ pub fn compare<'a>(
         }
     }
     match lines.next() {
-        None => Ok(Comparison::Equal { equal, unsupported }),
+        None => Ok(Comparison::Equal(equal)),
         wanted => Ok(Comparison::Other {
             line: None,
             wanted,

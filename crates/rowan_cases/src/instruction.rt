@@ -9,7 +9,9 @@ pub use call::Call;
 use rowan::script;
 pub use script_step::copy_of;
 use std::alloc::Global;
-pub use step::{Carrying, Edit, Event, Listing, PointerStep, Question, Slice, Step, Support, Walk};
+pub use step::{
+    Carrying, Edit, Event, ListEdit, Listing, PointerStep, Question, Slice, Step, Support, Walk,
+};
 
 /// What one line of a case asks for.
 #[derive(Drop)]
@@ -25,12 +27,9 @@ pub enum Instruction {
     ScriptStep(script::Step),
     /// Another step.
     Step(Step),
-    /// A step of which only the name is read, and which may move the cursor.
-    UnreadMove,
+    /// An edit of which lists are made.
+    EditList(ListEdit),
 }
-
-/// The names of the steps that may move the cursor and whose operands are not read.
-const UNREAD_MOVES: [&str; 2] = ["ReparseList", "EditList"];
 
 impl Instruction {
     /// Reads an instruction: its name, a space and its operands. A line is refused where its first word names none, and
@@ -50,7 +49,7 @@ impl Instruction {
             ("Counts", "") => Ok(Instruction::Counts),
             ("Finish", "") => Ok(Instruction::Finish),
             ("Parse", _) => Ok(Instruction::Parse(operand::text(alloc, operands)?)),
-            _ if UNREAD_MOVES.iter().any(|unread| *unread == name) => Ok(Instruction::UnreadMove),
+            ("EditList", _) => Ok(Instruction::EditList(ListEdit::parse(alloc, operands)?)),
             _ => bail!("`{line}` is no instruction"),
         }
     }

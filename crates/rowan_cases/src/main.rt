@@ -13,6 +13,7 @@ mod compare;
 mod cursor;
 mod element;
 mod instruction;
+mod list_edits;
 mod operand;
 mod pointers;
 mod program_run;

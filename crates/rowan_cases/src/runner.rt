@@ -4,6 +4,7 @@ use crate::answer::{Answer, Answered};
 use crate::building::{Built, build};
 use crate::case_file::{CacheLine, CaseFile, Line};
 use crate::instruction::Instruction;
+use crate::list_edits::ListEdits;
 use crate::standing::Standing;
 use crate::trace::Trace;
 use rowan::{Fault, GreenNode, GreenNodeBuilder, NodeCache};
@@ -161,7 +162,8 @@ fn built<'s>(
     )
 }
 
-/// Answers the lines behind the building part. Steps of which scripts are made are put off to the next other line.
+/// Answers the lines behind the building part. Steps of which scripts are made, and edits of which lists are made, are put off to
+/// the next other line.
 fn answer_steps<'s>(
     alloc: Global,
     cache: &NodeCache,
@@ -171,28 +173,31 @@ fn answer_steps<'s>(
 ) -> Result<(), Fault> {
     let mut standing = Standing::new(alloc, tree)?;
     let mut trace = Trace::new(alloc);
-    let mut is_lost = false;
+    let mut edits = ListEdits::new(alloc);
     for line in lines {
-        if let Instruction::ScriptStep(step) = &line.instruction
-            && !is_lost
-        {
-            trace.push(line, step)?;
-            continue;
-        }
-        trace.make(&mut standing.here, answers)?;
-        let answer = match &line.instruction {
-            Instruction::Counts => Answer::counts(cache),
-            Instruction::Step(step) if !is_lost => standing.answer(alloc, step)?,
-            Instruction::ScriptStep(_) | Instruction::Step(_) => Answer::Unsupported,
-            Instruction::UnreadMove => {
-                is_lost = true;
-                Answer::Unsupported
+        match &line.instruction {
+            Instruction::ScriptStep(step) => {
+                edits.make(&mut standing.here, answers)?;
+                trace.push(line, step)?;
             }
-            Instruction::Call(_) | Instruction::Finish | Instruction::Parse(_) => Answer::NoBuilder,
-        };
-        answers.push(line.answered(answer))?;
+            Instruction::EditList(edit) => {
+                trace.make(&mut standing.here, answers)?;
+                edits.push(line, edit)?;
+            }
+            other => {
+                trace.make(&mut standing.here, answers)?;
+                edits.make(&mut standing.here, answers)?;
+                let answer = match other {
+                    Instruction::Counts => Answer::counts(cache),
+                    Instruction::Step(step) => standing.answer(alloc, step)?,
+                    _ => Answer::NoBuilder,
+                };
+                answers.push(line.answered(answer))?;
+            }
+        }
     }
-    trace.make(&mut standing.here, answers)
+    trace.make(&mut standing.here, answers)?;
+    edits.make(&mut standing.here, answers)
 }
 
 /// Parses a text in place of builder calls.
@@ -223,7 +228,7 @@ fn answer_without_tree<'s>(
     for line in lines {
         let answer = match &line.instruction {
             Instruction::Counts => Answer::counts(cache),
-            Instruction::ScriptStep(_) | Instruction::Step(_) | Instruction::UnreadMove => {
+            Instruction::ScriptStep(_) | Instruction::Step(_) | Instruction::EditList(_) => {
                 Answer::NoTree
             }
             Instruction::Call(_) | Instruction::Finish | Instruction::Parse(_) => Answer::NoBuilder,

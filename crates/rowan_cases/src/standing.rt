@@ -5,9 +5,11 @@ use crate::element;
 use crate::instruction::Step;
 use crate::pointers::Pointers;
 use crate::texts::Texts;
+use rowan::ast::AstNode;
 use rowan::cursor::{SyntaxElement, SyntaxNode};
 use rowan::script::element_at;
 use rowan::{Fault, GreenNode, NodeOrToken};
+use rowan_tool::sexp::{self, List};
 use std::alloc::Global;
 use std::collections::BTreeMap;
 
@@ -55,6 +57,7 @@ impl Standing {
             Step::Pointer(step) => self.pointers.answer(&self.here, *step),
             Step::Support(support) => element::support(alloc, &self.here, *support),
             Step::Eval => element::eval(&self.here),
+            Step::ReparseList(text) => self.reparse(alloc, text.as_str()),
             Step::DebugTree => element::debug_tree(alloc, &self.here),
             Step::DebugLine => element::debug_line(alloc, &self.here),
             Step::Json => element::json(alloc, &self.here),
@@ -77,6 +80,23 @@ impl Standing {
         };
         let root = node.clone_subtree()?;
         self.go_to(NodeOrToken::Node(root))
+    }
+
+    fn reparse<'a>(&mut self, alloc: Global, text: &str) -> Result<Answer<'a>, Fault> {
+        let NodeOrToken::Node(node) = &self.here else {
+            return Ok(Answer::Nowhere);
+        };
+        let Some(list) = List::cast(rowan::SyntaxNode::from(node.clone()?)) else {
+            return Ok(Answer::Nowhere);
+        };
+        match sexp::reparse_list(alloc, &list, text) {
+            Ok(green) => {
+                let root = SyntaxNode::new_root(alloc, green)?;
+                self.here = NodeOrToken::Node(root.clone()?);
+                Ok(Answer::Replaced(root))
+            }
+            Err(fault) => Ok(Answer::Refused(fault)),
+        }
     }
 
     fn go_to<'a>(&mut self, found: SyntaxElement) -> Result<Answer<'a>, Fault> {

@@ -45,7 +45,7 @@ fn is_case_file_equal(
         format_args!("answering {name}.case"),
     )?;
     println!(rt; "{argument}: {comparison}{kept}")?;
-    Ok(matches!(comparison, Comparison::Equal { .. }))
+    Ok(matches!(comparison, Comparison::Equal(_)))
 }
 
 fn compared<'a>(

@@ -38,7 +38,7 @@ const MAKING: Step = Step::Phase(Phase::Making);
 
 const MOVING: Step = Step::Phase(Phase::Moving);
 
-pub const CASES: [Case; 41] = [
+pub const CASES: [Case; 43] = [
     Case {
         name: "math_operations",
         steps: &[Step::Build(&MATH)],
@@ -696,6 +696,38 @@ pub const CASES: [Case; 41] = [
             Step::Go(Move::FirstChild),
             Step::Pointer(0, 1, 2),
             Step::Wrappers,
+        ],
+    },
+    Case {
+        name: "reparsed_inner_list",
+        steps: &[
+            Step::Make(Make::Parsed(SUM)),
+            Step::Make(Make::Root),
+            MOVING,
+            Step::GoToRoot(0),
+            Step::Go(Move::ElementAt(&[0, 3])),
+            Step::NotOneList("(* 7"),
+            Step::NotOneList("(a) (b)"),
+            MAKING,
+            Step::Make(Make::Reparsed("(* 7 (+ 1 1))")),
+            Step::Make(Make::Parsed("(+ (* 7 (+ 1 1)) 62)")),
+            Step::Equal,
+            MOVING,
+            Step::GoToRoot(0),
+            Step::Text,
+        ],
+    },
+    Case {
+        name: "lists_of_reparses",
+        steps: &[
+            Step::Make(Make::ListEdits(&[(3, 11, "()"), (3, 5, "(* 15 2)")])),
+            Step::Make(Make::ReparsedAll(SUM)),
+            Step::Make(Make::Parsed(SUM)),
+            Step::Equal,
+            Step::Make(Make::ListEdits(&[(0, 15, "(a (b))"), (3, 6, "(c (d) e)"), (6, 9, "()")])),
+            Step::Make(Make::ReparsedAll(SUM)),
+            Step::Make(Make::Parsed("(a (c () e))")),
+            Step::Equal,
         ],
     },
     Case {

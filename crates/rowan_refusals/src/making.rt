@@ -49,6 +49,12 @@ pub enum Make {
     Line,
     /// Its JSON.
     Json,
+    /// The root with a text in place of the list where the case stands, parsed anew.
+    Reparsed(&'static str),
+    /// The edits of a text, each a range that is to become another text.
+    ListEdits(&'static [(u32, u32, &'static str)]),
+    /// The tree of a text after these edits.
+    ReparsedAll(&'static str),
     /// The text of the typed root.
     Text,
     /// A copy of the text that the case reads.
@@ -90,6 +96,9 @@ impl Make {
             Make::Printed => "debug_tree",
             Make::Line => "debug_line",
             Make::Json => "to_json",
+            Make::Reparsed(_) => "reparse_list, with drops",
+            Make::ListEdits(_) => "edits",
+            Make::ReparsedAll(_) => "reparse_all, with drops",
             Make::Text => "to_string",
             Make::Copy => "to_text",
             Make::Script(_, _) => "script",

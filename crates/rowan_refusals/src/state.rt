@@ -18,11 +18,11 @@ use crate::walks::{tell_clones, tell_typed};
 use rowan::ast::AstNode;
 use rowan::cursor::{SyntaxElement, SyntaxNode};
 use rowan::{
-    Fault, GreenNode, GreenToken, NodeCache, NodeOrToken, SyntaxKind, SyntaxText, TextSize,
-    TypedElementCalls, script,
+    Fault, GreenNode, GreenToken, NodeCache, NodeOrToken, SyntaxKind, SyntaxText, TextRange,
+    TextSize, TypedElementCalls, script,
 };
 use rowan_tool::program;
-use rowan_tool::sexp::{Lang, List, Parse, lex, parse, parse_with};
+use rowan_tool::sexp::{Lang, List, Parse, lex, parse, parse_with, reparse_all, reparse_list};
 use serde_json::Value;
 use std::alloc::Global;
 
@@ -35,6 +35,7 @@ pub struct State {
     text: Option<SyntaxText>,
     script: Vec<script::Call>,
     steps: Vec<script::Step>,
+    list_edits: Vec<(TextRange, String)>,
     words: Vec<String>,
     output: Vec<u8>,
 }
@@ -49,6 +50,7 @@ impl State {
             text: None,
             script: Vec::new(alloc),
             steps: Vec::new(alloc),
+            list_edits: Vec::new(alloc),
             words: Vec::new(alloc),
             output: Vec::new(alloc),
         }
@@ -92,6 +94,7 @@ impl State {
                 )
             }
             Step::Wrappers => tell_wrappers(log, &self.typed_node()?),
+            Step::NotOneList(text) => self.tell_not_one_list(log, text),
             Step::Search(search) => search.tell(log, self.place()?),
             Step::TypedSearch(search) => search.tell_typed(log, &self.typed_place()?),
             Step::Text => self.read(log),
@@ -146,6 +149,9 @@ impl State {
             Make::Printed => Ok(Made::Text(self.syntax()?.debug_tree(alloc)?)),
             Make::Line => Ok(Made::Text(self.line()?)),
             Make::Json => Ok(Made::Json(self.json()?)),
+            Make::Reparsed(text) => Ok(Made::Edited(self.reparsed(text)?)),
+            Make::ListEdits(edits) => self.set_list_edits(edits),
+            Make::ReparsedAll(text) => Ok(Made::Edited(self.reparsed_all(text)?)),
             Make::Text => Ok(Made::Text(self.syntax()?.to_string(alloc)?)),
             Make::Copy => Ok(Made::Text(self.text()?.to_text()?)),
             Make::Script(calls, count) => self.set_script(calls, count),
@@ -187,10 +193,23 @@ impl State {
         self.node_here()?.clone_subtree()
     }
 
+    /// The list where the case stands.
+    fn list(&self) -> Result<List, Fault> {
+        List::cast(self.typed_node()?).ok_or(Fault::NotFound)
+    }
+
+    /// The root with a text in place of that list.
+    fn reparsed(&self, text: &str) -> Result<GreenNode, Fault> {
+        reparse_list(self.alloc, &self.list()?, text)
+    }
+
+    fn reparsed_all(&self, text: &str) -> Result<GreenNode, Fault> {
+        reparse_all(self.alloc, text, self.list_edits.as_slice())
+    }
+
     /// A copy of what is below the place, by a wrapper.
     fn list_subtree(&self) -> Result<rowan::SyntaxNode<Lang>, Fault> {
-        let list = List::cast(self.typed_node()?).ok_or(Fault::NotFound)?;
-        let copy = list.clone_subtree()?;
+        let copy = self.list()?.clone_subtree()?;
         Ok(copy.syntax().clone()?)
     }
 
@@ -228,6 +247,15 @@ impl State {
         }
         self.steps = steps;
         Ok(Made::Count(strides.len()))
+    }
+
+    fn set_list_edits(&mut self, edits: &[(u32, u32, &str)]) -> Result<Made, Fault> {
+        let mut made = Vec::new(self.alloc);
+        for (start, end, text) in edits {
+            made.push((range(*start, *end)?, String::from_str(self.alloc, *text)?))?;
+        }
+        self.list_edits = made;
+        Ok(Made::Count(edits.len()))
     }
 
     fn set_words(&mut self, words: &[&str]) -> Result<Made, Fault> {
@@ -336,6 +364,11 @@ impl State {
             }
         }
         Err(Fault::NotFound)
+    }
+
+    /// Says why a text cannot take the place of the list where the case stands.
+    fn tell_not_one_list(&self, log: &Transcript<'_>, text: &str) -> Result<(), Stop> {
+        log.tell("reparse_list", &self.reparsed(text).err())
     }
 
     fn tell_counts(&self, log: &Transcript<'_>) -> Result<(), Stop> {

@@ -58,6 +58,8 @@ pub enum Step {
     Pointer(u32, u32, u32),
     /// What the wrappers of the place are.
     Wrappers,
+    /// Why a text cannot take the place of the list where the case stands.
+    NotOneList(&'static str),
     /// What is found at a range or an offset.
     Search(Search),
     /// What is found there from the typed place.

@@ -3,6 +3,7 @@ mod edit;
 mod listing;
 mod pointing;
 mod question;
+mod reparsing;
 mod slice;
 mod support;
 mod walk;
@@ -13,6 +14,7 @@ pub use edit::Edit;
 pub use listing::Listing;
 pub use pointing::{Carrying, PointerStep};
 pub use question::Question;
+pub use reparsing::ListEdit;
 use rowan::{TextRange, TextSize};
 pub use slice::Slice;
 use std::alloc::Global;
@@ -51,6 +53,8 @@ pub enum Step {
     Support(Support),
     /// Asks for the number that the expression reads.
     Eval,
+    /// Parses the current list anew.
+    ReparseList(String),
     /// Asks for the printed tree.
     DebugTree,
     /// Asks for the line of the element.
@@ -88,6 +92,7 @@ impl Step {
             ("Walk", _) => Step::Walk(Walk::Nodes(walk::calls(alloc, operands)?)),
             ("WalkWithTokens", _) => Step::Walk(Walk::WithTokens(walk::calls(alloc, operands)?)),
             ("Eval", "") => Step::Eval,
+            ("ReparseList", _) => Step::ReparseList(operand::text(alloc, operands)?),
             ("DebugTree", "") => Step::DebugTree,
             ("DebugLine", "") => Step::DebugLine,
             ("Json", "") => Step::Json,
