@@ -1,11 +1,11 @@
 //! Replacements: one of them, made often, and many, one after the other.
-use crate::walks;
+use crate::{turns, walks};
 use anyhow::Result;
 use rowan::cursor::{SyntaxNode, SyntaxToken};
 use rowan::script::{Report, Step, trace};
 use rowan::{Fault, GreenElement, GreenNode, GreenToken, NodeOrToken, SyntaxKind, TextSize};
 use std::alloc::Global;
-use std::time::{Duration, Instant};
+use std::time::Duration;
 
 /// How often the token in the middle is replaced in one turn.
 const TIMES: usize = 10_000;
@@ -223,7 +223,9 @@ impl Turn {
             _ => Ok(Turn::Green(root.green().clone()?, edits)),
         }
     }
+}
 
+impl turns::Turn for Turn {
     fn take(&self, alloc: Global) -> Result<Option<GreenNode>, Fault> {
         match self {
             Turn::Nothing => Ok(None),
@@ -241,14 +243,7 @@ impl Turn {
     }
 }
 
-/// How many marks the text of a tree has.
-fn count_marks(alloc: Global, tree: &GreenNode) -> Result<usize> {
-    let text = format!(in alloc; "{tree}")?;
-    Ok(text.bytes().filter(|byte| *byte == b'#').count())
-}
-
-/// Times an operation over a tree, and answers the time of all turns and how many marks the last tree has. What a turn makes is
-/// dropped within the time.
+/// Times an operation over a tree, and answers the time of all turns and how many marks the last tree has.
 pub fn time(
     rt: &HostRuntime,
     tree: &GreenNode,
@@ -256,14 +251,5 @@ pub fn time(
     turns: usize,
 ) -> Result<(Duration, usize)> {
     let turn = Turn::new(rt.alloc(), tree, operation)?;
-    let mut last = None;
-    let start = Instant::now(rt)?;
-    for _ in 0..turns {
-        last = turn.take(rt.alloc())?;
-    }
-    let total = start.elapsed(rt)?;
-    match &last {
-        Some(tree) => Ok((total, count_marks(rt.alloc(), tree)?)),
-        None => Ok((total, 0)),
-    }
+    turns::time(rt, &turn, turns)
 }

@@ -9,6 +9,7 @@ mod edits;
 mod printed;
 mod reparse;
 mod timed;
+mod turns;
 mod typed;
 mod walks;
 

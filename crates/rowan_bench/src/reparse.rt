@@ -1,11 +1,11 @@
 //! A list in the middle of a text, parsed anew.
-
+use crate::turns;
 use anyhow::Result;
 use rowan::ast::AstNode;
 use rowan::{Fault, GreenNode, SyntaxNode, TextSize};
 use rowan_tool::sexp::{self, Lang, List};
 use std::alloc::{AllocError, Global};
-use std::time::{Duration, Instant};
+use std::time::Duration;
 
 /// How often the list is parsed anew in one turn, where the cursor at it is there.
 const TIMES: usize = 1_000;
@@ -121,7 +121,9 @@ impl Turn {
             }
         }
     }
+}
 
+impl turns::Turn for Turn {
     fn take(&self, alloc: Global) -> Result<Option<GreenNode>, Fault> {
         match self {
             Turn::Nothing => Ok(None),
@@ -138,14 +140,7 @@ fn text_of(alloc: Global, tree: &GreenNode) -> Result<String, AllocError> {
     format!(in alloc; "{tree}")
 }
 
-/// How many marks the text of a tree has.
-fn count_marks(alloc: Global, tree: &GreenNode) -> Result<usize> {
-    let text = text_of(alloc, tree)?;
-    Ok(text.bytes().filter(|byte| *byte == b'#').count())
-}
-
-/// Times an operation over a tree, and answers the time of all turns and how many marks the last tree has. What a turn makes is
-/// dropped within the time.
+/// Times an operation over a tree, and answers the time of all turns and how many marks the last tree has.
 pub fn time(
     rt: &HostRuntime,
     tree: &GreenNode,
@@ -153,14 +148,5 @@ pub fn time(
     turns: usize,
 ) -> Result<(Duration, usize)> {
     let turn = Turn::new(rt.alloc(), tree, operation)?;
-    let mut last = None;
-    let start = Instant::now(rt)?;
-    for _ in 0..turns {
-        last = turn.take(rt.alloc())?;
-    }
-    let total = start.elapsed(rt)?;
-    match &last {
-        Some(tree) => Ok((total, count_marks(rt.alloc(), tree)?)),
-        None => Ok((total, 0)),
-    }
+    turns::time(rt, &turn, turns)
 }
