@@ -1,3 +1,4 @@
 pub mod JsonLemmas
 pub mod PrintedLemmas
 pub mod QuoteLemmas
+pub mod SpelledLemmas

@@ -6,7 +6,7 @@ use Rattle.rowan_green.specs.declared.utility_types.NodeOrToken.TheVariants.{Nod
 use Rattle.rowan_cursor.specs.Cursor.{text_range}
 use Rattle.rowan_cursor.specs.Moves.{Element}
 use Rattle.rowan_api.specs.Printed.{kind_called, node_object, tree_json}
-use Rattle.rowan_api.specs.declared.api.json.Draft.{Draft}
+use Rattle.rowan_api.specs.declared.api.json_value.Draft.{Draft}
 
 -- of the innermost open node, and of each node around it, outermost first
 pub record Unfinished : Type 0 where

@@ -7,7 +7,8 @@
 //! raw one, and a typed call does no more than the raw call and this reading of its answer.
 
 mod element;
-mod json;
+mod json_text;
+mod json_value;
 mod language;
 mod node;
 mod preorder;

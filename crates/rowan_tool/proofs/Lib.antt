@@ -4,7 +4,6 @@ pub mod EditLemmas
 pub mod EvalLemmas
 pub mod FitLemmas
 pub mod GrammarLemmas
-pub mod JsonLemmas
 pub mod LexedLemmas
 pub mod ListReparsed
 pub mod ListSearch

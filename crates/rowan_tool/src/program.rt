@@ -177,7 +177,7 @@ fn json_line(alloc: Global, root: &SyntaxNode<Lang>) -> Result<String, Fault>
     ensures ok { IfOk result (λ line. string_bytes line ≡ json_line_at root.now) }
     ensures err { IfErr result (λ fault. fault ≡ Fault.Memory) }
 {
-    let mut line = root.to_json(alloc)?.to_string(alloc)?;
+    let mut line = root.to_json_string(alloc)?;
     line.push_str("\n")?;
     Ok(line)
 }

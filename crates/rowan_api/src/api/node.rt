@@ -7,13 +7,14 @@ ghost use Rattle.std.specs.Prelude.{◌≡◌, [], IfOk, IfErr, Some, IsAscii, s
 ghost use Rattle.std.specs.Option.{option_map};
 ghost use Rattle.rowan_green.specs.declared.utility_types.NodeOrToken.TheVariants.{Node};
 ghost use Rattle.serde_json.specs.View.{view};
+ghost use Rattle.serde_json.specs.Written.{compact_text};
 ghost use Rattle.rowan_cursor.specs.Cursor.{StandsAt, index, kind, text_range, text_at};
 ghost use Rattle.rowan_cursor.specs.Replacement.{IsReplacement, KeepsTheRest, WhyNoReplacement};
 ghost use Rattle.rowan_cursor.specs.SyntaxText.{whole_text};
 ghost use Rattle.rowan_api.specs.Printed.{called, debug_line, debug_tree, tree_json};
 
 use crate::api::language::Language;
-use crate::api::{json, printed};
+use crate::api::{json_text, json_value, printed};
 use rowan_cursor::cursor;
 use rowan_cursor::syntax_text::SyntaxText;
 use rowan_green::fault::Fault;
@@ -167,7 +168,19 @@ impl<L: Language> SyntaxNode<L> {
         ensures ok { IfOk result (λ v. view v ≡ tree_json (called L.name L.meaning) self.now) }
         ensures err { IfErr result (λ e. e ≡ Fault.Memory) }
     {
-        Ok(json::node_json::<L>(alloc, &self.raw)?)
+        Ok(json_value::node_json::<L>(alloc, &self.raw)?)
+    }
+
+    /// The JSON of the node and of all that is in it as text, with no space: the text of the value of `to_json`, which is not
+    /// made for it. `Err(Fault::Memory)` for want of memory.
+    ///
+    /// It is made by a loop, so a deep tree needs no deep stack.
+    pub fn to_json_string(&self, alloc: Global) -> Result<String, Fault>
+        ensures ok { IfOk result (λ s.
+            string_bytes s ≡ compact_text (tree_json (called L.name L.meaning) self.now)) }
+        ensures err { IfErr result (λ e. e ≡ Fault.Memory) }
+    {
+        Ok(json_text::node_text::<L>(alloc, &self.raw)?)
     }
 }
 

@@ -2,6 +2,7 @@ ghost use Rattle.std.specs.Prelude.{◌≡◌, IfOk, IfErr, Some, IsAscii, strin
 ghost use Rattle.std.specs.Option.{option_map};
 ghost use Rattle.rowan_green.specs.declared.utility_types.NodeOrToken.TheVariants.{Token};
 ghost use Rattle.serde_json.specs.View.{view};
+ghost use Rattle.serde_json.specs.Written.{compact_text};
 ghost use Rattle.rowan_cursor.specs.Cursor.{StandsAtToken, index, kind, text_range, text_at};
 ghost use Rattle.rowan_cursor.specs.Moves.{tree_top, parent, next_sibling_or_token, prev_sibling_or_token, next_token, prev_token, parent_ancestors, siblings_with_tokens};
 ghost use Rattle.rowan_cursor.specs.Replacement.{IsReplacement, KeepsTheRest, WhyNoReplacement};
@@ -10,7 +11,8 @@ ghost use Rattle.rowan_api.specs.Printed.{called, debug_line, tree_json};
 use crate::api::typed_elements::TypedElements;
 use crate::api::typed_nodes::TypedNodes;
 use crate::api::{
-    Ancestors, Language, SiblingsWithTokens, SyntaxElement, SyntaxNode, element, json, printed,
+    Ancestors, Language, SiblingsWithTokens, SyntaxElement, SyntaxNode, element, json_text,
+    json_value, printed,
 };
 use rowan_cursor::cursor;
 use rowan_green::fault::Fault;
@@ -212,7 +214,17 @@ impl<L: Language> SyntaxToken<L> {
         ensures ok { IfOk result (λ v. view v ≡ tree_json (called L.name L.meaning) self.now) }
         ensures err { IfErr result (λ e. e ≡ Fault.Memory) }
     {
-        Ok(json::token_json::<L>(alloc, &self.raw)?)
+        Ok(json_value::token_json::<L>(alloc, &self.raw)?)
+    }
+
+    /// The JSON of the token as text, with no space: the text of the value of `to_json`, which is not made for it.
+    /// `Err(Fault::Memory)` for want of memory.
+    pub fn to_json_string(&self, alloc: Global) -> Result<String, Fault>
+        ensures ok { IfOk result (λ s.
+            string_bytes s ≡ compact_text (tree_json (called L.name L.meaning) self.now)) }
+        ensures err { IfErr result (λ e. e ≡ Fault.Memory) }
+    {
+        Ok(json_text::token_text::<L>(alloc, &self.raw)?)
     }
 }
 

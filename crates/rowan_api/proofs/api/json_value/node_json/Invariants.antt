@@ -1,7 +1,7 @@
 use Rattle.rowan_api.specs.Printed.{called}
 use Rattle.rowan_api.specs.Unfinished.{values_of}
 use Rattle.rowan_api.proofs.JsonLemmas.{Makes}
-use Rattle.rowan_api.proofs.api.json.node_json.Given as goal
+use Rattle.rowan_api.proofs.api.json_value.node_json.Given as goal
 
 abbrev pub invariant-loop-event : goal.invariant-loop-event
 invariant-loop-event g l =

@@ -4,7 +4,7 @@ use Rattle.serde_json.specs.View.{view}
 use Rattle.rowan_api.specs.Printed.{called}
 use Rattle.rowan_api.specs.Unfinished.{values_of}
 use Rattle.rowan_api.proofs.JsonLemmas.{makes-first, makes-all, empty-length, last-mapped}
-use Rattle.rowan_api.proofs.api.json.node_json.Goals as goal
+use Rattle.rowan_api.proofs.api.json_value.node_json.Goals as goal
 
 pub loop-event-init : goal.loop-event-init
 loop-event-init g c =
