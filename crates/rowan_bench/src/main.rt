@@ -36,7 +36,7 @@ usage: rowan_bench depth parse|compare|hash|show LEVELS
        rowan_bench walks events|offset|cover|copy|find|equal TURNS
        rowan_bench typed raw|walk|pointers TURNS
        rowan_bench edits replace|root|trace|cursors|green TURNS
-       rowan_bench printed debug_tree|json TURNS
+       rowan_bench printed debug_tree|json|value TURNS
        rowan_bench reparse list|table|whole TURNS
 
 depth   parses that many lists, one in the other, and then
@@ -86,7 +86,8 @@ edits   parses the s-expressions of standard input, and then in each turn
           green    makes them in green trees alone, and then a cursor at the last root
 printed parses the s-expressions of standard input, makes a cursor at the root, and then in each turn
           debug_tree  prints the tree, a line for each node and token
-          json        makes the JSON value of the tree, and its compact text
+          json        makes its compact JSON
+          value       makes the JSON value of the tree, and that text of it
 reparse parses the s-expressions of standard input, and then in each turn
           list     parses a list of 100 bytes or more in the middle anew, 1,000 times, by a cursor that is there
           table    finds it, parses it anew and makes a cursor at the new root, 10 times, each in the tree of the time before
@@ -288,7 +289,7 @@ fn replace(rt: &HostRuntime, words: &[String]) -> Result<()> {
 
 fn print(rt: &HostRuntime, words: &[String]) -> Result<()> {
     let form = printed::Form::from_word(word_at(words, 1)).context(
-        "debug_tree or json is missing",
+        "debug_tree, json or value is missing",
     )?;
     let turns = number_at(words, 2)?;
     let text = io::read_to_string(rt.alloc(), rt.reader())?;

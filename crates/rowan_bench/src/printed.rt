@@ -11,8 +11,10 @@ use std::time::{Duration, Instant};
 pub enum Form {
     /// A line for each node and token.
     DebugTree,
-    /// Compact JSON, of a value that is made first.
+    /// Compact JSON.
     Json,
+    /// The same text, of a value that is made first.
+    Value,
 }
 
 impl Form {
@@ -21,6 +23,7 @@ impl Form {
         match word {
             "debug_tree" => Some(Form::DebugTree),
             "json" => Some(Form::Json),
+            "value" => Some(Form::Value),
             _ => None,
         }
     }
@@ -28,7 +31,8 @@ impl Form {
     fn text(self, alloc: Global, root: &SyntaxNode<Lang>) -> Result<String, Fault> {
         match self {
             Form::DebugTree => root.debug_tree(alloc),
-            Form::Json => Ok(root.to_json(alloc)?.to_string(alloc)?),
+            Form::Json => root.to_json_string(alloc),
+            Form::Value => Ok(root.to_json(alloc)?.to_string(alloc)?),
         }
     }
 }

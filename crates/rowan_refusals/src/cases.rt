@@ -466,6 +466,7 @@ pub const CASES: [Case; 43] = [
             Step::Go(Move::ElementAt(&[0, 3])),
             Step::Make(Make::Line),
             Step::Make(Make::Json),
+            Step::Make(Make::JsonText),
             Step::Go(Move::FirstToken),
             Step::Make(Make::Line),
             Step::Make(Make::Json),
@@ -488,6 +489,7 @@ pub const CASES: [Case; 43] = [
             Step::Go(Move::FirstToken),
             Step::Make(Make::Line),
             Step::Make(Make::Json),
+            Step::Make(Make::JsonText),
         ],
     },
     Case {

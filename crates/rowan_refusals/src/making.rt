@@ -49,6 +49,8 @@ pub enum Make {
     Line,
     /// Its JSON.
     Json,
+    /// The text of its JSON.
+    JsonText,
     /// The root with a text in place of the list where the case stands, parsed anew.
     Reparsed(&'static str),
     /// The edits of a text, each a range that is to become another text.
@@ -96,6 +98,7 @@ impl Make {
             Make::Printed => "debug_tree",
             Make::Line => "debug_line",
             Make::Json => "to_json",
+            Make::JsonText => "to_json_string",
             Make::Reparsed(_) => "reparse_list, with drops",
             Make::ListEdits(_) => "edits",
             Make::ReparsedAll(_) => "reparse_all, with drops",

@@ -149,6 +149,7 @@ impl State {
             Make::Printed => Ok(Made::Text(self.syntax()?.debug_tree(alloc)?)),
             Make::Line => Ok(Made::Text(self.line()?)),
             Make::Json => Ok(Made::Json(self.json()?)),
+            Make::JsonText => Ok(Made::Text(self.json_text()?)),
             Make::Reparsed(text) => Ok(Made::Edited(self.reparsed(text)?)),
             Make::ListEdits(edits) => self.set_list_edits(edits),
             Make::ReparsedAll(text) => Ok(Made::Edited(self.reparsed_all(text)?)),
@@ -226,6 +227,14 @@ impl State {
         match self.typed_place()? {
             NodeOrToken::Node(node) => node.to_json(self.alloc),
             NodeOrToken::Token(token) => token.to_json(self.alloc),
+        }
+    }
+
+    /// The text of its JSON.
+    fn json_text(&self) -> Result<String, Fault> {
+        match self.typed_place()? {
+            NodeOrToken::Node(node) => node.to_json_string(self.alloc),
+            NodeOrToken::Token(token) => token.to_json_string(self.alloc),
         }
     }
 
