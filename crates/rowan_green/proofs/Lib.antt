@@ -1,5 +1,6 @@
 pub mod BuilderLemmas
 pub mod CacheLemmas
+pub mod ChainLemmas
 pub mod ChildList
 pub mod Drops
 pub mod EditLaws

@@ -2,10 +2,8 @@
 use Rattle.std.proofs.Common.{◌≡◌, ℕ, zero, suc, ◌+◌, ◌<◌, ◌≤◌, Bool, true, false, List, [], ◌∷◌, ◌++◌, length, map, take, drop, Option, Some, None, refl, sym, ◌∙◌, ap, subst, inl, inr, arith}
 use Rattle.std.specs.Prelude.{nat_eq}
 use Rattle.std.specs.List.{slice_get}
-use Rattle.std.specs.Map.{lookup}
-use Rattle.std.specs.HashMap.{get, UpdatesBy}
 use Rattle.std.specs.Cmp.Lexicographic.{pointwise, bytes_decides}
-use Rattle.std.proofs.lemmas.Bool.{cases_eq, ne_eqb, false≢true, and_parts, and_from, both_ways, false_from_ne_true}
+use Rattle.std.proofs.lemmas.Bool.{cases_eq, false≢true, and_parts, and_from, both_ways, false_from_ne_true}
 use Rattle.std.proofs.lemmas.Bool.Decides.{Decides-eqb}
 use Rattle.std.proofs.lemmas.List.{length-map, length-append, map-append, take-append-le, drop-append-le, length-drop, take_all}
 use Rattle.std.proofs.Math.Seq.{drop-append_seam}
@@ -16,8 +14,9 @@ use Rattle.rowan_green.specs.Term.{NodeTerm, node, Term, token_of, node_of, node
 use Rattle.rowan_green.specs.Same.{same_term, same_term-decides}
 use Rattle.rowan_green.specs.Path.{term_children}
 use Rattle.rowan_green.specs.Cache.{is_among}
-use Rattle.rowan_green.specs.Tables.{Numbers, token_hash, node_hash, key_hash, child_numbers, is_node_by, hash_of, hashes, kept_terms, StandAt, KeepsLimits, IsUpTo, IsNewest, IsKept, IsIndexed}
-use Rattle.rowan_green.proofs.CacheLemmas.{slice_get-grown, slice_get-last, slice_get-cases, place_from_is_among, StandsOnce-push}
+use Rattle.rowan_green.specs.Chains.{ChainsValue, bucket, buckets, IsUpTo, IsNewest}
+use Rattle.rowan_green.specs.Tables.{token_hash, node_hash, key_hash, child_numbers, is_node_by, hash_of, hashes, kept_terms, StandAt, KeepsLimits, IsKept, IsIndexed}
+use Rattle.rowan_green.proofs.CacheLemmas.{slice_get-cases, place_from_is_among, StandsOnce-push}
 use Rattle.rowan_green.proofs.NumberLemmas.{StandAt-terms, StandAt-numbers, StandAt-grown, StandAt-length}
 use Rattle.rowan_green.proofs.Terms.{terms-forest, forest-terms}
 
@@ -39,9 +38,9 @@ same_maps f g (x ∷ xs) h = ap (λ y. y ∷ map f xs) (h 0 x refl) ∙ ap (λ y
 
 -- ---- a search along a chain
 
--- what a search has still before it: the next value has the hash, and each value that passes the test stands there or before it
-pub record IsAhead (ks : List Kept) (all : List ℕ) (hash : ℕ) (next : Option ℕ) (test : Kept → Bool) : Type 0 where
-  pub stands : (n : ℕ) → next ≡ Some n → (n < length ks) × (slice_get (hashes all ks) n ≡ Some hash)
+-- what a search has still before it: the next value is in the bucket, and each that passes the test stands there or before it
+pub record IsAhead (ks : List Kept) (bs : List ℕ) (b : ℕ) (next : Option ℕ) (test : Kept → Bool) : Type 0 where
+  pub stands : (n : ℕ) → next ≡ Some n → (n < length ks) × (slice_get bs n ≡ Some b)
   pub ahead : (n : ℕ) (k : Kept) → slice_get ks n ≡ Some k → test k ≡ true → IsUpTo n next
 
 -- how far a search has still to go at most
@@ -49,41 +48,45 @@ abbrev pub left_before : Option ℕ → ℕ
 left_before None = 0
 left_before (Some n) = suc n
 
-module _ {ks : List Kept} {all : List ℕ} {newest : Numbers} (h : IsIndexed ks all newest) (hash : ℕ) (test : Kept → Bool) (hits : (k : Kept) → test k ≡ true → hash_of all k ≡ hash) where
-  pub IsAhead-first : IsAhead ks all hash (get nat_eq newest hash) test
-  IsAhead-first = record {
-    stands = (h.first hash).stands;
-    ahead = λ n k at on. (h.first hash).last n (slice_get_within ks n k at) (at_map (hash_of all) ks n k at ∙ ap (λ i. Some i) (hits k on));
+pub older_left : (bs : List ℕ) (n b : ℕ) (o : Option ℕ) → IsNewest bs n b o → left_before o < left_before (Some n)
+older_left bs n b o s =
+    elim o as (λ m. ((j : ℕ) → m ≡ Some j → (j < n) × (slice_get bs j ≡ Some b)) → left_before m < suc n) [
+      | None ↦ λ s. omega arith
+      | Some m ↦ λ s. omega (arith, (s m refl).0)
+    ] s.stands
+
+module _ {ks : List Kept} {all : List ℕ} {chains : ChainsValue} (h : IsIndexed ks all chains) (hash : ℕ) (test : Kept → Bool) (hits : (k : Kept) → test k ≡ true → hash_of all k ≡ hash) where
+  hit_bucket : (n : ℕ) (k : Kept) → slice_get ks n ≡ Some k → test k ≡ true → slice_get (buckets chains) n ≡ Some (bucket chains.count hash)
+  hit_bucket n k at on =
+      at_map (bucket chains.count) chains.hashes n (hash_of all k) (ap (λ is. slice_get is n) h.hashed ∙ at_map (hash_of all) ks n k at)
+      ∙ ap (λ i. Some (bucket chains.count i)) (hits k on)
+
+  places : length chains.hashes ≡ length ks
+  places = ap length h.hashed ∙ length-map ks (hash_of all)
+
+  pub IsAhead-first : (o : Option ℕ) → IsNewest (buckets chains) (length chains.hashes) (bucket chains.count hash) o → IsAhead ks (buckets chains) (bucket chains.count hash) o test
+  IsAhead-first o s = record {
+    stands = λ n e. let p = s.stands n e in (omega (arith, p.0, places), p.1);
+    ahead = λ n k at on. s.last n (omega (arith, slice_get_within ks n k at, places)) (hit_bucket n k at on);
   }
 
-  pub IsAhead-older : (n : ℕ) (k : Kept) → slice_get ks n ≡ Some k → IsAhead ks all hash (Some n) test → test k ≡ false → IsAhead ks all hash k.older test
-  IsAhead-older n k at a off =
-      let both : Some (hash_of all k) ≡ Some hash = sym (at_map (hash_of all) ks n k at) ∙ (a.stands n refl).1 in
-      let same : hash_of all k ≡ hash = cc in
-      let o : IsNewest (hashes all ks) n hash k.older = subst (λ i. IsNewest (hashes all ks) n i k.older) same (h.older n k at) in
-      record {
-        stands = λ m e. let p = o.stands m e in (omega (arith, p.0, slice_get_within ks n k at), p.1);
-        ahead = λ m j at_m on.
-            let upto : m ≤ n = a.ahead m j at_m on in
-            elim (cases_eq m n) [
-              | inl here ↦
-                  let again : Some j ≡ Some k = sym at_m ∙ ap (slice_get ks) here ∙ at in
-                  let is : j ≡ k = cc in
-                  absurd (both_ways (test k) off (subst (λ i. test i ≡ true) is on))
-              | inr apart ↦ o.last m (omega (arith, upto, apart)) (at_map (hash_of all) ks m j at_m ∙ ap (λ i. Some i) (hits j on))
-            ];
-      }
+  pub IsAhead-older : (n : ℕ) (k : Kept) → slice_get ks n ≡ Some k → IsAhead ks (buckets chains) (bucket chains.count hash) (Some n) test → test k ≡ false
+      → (o : Option ℕ) → IsNewest (buckets chains) n (bucket chains.count hash) o → IsAhead ks (buckets chains) (bucket chains.count hash) o test
+  IsAhead-older n k at a off o s = record {
+    stands = λ m e. let p = s.stands m e in (omega (arith, p.0, slice_get_within ks n k at), p.1);
+    ahead = λ m j at_m on.
+        let upto : m ≤ n = a.ahead m j at_m on in
+        elim (cases_eq m n) [
+          | inl here ↦
+              let again : Some j ≡ Some k = sym at_m ∙ ap (slice_get ks) here ∙ at in
+              let is : j ≡ k = cc in
+              absurd (both_ways (test k) off (subst (λ i. test i ≡ true) is on))
+          | inr apart ↦ s.last m (omega (arith, upto, apart)) (hit_bucket m j at_m on)
+        ];
+  }
 
-  pub older_left : (n : ℕ) (k : Kept) → slice_get ks n ≡ Some k → left_before k.older < left_before (Some n)
-  older_left n k at =
-      let o = h.older n k at in
-      elim k.older as (λ m. ((j : ℕ) → m ≡ Some j → (j < n) × (slice_get (hashes all ks) j ≡ Some (hash_of all k))) → left_before m < suc n) [
-        | None ↦ λ s. omega arith
-        | Some m ↦ λ s. omega (arith, (s m refl).0)
-      ] o.stands
-
-pub IsAhead-none : (ks : List Kept) (all : List ℕ) (hash : ℕ) (test : Kept → Bool) → IsAhead ks all hash None test → (n : ℕ) (k : Kept) → slice_get ks n ≡ Some k → test k ≡ false
-IsAhead-none ks all hash test a n k at = false_from_ne_true (test k) (λ on. a.ahead n k at on)
+pub IsAhead-none : (ks : List Kept) (bs : List ℕ) (b : ℕ) (test : Kept → Bool) → IsAhead ks bs b None test → (n : ℕ) (k : Kept) → slice_get ks n ≡ Some k → test k ≡ false
+IsAhead-none ks bs b test a n k at = false_from_ne_true (test k) (λ on. a.ahead n k at on)
 
 -- ---- the tests
 
@@ -109,9 +112,12 @@ node_hits all kind numbers k on =
 node_of-parts : (n : NodeTerm) → n ≡ node_of (node_kind n) (node_children n)
 node_of-parts (node k f) = ap (λ g. node k g) (sym (forest-terms f))
 
+pub places-length : {ks : List Kept} {all : List ℕ} {chains : ChainsValue} → IsIndexed ks all chains → length chains.hashes ≡ length ks
+places-length {ks} {all} h = ap length h.hashed ∙ length-map ks (hash_of all)
+
 -- ---- what a search finds
 
-module _ {ks : List Kept} {all : List ℕ} {newest : Numbers} (h : IsIndexed ks all newest) where
+module _ {ks : List Kept} {all : List ℕ} {chains : ChainsValue} (h : IsIndexed ks all chains) where
   abbrev seen : List Term
   seen = kept_terms ks
 
@@ -151,27 +157,13 @@ module _ {ks : List Kept} {all : List ℕ} {newest : Numbers} (h : IsIndexed ks 
 
   -- ---- one more value
 
-  pub IsIndexed-unchanged : (newest' : Numbers) → newest'.entries ≡ newest.entries → IsIndexed ks all newest'
-  IsIndexed-unchanged newest' e = record {
-    once = h.once;
-    kept = h.kept;
-    first = λ i. subst (λ o. IsNewest (hashes all ks) (length ks) i o) (sym (ap (λ es. lookup (nat_eq i) es) e)) (h.first i);
-    older = h.older;
-  }
+  pub IsIndexed-unchanged : (chains' : ChainsValue) → chains'.hashes ≡ chains.hashes → IsIndexed ks all chains'
+  IsIndexed-unchanged chains' e = record { once = h.once; kept = h.kept; hashed = e ∙ h.hashed }
 
-  module _ (hash : ℕ) (element : Term) (numbers : List ℕ) (newest' : Numbers) (fresh : is_among seen element ≡ false) (fits : KeepsLimits element)
-      (stand : StandAt seen numbers (term_children element)) (is_hash : hash ≡ key_hash element numbers) (puts : UpdatesBy nat_eq (nat_eq hash) newest newest' (Some (length ks))) where
+  module _ (hash : ℕ) (element : Term) (numbers : List ℕ) (chains' : ChainsValue) (fresh : is_among seen element ≡ false) (fits : KeepsLimits element)
+      (stand : StandAt seen numbers (term_children element)) (is_hash : hash ≡ key_hash element numbers) (pushed : chains'.hashes ≡ chains.hashes ++ hash ∷ []) where
     abbrev pub new : Kept
-    new = record { element = element; first_child = length all; older = get nat_eq newest hash }
-
-    abbrev hs : List ℕ
-    hs = hashes all ks ++ hash ∷ []
-
-    hs-length : length (hashes all ks) ≡ length ks
-    hs-length = length-map ks (hash_of all)
-
-    ks-length : length (ks ++ new ∷ []) ≡ length ks + 1
-    ks-length = length-append ks (new ∷ [])
+    new = record { element = element; first_child = length all }
 
     old_numbers : (k : Kept) → k.first_child + length (term_children k.element) ≤ length all → child_numbers (all ++ numbers) k ≡ child_numbers all k
     old_numbers k room =
@@ -190,7 +182,7 @@ module _ {ks : List Kept} {all : List ℕ} {newest : Numbers} (h : IsIndexed ks 
     new_hash : hash_of (all ++ numbers) new ≡ hash
     new_hash = ap (λ ns. key_hash element ns) new_numbers ∙ sym is_hash
 
-    grown : hashes (all ++ numbers) (ks ++ new ∷ []) ≡ hs
+    grown : hashes (all ++ numbers) (ks ++ new ∷ []) ≡ hashes all ks ++ hash ∷ []
     grown =
         map-append (hash_of (all ++ numbers)) ks (new ∷ [])
         ∙ ap (λ is. is ++ hash_of (all ++ numbers) new ∷ []) (same_maps (hash_of (all ++ numbers)) (hash_of all) ks old_hash)
@@ -198,50 +190,6 @@ module _ {ks : List Kept} {all : List ℕ} {newest : Numbers} (h : IsIndexed ks 
 
     pub grown_terms : kept_terms (ks ++ new ∷ []) ≡ seen ++ element ∷ []
     grown_terms = map-append (λ k. k.element) ks (new ∷ [])
-
-    IsNewest-grown : (bound i : ℕ) (o : Option ℕ) → bound ≤ length ks → IsNewest (hashes all ks) bound i o → IsNewest hs bound i o
-    IsNewest-grown bound i o within s = record {
-      stands = λ n e. let p = s.stands n e in (p.0, slice_get-grown (hashes all ks) (hash ∷ []) n i p.1);
-      last = λ n below at.
-          elim (slice_get-cases (hashes all ks) hash n i at) [
-            | inl old ↦ s.last n below old
-            | inr p ↦ absurd (omega (arith, below, within, p.0, hs-length))
-          ];
-    }
-
-    new_first : IsNewest hs (length (ks ++ new ∷ [])) hash (Some (length ks))
-    new_first = record {
-      stands = λ n e.
-          let here : length ks ≡ n = cc in
-          (omega (arith, ks-length, here), ap (slice_get hs) (sym here ∙ sym hs-length) ∙ slice_get-last (hashes all ks) hash);
-      last = λ n below at. omega (arith, below, ks-length);
-    }
-
-    other_first : (i : ℕ) → (i ≡ hash → ⊥) → IsNewest hs (length (ks ++ new ∷ [])) i (get nat_eq newest i)
-    other_first i apart = record {
-      stands = λ n e. let p = (h.first i).stands n e in (omega (arith, p.0, ks-length), slice_get-grown (hashes all ks) (hash ∷ []) n i p.1);
-      last = λ n below at.
-          elim (slice_get-cases (hashes all ks) hash n i at) [
-            | inl old ↦ (h.first i).last n (omega (arith, slice_get_within (hashes all ks) n i old, hs-length)) old
-            | inr p ↦ absurd (apart (sym p.1))
-          ];
-    }
-
-    first-push : (i : ℕ) → IsNewest hs (length (ks ++ new ∷ [])) i (get nat_eq newest' i)
-    first-push i =
-        elim (cases_eq i hash) [
-          | inl same ↦ subst (λ j. IsNewest hs (length (ks ++ new ∷ [])) j (get nat_eq newest' j)) (sym same) (subst (λ o. IsNewest hs (length (ks ++ new ∷ [])) hash o) (sym puts.1) new_first)
-          | inr apart ↦ subst (λ o. IsNewest hs (length (ks ++ new ∷ [])) i o) (sym (puts.2 i (ne_eqb hash i (λ e. apart (sym e))))) (other_first i apart)
-        ]
-
-    older-push : (n : ℕ) (k : Kept) → slice_get (ks ++ new ∷ []) n ≡ Some k → IsNewest hs n (hash_of (all ++ numbers) k) k.older
-    older-push n k at =
-        elim (slice_get-cases ks new n k at) [
-          | inl old ↦ subst (λ i. IsNewest hs n i k.older) (sym (old_hash n k old)) (IsNewest-grown n (hash_of all k) k.older (omega (arith, slice_get_within ks n k old)) (h.older n k old))
-          | inr p ↦
-              let at_end : IsNewest hs n hash (get nat_eq newest hash) = subst (λ m. IsNewest hs m hash (get nat_eq newest hash)) (sym p.0) (IsNewest-grown (length ks) hash (get nat_eq newest hash) (omega arith) (h.first hash)) in
-              subst (λ (j : Kept). IsNewest hs n (hash_of (all ++ numbers) j) j.older) p.1 (subst (λ i. IsNewest hs n i (get nat_eq newest hash)) (sym new_hash) at_end)
-        ]
 
     kept-push : (n : ℕ) (k : Kept) → slice_get (ks ++ new ∷ []) n ≡ Some k → IsKept (seen ++ element ∷ []) (all ++ numbers) k
     kept-push n k at =
@@ -263,10 +211,9 @@ module _ {ks : List Kept} {all : List ℕ} {newest : Numbers} (h : IsIndexed ks 
               })
         ]
 
-    pub IsIndexed-push : IsIndexed (ks ++ new ∷ []) (all ++ numbers) newest'
+    pub IsIndexed-push : IsIndexed (ks ++ new ∷ []) (all ++ numbers) chains'
     IsIndexed-push = record {
       once = subst (λ ts. (i j : ℕ) (t : Term) → slice_get ts i ≡ Some t → slice_get ts j ≡ Some t → i ≡ j) (sym grown_terms) (StandsOnce-push seen element h.once fresh);
       kept = λ n k at. subst (λ ts. IsKept ts (all ++ numbers) k) (sym grown_terms) (kept-push n k at);
-      first = λ i. subst (λ is. IsNewest is (length (ks ++ new ∷ [])) i (get nat_eq newest' i)) (sym grown) (first-push i);
-      older = λ n k at. subst (λ is. IsNewest is n (hash_of (all ++ numbers) k) k.older) (sym grown) (older-push n k at);
+      hashed = pushed ∙ ap (λ is. is ++ hash ∷ []) h.hashed ∙ sym grown;
     }

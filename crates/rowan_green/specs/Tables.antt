@@ -1,18 +1,16 @@
 -- The table of the values that a cache keeps, by which it finds the number of a term: for a token from its kind and text, and
--- for a node from its kind and the numbers of its children. Values with one hash stand in a chain, the newest first.
-use Rattle.std.specs.Prelude.{◌≡◌, ℕ, ◌+◌, ◌<◌, ◌≤◌, Bool, false, nat_eq, ◌==◌, ◌&&◌, List, [], ◌∷◌, length, map, take, drop, fold, Option, Some, None}
+-- for a node from its kind and the numbers of its children.
+use Rattle.std.specs.Prelude.{◌≡◌, ℕ, ◌+◌, ◌≤◌, Bool, false, nat_eq, ◌==◌, ◌&&◌, List, [], ◌∷◌, length, map, take, drop, fold, Some}
 use Rattle.std.specs.Cmp.Lexicographic.{pointwise}
 use Rattle.std.specs.Hash as fed
 use Rattle.std.specs.Hash.FoldHasher.{initial, write, finish}
 use Rattle.std.specs.List.{slice_get, flat_map}
-use Rattle.std.specs.HashMap.{HashMap, get}
-use Rattle.std.specs.declared.hash.FoldHasher.{FoldHasher}
-use Rattle.std.specs.declared.hash.BuildHasherDefault.{BuildHasherDefault}
 use Rattle.rowan_green.specs.declared.node_cache.table.Kept.{Kept}
 use Rattle.rowan_green.specs.declared.utility_types.NodeOrToken.TheVariants.{Node, Token}
 use Rattle.rowan_green.specs.Term.{Term, node_kind, node_children}
 use Rattle.rowan_green.specs.Path.{term_children}
 use Rattle.rowan_green.specs.Fits.{FitsToken, AreWithin}
+use Rattle.rowan_green.specs.Chains.{ChainsValue}
 use Rattle.rowan_green.specs.Cache.{first_seen, count_tokens}
 
 -- ---- what a term is found by
@@ -62,33 +60,18 @@ hash_of all k = key_hash k.element (child_numbers all k)
 abbrev pub hashes : List ℕ → List Kept → List ℕ
 hashes all ks = map (hash_of all) ks
 
--- the place is at or before this one
-abbrev pub IsUpTo : ℕ → Option ℕ → Type 0
-IsUpTo place None = ⊥
-IsUpTo place (Some n) = place ≤ n
-
--- this is the last place before the bound at which this hash stands, or none
-pub record IsNewest (hs : List ℕ) (bound hash : ℕ) (newest : Option ℕ) : Type 0 where
-  pub stands : (n : ℕ) → newest ≡ Some n → (n < bound) × (slice_get hs n ≡ Some hash)
-  pub last : (n : ℕ) → n < bound → slice_get hs n ≡ Some hash → IsUpTo n newest
-
 -- a value is within the limits, and the numbers of its children are those at which they stand
 pub record IsKept (seen : List Term) (all : List ℕ) (k : Kept) : Type 0 where
   pub fits : KeepsLimits k.element
   pub room : k.first_child + length (term_children k.element) ≤ length all
   pub children : StandAt seen (child_numbers all k) (term_children k.element)
 
-abbrev pub Numbers : Type 0
-Numbers = HashMap ℕ ℕ (BuildHasherDefault FoldHasher)
-
--- what the fields of a table keep: no term stands twice, and the values with one hash are a chain
-pub record IsIndexed (ks : List Kept) (all : List ℕ) (newest : Numbers) : Type 0 where
+-- what the fields of a table keep: no term stands twice, and the chains have the hash of each value
+pub record IsIndexed (ks : List Kept) (all : List ℕ) (chains : ChainsValue) : Type 0 where
   pub once : (i j : ℕ) (t : Term)
       → slice_get (kept_terms ks) i ≡ Some t → slice_get (kept_terms ks) j ≡ Some t → i ≡ j
   pub kept : (place : ℕ) (k : Kept) → slice_get ks place ≡ Some k → IsKept (kept_terms ks) all k
-  pub first : (hash : ℕ) → IsNewest (hashes all ks) (length ks) hash (get nat_eq newest hash)
-  pub older : (place : ℕ) (k : Kept) → slice_get ks place ≡ Some k
-      → IsNewest (hashes all ks) place (hash_of all k) k.older
+  pub hashed : chains.hashes ≡ hashes all ks
 
 -- what the fields of a cache keep: the terms are those first seen, and the tokens among them are counted
 pub record IsCounted (limit : ℕ) (seen : List Term) (token_count : ℕ) : Type 0 where

@@ -1,4 +1,5 @@
 //! The cache of green values: equal tokens, and equal nodes of few children, are stored once.
+mod chains;
 mod table;
 
 ghost use Rattle.std.specs.Prelude.{◌≡◌, ◌<◌, length, IfOk, IfErr, OnOk, OnErr, true, Some};

@@ -9,14 +9,11 @@ ghost use Rattle.rowan_green.specs.Path.{term_children};
 ghost use Rattle.rowan_green.specs.Tables.{token_hash, node_hash, key_hash, is_node_by, StandAt, KeepsLimits};
 
 use crate::green::{GreenElement, SyntaxKind};
+use crate::node_cache::chains::Chains;
 use crate::utility_types::NodeOrToken;
 use std::alloc::{AllocError, Global};
-use std::collections::HashMap;
 use std::hash::{FoldHasher, Hasher};
 use std::marker::Model;
-
-// The greatest number of values: each has a number of 32 bits.
-const MAX_VALUES: usize = u32::MAX as usize;
 
 // A value that a cache keeps.
 #[derive(Drop)]
@@ -24,8 +21,6 @@ struct Kept {
     element: GreenElement,
     // Where the numbers of its children begin in the table's list of these.
     first_child: usize,
-    // The newest of the older values that have the same hash. There is seldom one.
-    older: Option<u32>,
 }
 
 // Values, no two of which are equal. The place of a value is its number. The children of a node that is kept are kept too.
@@ -34,8 +29,8 @@ pub(super) struct ValueTable {
     values: Vec<Kept>,
     // The numbers of the children of each node that is kept, those of one node after those of another.
     child_numbers: Vec<u32>,
-    // The newest value of each hash.
-    newest: HashMap<u64, u32>,
+    // The places of the values by their hashes.
+    chains: Chains,
 }
 
 impl Model for ValueTable {
@@ -52,7 +47,7 @@ impl Model for ValueTable {
 
     ghost view = { λ t. kept_terms t.values.items };
 
-    ghost invariant = { λ t. IsIndexed t.values.items t.child_numbers.items t.newest };
+    ghost invariant = { λ t. IsIndexed t.values.items t.child_numbers.items t.chains };
 }
 
 impl ValueTable {
@@ -62,7 +57,7 @@ impl ValueTable {
         ValueTable {
             values: Vec::new(alloc),
             child_numbers: Vec::new(alloc),
-            newest: HashMap::new(alloc),
+            chains: Chains::new(alloc),
         }
     }
 
@@ -89,13 +84,13 @@ impl ValueTable {
         ensures none { let t = Token (token_of kind.0 text.now) in
             IsNone result → is_among self.now t ≡ false }
     {
-        let mut next = self.newest.get(&hash).copied();
+        let mut next = self.chains.newest(hash);
         while let Some(number) = next {
             let kept = &self.values[number as usize];
             if is_token(&kept.element, kind, text) {
                 return Some(number);
             }
-            next = kept.older;
+            next = self.chains.older(number);
         }
         None
     }
@@ -109,13 +104,13 @@ impl ValueTable {
             → IsNone result → is_among self.now (Node (node_of kind.0 ts)) ≡ false }
     {
         let all = self.child_numbers.as_slice();
-        let mut next = self.newest.get(&hash).copied();
+        let mut next = self.chains.newest(hash);
         while let Some(number) = next {
             let kept = &self.values[number as usize];
             if kept.is_node(all, kind, numbers) {
                 return Some(number);
             }
-            next = kept.older;
+            next = self.chains.older(number);
         }
         None
     }
@@ -136,20 +131,14 @@ impl ValueTable {
         ensures number { IfOk result (λ n. n ≡ length self.old) }
         ensures unchanged { OnErr result (self.new ≡ self.old) }
     {
-        let place = self.values.len();
-        if place >= MAX_VALUES {
-            return Err(AllocError);
-        }
-        let number = place as u32;
         self.values.reserve(1)?;
         self.child_numbers.reserve(numbers.len())?;
-        let older = self.newest.insert(hash, number)?;
+        let number = self.chains.push(hash)?;
         let first_child = self.child_numbers.len();
         self.child_numbers.extend_from_slice(numbers)?;
         self.values.push(Kept {
             element,
             first_child,
-            older,
         })?;
         Ok(number)
     }
