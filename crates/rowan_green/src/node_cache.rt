@@ -32,7 +32,8 @@ pub(crate) struct Interned {
 /// Stores equal tokens once, and equal nodes of at most so many children, whose children it stores too.
 ///
 /// A contract sees a cache as its limit and the list of the terms that it keeps, in the order in which it was first asked for
-/// them. The place of a term in that list is its number. No call of a cache is refused; a builder that asks it may be.
+/// them. The place of a term in that list is its number. No call of a cache is refused; a builder that asks it may be, with
+/// `Memory` where there is none, and also where the cache keeps 4,294,967,295 values and would keep one more.
 #[derive(Drop)]
 pub struct NodeCache {
     alloc: Global,

@@ -9,7 +9,7 @@ use Rattle.rowan_green.specs.Cache.{CacheValue, intern, is_among, AreNumbered, e
 use Rattle.rowan_green.specs.Tables.{StandAt, IsCounted}
 use Rattle.rowan_green.proofs.CacheLemmas.{slice_get-last, intern-known, intern-ineligible, intern-fresh, first_seen-fresh}
 use Rattle.rowan_green.proofs.NumberLemmas.{is_eligible-kept, StandAt-elements, IsNumbered-none, IsNumbered-at}
-use Rattle.rowan_green.proofs.IndexLemmas.{count_tokens-push}
+use Rattle.rowan_green.proofs.CountLemmas.{count_tokens-push}
 use Rattle.rowan_green.proofs.Terms.{terms-forest}
 use Rattle.rowan_green.proofs.node_cache.NodeCache.node.Goals as goal
 

@@ -1,6 +1,6 @@
 use Rattle.std.proofs.Common.{ap, arith}
 use Rattle.rowan_green.specs.Cache.{count_nodes}
-use Rattle.rowan_green.proofs.IndexLemmas.{count-length}
+use Rattle.rowan_green.proofs.CountLemmas.{count-length}
 use Rattle.rowan_green.proofs.node_cache.NodeCache.node_count.Goals as goal
 
 pub returns : goal.returns
