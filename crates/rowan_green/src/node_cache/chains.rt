@@ -96,8 +96,9 @@ impl Chains {
         if places < self.newest.len() {
             return Ok(());
         }
-        let mut newest = no_places(self.alloc, buckets_for(places))?;
-        let mut older = Vec::with_capacity(self.alloc, places + 1)?;
+        let buckets = buckets_for(places);
+        let mut newest = no_places(self.alloc, buckets)?;
+        let mut older = Vec::with_capacity(self.alloc, buckets)?;
         let hashes = self.hashes.as_slice();
         for hash in hashes {
             link(&mut newest, &mut older, *hash)?;
