@@ -108,7 +108,7 @@ first_seen-fresh limit seen t e fit fresh = sym (first_seen-push limit seen t e)
 abbrev pub StandsOnce : List Term → Type 0
 StandsOnce ts = (i j : ℕ) (t : Term) → slice_get ts i ≡ Some t → slice_get ts j ≡ Some t → i ≡ j
 
-StandsOnce-push : (ts : List Term) (t : Term) → StandsOnce ts → is_among ts t ≡ false → StandsOnce (ts ++ t ∷ [])
+pub StandsOnce-push : (ts : List Term) (t : Term) → StandsOnce ts → is_among ts t ≡ false → StandsOnce (ts ++ t ∷ [])
 StandsOnce-push ts t once fresh = λ i j u at_i at_j.
     elim (slice_get-cases ts t i u at_i) [
       | inl hi ↦ elim (slice_get-cases ts t j u at_j) [

@@ -1,10 +1,11 @@
 pub mod BuilderLemmas
 pub mod CacheLemmas
+pub mod ChainLemmas
 pub mod ChildList
+pub mod CountLemmas
 pub mod Drops
 pub mod EditLaws
 pub mod EditLemmas
-pub mod IndexLemmas
 pub mod LeafLaws
 pub mod NumberLemmas
 pub mod OffsetLemmas

@@ -87,6 +87,12 @@ StandAt-elements cache (i ∷ is) (n ∷ ns) h e =
     let rest : map (λ i. i.number) is ≡ map (λ n. Some n) ns = cc in
     ((subst (λ o. HasNumber cache i.element o) here h.0.numbered).1, StandAt-elements cache is ns h.1 rest)
 
+pub StandAt-length : (seen : List Term) (ns : List ℕ) (ts : List Term) → StandAt seen ns ts → length ns ≡ length ts
+StandAt-length seen [] [] h = refl
+StandAt-length seen [] (t ∷ ts) h = absurd h
+StandAt-length seen (n ∷ ns) [] h = absurd h
+StandAt-length seen (n ∷ ns) (t ∷ ts) h = ap suc (StandAt-length seen ns ts h.1)
+
 -- numbers stand for one list of terms
 pub StandAt-terms : (seen : List Term) (ns : List ℕ) (ts us : List Term) → StandAt seen ns ts → StandAt seen ns us → ts ≡ us
 StandAt-terms seen [] [] [] h g = refl

@@ -1,56 +1,219 @@
--- What a number that is put into a table leaves at each kind and key.
-use Rattle.std.proofs.Common.{◌≡◌, ℕ, Bool, true, false, cond, List, [], ◌∷◌, Some, None, refl, sym, ◌∙◌, ap, inl, inr}
-use Rattle.std.specs.Prelude.{nat_eq, unwrap_or}
-use Rattle.std.specs.Cmp.{IsEquivalence}
-use Rattle.std.specs.Option.{option_and_then}
-use Rattle.std.specs.Map.{lookup, IsKeyTest, KeepsOthers}
-use Rattle.std.specs.HashMap.{HashMap, get, get_by, UpdatesBy}
-use Rattle.std.specs.declared.hash.FoldHasher.{FoldHasher}
-use Rattle.std.specs.declared.hash.BuildHasherDefault.{BuildHasherDefault}
-use Rattle.std.proofs.lemmas.Bool.{cases_eq, ne_eqb, false≢true, false_from_ne_true}
-use Rattle.rowan_green.specs.Tables.{Numbers, number_by, PutsNumber}
+-- The table of a cache: what a search along a chain has still before it, and what one more value changes.
+use Rattle.std.proofs.Common.{◌≡◌, ℕ, zero, suc, ◌+◌, ◌<◌, ◌≤◌, Bool, true, false, List, [], ◌∷◌, ◌++◌, length, map, take, drop, Option, Some, None, refl, sym, ◌∙◌, ap, subst, inl, inr, arith}
+use Rattle.std.specs.Prelude.{nat_eq}
+use Rattle.std.specs.List.{slice_get}
+use Rattle.std.specs.Cmp.Lexicographic.{pointwise, bytes_decides}
+use Rattle.std.proofs.lemmas.Bool.{cases_eq, false≢true, and_parts, and_from, both_ways, false_from_ne_true}
+use Rattle.std.proofs.lemmas.Bool.Decides.{Decides-eqb}
+use Rattle.std.proofs.lemmas.List.{length-map, length-append, map-append, take-append-le, drop-append-le, length-drop, take_all}
+use Rattle.std.proofs.Math.Seq.{drop-append_seam}
+use Rattle.std.proofs.lemmas.Option.{slice_get_within}
+use Rattle.rowan_green.specs.declared.node_cache.table.Kept.{Kept}
+use Rattle.rowan_green.specs.declared.utility_types.NodeOrToken.TheVariants.{Node, Token}
+use Rattle.rowan_green.specs.Term.{NodeTerm, node, Term, token_of, node_of, node_kind, node_children}
+use Rattle.rowan_green.specs.Same.{same_term, same_term-decides}
+use Rattle.rowan_green.specs.Path.{term_children}
+use Rattle.rowan_green.specs.Cache.{is_among}
+use Rattle.rowan_green.specs.Chains.{ChainsValue, bucket, buckets, IsUpTo, IsNewest}
+use Rattle.rowan_green.specs.Tables.{token_hash, node_hash, key_hash, child_numbers, is_node_by, hash_of, hashes, kept_terms, StandAt, KeepsLimits, IsKept, IsIndexed}
+use Rattle.rowan_green.proofs.CacheLemmas.{slice_get-cases, place_from_is_among, StandsOnce-push}
+use Rattle.rowan_green.proofs.NumberLemmas.{StandAt-terms, StandAt-numbers, StandAt-grown, StandAt-length}
+use Rattle.rowan_green.proofs.Terms.{terms-forest, forest-terms}
 
-lookup-same_test : {K X : Type 0} (test test' : K → Bool) → ((y : K) → test y ≡ test' y) → (es : List (K × X)) → lookup test es ≡ lookup test' es
-lookup-same_test test test' h [] = refl
-lookup-same_test {K} {X} test test' h (e ∷ es) =
-    ap (λ b. cond b (Some e.1) (lookup test es)) (h e.0) ∙ ap (λ o. cond (test' e.0) (Some e.1) o) (lookup-same_test test test' h es)
+-- ---- places in a mapped list
 
-others_kept : {K X : Type 0} (eq : K → K → Bool) (test : K → Bool) (old new : List (K × X)) → KeepsOthers eq test old new → (other : K → Bool) → IsKeyTest eq other → ((k : K) → test k ≡ true → other k ≡ false) → lookup other new ≡ lookup other old
-unfolding KeepsOthers
-others_kept eq test old new h = h
+pub at_map : {X Y : Type 0} (f : X → Y) (xs : List X) (n : ℕ) (x : X) → slice_get xs n ≡ Some x → slice_get (map f xs) n ≡ Some (f x)
+at_map f [] n x e = absurd cc
+at_map f (y ∷ xs) zero x e = let same : y ≡ x = cc in ap (λ z. Some (f z)) same
+at_map f (y ∷ xs) (suc n) x e = at_map f xs n x e
 
--- the map of numbers by key that a table has for one kind
-abbrev pub Keyed : Type 0 → Type 0
-Keyed K = HashMap K ℕ (BuildHasherDefault FoldHasher)
+pub from_map : {X Y : Type 0} (f : X → Y) (xs : List X) (n : ℕ) (y : Y) → slice_get (map f xs) n ≡ Some y → (x : X) × (slice_get xs n ≡ Some x) × (f x ≡ y)
+from_map f [] n y e = absurd cc
+from_map f (x ∷ xs) zero y e = (x, refl, cc)
+from_map f (x ∷ xs) (suc n) y e = from_map f xs n y e
 
-module _ {K : Type 0} (eq : K → K → Bool) (laws : IsEquivalence eq) (old new : Numbers K) (kind : ℕ) (key : K) (number : ℕ) (none inner inner' : Keyed K) where
-  at_other_kind : UpdatesBy nat_eq (nat_eq kind) old new (Some inner') → (test : K → Bool) (k : ℕ) → (k ≡ kind → ⊥) → number_by test new k ≡ number_by test old k
-  at_other_kind outer test k apart =
-      ap (λ m. option_and_then (λ (n : Keyed K). get_by test n) m) (outer.2 k (ne_eqb kind k (λ e. apart (sym e))))
+same_maps : {X Y : Type 0} (f g : X → Y) (xs : List X) → ((n : ℕ) (x : X) → slice_get xs n ≡ Some x → f x ≡ g x) → map f xs ≡ map g xs
+same_maps f g [] h = refl
+same_maps f g (x ∷ xs) h = ap (λ y. y ∷ map f xs) (h 0 x refl) ∙ ap (λ ys. g x ∷ ys) (same_maps f g xs (λ n. h (suc n)))
 
-  at_kind : UpdatesBy nat_eq (nat_eq kind) old new (Some inner') → (test : K → Bool) → number_by test new kind ≡ get_by test inner'
-  at_kind outer test = ap (λ m. option_and_then (λ (n : Keyed K). get_by test n) m) outer.1
+-- ---- a search along a chain
 
-  was_at_kind : none.entries ≡ [] → inner ≡ unwrap_or (get nat_eq old kind) none → (test : K → Bool) → get_by test inner ≡ number_by test old kind
-  was_at_kind empty e test =
-      ap (λ (m : Keyed K). get_by test m) e
-      ∙ elim (get nat_eq old kind) as (λ m. get_by test (unwrap_or m none) ≡ option_and_then (λ (n : Keyed K). get_by test n) m) [
-        | None ↦ ap (λ es. lookup test es) empty
-        | Some m ↦ refl
-      ]
+-- what a search has still before it: the next value is in the bucket, and each that passes the test stands there or before it
+pub record IsAhead (ks : List Kept) (bs : List ℕ) (b : ℕ) (next : Option ℕ) (test : Kept → Bool) : Type 0 where
+  pub stands : (n : ℕ) → next ≡ Some n → (n < length ks) × (slice_get bs n ≡ Some b)
+  pub ahead : (n : ℕ) (k : Kept) → slice_get ks n ≡ Some k → test k ≡ true → IsUpTo n next
 
-  apart_from : (test : K → Bool) → IsKeyTest eq test → test key ≡ false → (k : K) → eq key k ≡ true → test k ≡ false
-  apart_from test is_test off k same =
-      false_from_ne_true (test k) (λ on. false≢true (sym off ∙ is_test k key on ∙ laws.symm k key ∙ same))
+-- how far a search has still to go at most
+abbrev pub left_before : Option ℕ → ℕ
+left_before None = 0
+left_before (Some n) = suc n
 
-  pub PutsNumber-of : none.entries ≡ [] → inner ≡ unwrap_or (get nat_eq old kind) none → UpdatesBy eq (eq key) inner inner' (Some number)
-      → UpdatesBy nat_eq (nat_eq kind) old new (Some inner') → PutsNumber eq old new kind key number
-  PutsNumber-of empty e put outer = record {
-    here = λ test is_test on. at_kind outer test ∙ lookup-same_test test (eq key) (λ y. is_test key y on) inner'.entries ∙ put.1;
-    others = λ test k is_test off.
-        elim (cases_eq k kind) [
-          | inl same ↦ ap (λ j. number_by test new j) same ∙ at_kind outer test ∙ others_kept eq (eq key) inner.entries inner'.entries put.3 test is_test (apart_from test is_test (off same))
-              ∙ was_at_kind empty e test ∙ ap (λ j. number_by test old j) (sym same)
-          | inr apart ↦ at_other_kind outer test k apart
+pub older_left : (bs : List ℕ) (n b : ℕ) (o : Option ℕ) → IsNewest bs n b o → left_before o < left_before (Some n)
+older_left bs n b o s =
+    elim o as (λ m. ((j : ℕ) → m ≡ Some j → (j < n) × (slice_get bs j ≡ Some b)) → left_before m < suc n) [
+      | None ↦ λ s. omega arith
+      | Some m ↦ λ s. omega (arith, (s m refl).0)
+    ] s.stands
+
+module _ {ks : List Kept} {all : List ℕ} {chains : ChainsValue} (h : IsIndexed ks all chains) (hash : ℕ) (test : Kept → Bool) (hits : (k : Kept) → test k ≡ true → hash_of all k ≡ hash) where
+  hit_bucket : (n : ℕ) (k : Kept) → slice_get ks n ≡ Some k → test k ≡ true → slice_get (buckets chains) n ≡ Some (bucket chains.count hash)
+  hit_bucket n k at on =
+      at_map (bucket chains.count) chains.hashes n (hash_of all k) (ap (λ is. slice_get is n) h.hashed ∙ at_map (hash_of all) ks n k at)
+      ∙ ap (λ i. Some (bucket chains.count i)) (hits k on)
+
+  places : length chains.hashes ≡ length ks
+  places = ap length h.hashed ∙ length-map ks (hash_of all)
+
+  pub IsAhead-first : (o : Option ℕ) → IsNewest (buckets chains) (length chains.hashes) (bucket chains.count hash) o → IsAhead ks (buckets chains) (bucket chains.count hash) o test
+  IsAhead-first o s = record {
+    stands = λ n e. let p = s.stands n e in (omega (arith, p.0, places), p.1);
+    ahead = λ n k at on. s.last n (omega (arith, slice_get_within ks n k at, places)) (hit_bucket n k at on);
+  }
+
+  pub IsAhead-older : (n : ℕ) (k : Kept) → slice_get ks n ≡ Some k → IsAhead ks (buckets chains) (bucket chains.count hash) (Some n) test → test k ≡ false
+      → (o : Option ℕ) → IsNewest (buckets chains) n (bucket chains.count hash) o → IsAhead ks (buckets chains) (bucket chains.count hash) o test
+  IsAhead-older n k at a off o s = record {
+    stands = λ m e. let p = s.stands m e in (omega (arith, p.0, slice_get_within ks n k at), p.1);
+    ahead = λ m j at_m on.
+        let upto : m ≤ n = a.ahead m j at_m on in
+        elim (cases_eq m n) [
+          | inl here ↦
+              let again : Some j ≡ Some k = sym at_m ∙ ap (slice_get ks) here ∙ at in
+              let is : j ≡ k = cc in
+              absurd (both_ways (test k) off (subst (λ i. test i ≡ true) is on))
+          | inr apart ↦ s.last m (omega (arith, upto, apart)) (hit_bucket m j at_m on)
         ];
   }
+
+pub IsAhead-none : (ks : List Kept) (bs : List ℕ) (b : ℕ) (test : Kept → Bool) → IsAhead ks bs b None test → (n : ℕ) (k : Kept) → slice_get ks n ≡ Some k → test k ≡ false
+IsAhead-none ks bs b test a n k at = false_from_ne_true (test k) (λ on. a.ahead n k at on)
+
+-- ---- the tests
+
+pub token_hits : (all : List ℕ) (kind : ℕ) (text : List ℕ) (k : Kept) → same_term k.element (Token (token_of kind text)) ≡ true → hash_of all k ≡ token_hash kind text
+token_hits all kind text k on = ap (λ t. key_hash t (child_numbers all k)) ((same_term-decides k.element (Token (token_of kind text))).0 on)
+
+-- what is known of a node that passes
+pub is_node_by-parts : (all : List ℕ) (kind : ℕ) (numbers : List ℕ) (k : Kept) (t : Term) → is_node_by all kind numbers k t ≡ true → (n : NodeTerm) × (t ≡ Node n) × (node_kind n ≡ kind) × (child_numbers all k ≡ numbers)
+is_node_by-parts all kind numbers k (Token t) on = absurd (false≢true on)
+is_node_by-parts all kind numbers k (Node n) on =
+    let p = and_parts (nat_eq (node_kind n) kind) (pointwise nat_eq (child_numbers all k) numbers) on in
+    (n, refl, (Decides-eqb (node_kind n) kind).0 p.0, (bytes_decides (child_numbers all k) numbers).0 p.1)
+
+pub is_node_by-same : (all : List ℕ) (kind : ℕ) (numbers : List ℕ) (k : Kept) (n : NodeTerm) → node_kind n ≡ kind → child_numbers all k ≡ numbers → is_node_by all kind numbers k (Node n) ≡ true
+is_node_by-same all kind numbers k n same_kind same_numbers =
+    and_from (nat_eq (node_kind n) kind) (pointwise nat_eq (child_numbers all k) numbers) ((Decides-eqb (node_kind n) kind).1 same_kind) ((bytes_decides (child_numbers all k) numbers).1 same_numbers)
+
+pub node_hits : (all : List ℕ) (kind : ℕ) (numbers : List ℕ) (k : Kept) → is_node_by all kind numbers k k.element ≡ true → hash_of all k ≡ node_hash kind numbers
+node_hits all kind numbers k on =
+    let p = is_node_by-parts all kind numbers k k.element on in
+    ap (λ t. key_hash t (child_numbers all k)) p.1 ∙ ap (λ j. node_hash j (child_numbers all k)) p.2 ∙ ap (λ ns. node_hash kind ns) p.3
+
+node_of-parts : (n : NodeTerm) → n ≡ node_of (node_kind n) (node_children n)
+node_of-parts (node k f) = ap (λ g. node k g) (sym (forest-terms f))
+
+pub places-length : {ks : List Kept} {all : List ℕ} {chains : ChainsValue} → IsIndexed ks all chains → length chains.hashes ≡ length ks
+places-length {ks} {all} h = ap length h.hashed ∙ length-map ks (hash_of all)
+
+-- ---- what a search finds
+
+module _ {ks : List Kept} {all : List ℕ} {chains : ChainsValue} (h : IsIndexed ks all chains) where
+  abbrev seen : List Term
+  seen = kept_terms ks
+
+  pub token_found : (t : Term) (n : ℕ) (k : Kept) → slice_get ks n ≡ Some k → same_term k.element t ≡ true → slice_get seen n ≡ Some t
+  token_found t n k at on = at_map (λ j. j.element) ks n k at ∙ ap (λ u. Some u) ((same_term-decides k.element t).0 on)
+
+  pub token_absent : (t : Term) → ((n : ℕ) (k : Kept) → slice_get ks n ≡ Some k → same_term k.element t ≡ false) → is_among seen t ≡ false
+  token_absent t none =
+      false_from_ne_true (is_among seen t) (λ a.
+      let p = place_from_is_among seen t a in
+      let q = from_map (λ j. j.element) ks p.0 t p.1 in
+      both_ways (same_term q.0.element t) (none p.0 q.0 q.1) ((same_term-decides q.0.element t).1 q.2))
+
+  module _ (kind : ℕ) (numbers : List ℕ) (ts : List Term) (stand : StandAt seen numbers ts) where
+    pub node_found : (n : ℕ) (k : Kept) → slice_get ks n ≡ Some k → is_node_by all kind numbers k k.element ≡ true → slice_get seen n ≡ Some (Node (node_of kind ts))
+    node_found n k at on =
+        let p = is_node_by-parts all kind numbers k k.element on in
+        let m : NodeTerm = p.0 in
+        let children : StandAt seen numbers (node_children m) =
+        subst (λ ns. StandAt seen ns (node_children m)) p.3 (subst (λ t. StandAt seen (child_numbers all k) (term_children t)) p.1 (h.kept n k at).children) in
+        let same : node_children m ≡ ts = StandAt-terms seen numbers (node_children m) ts children stand in
+        at_map (λ j. j.element) ks n k at ∙ ap (λ t. Some t) p.1
+        ∙ ap (λ i. Some (Node i)) (node_of-parts m ∙ ap (λ j. node_of j (node_children m)) p.2 ∙ ap (λ us. node_of kind us) same)
+
+    pub node_absent : ((n : ℕ) (k : Kept) → slice_get ks n ≡ Some k → is_node_by all kind numbers k k.element ≡ false) → is_among seen (Node (node_of kind ts)) ≡ false
+    node_absent none =
+        let t : Term = Node (node_of kind ts) in
+        false_from_ne_true (is_among seen t) (λ a.
+        let p = place_from_is_among seen t a in
+        let q = from_map (λ j. j.element) ks p.0 t p.1 in
+        let k : Kept = q.0 in
+        let children : StandAt seen (child_numbers all k) ts =
+        subst (λ us. StandAt seen (child_numbers all k) us) (terms-forest ts) (subst (λ u. StandAt seen (child_numbers all k) (term_children u)) q.2 (h.kept p.0 k q.1).children) in
+        let same : child_numbers all k ≡ numbers = StandAt-numbers seen h.once (child_numbers all k) numbers ts children stand in
+        let on : is_node_by all kind numbers k k.element ≡ true = subst (λ u. is_node_by all kind numbers k u ≡ true) (sym q.2) (is_node_by-same all kind numbers k (node_of kind ts) refl same) in
+        both_ways (is_node_by all kind numbers k k.element) (none p.0 k q.1) on)
+
+  -- ---- one more value
+
+  pub IsIndexed-unchanged : (chains' : ChainsValue) → chains'.hashes ≡ chains.hashes → IsIndexed ks all chains'
+  IsIndexed-unchanged chains' e = record { once = h.once; kept = h.kept; hashed = e ∙ h.hashed }
+
+  module _ (hash : ℕ) (element : Term) (numbers : List ℕ) (chains' : ChainsValue) (fresh : is_among seen element ≡ false) (fits : KeepsLimits element)
+      (stand : StandAt seen numbers (term_children element)) (is_hash : hash ≡ key_hash element numbers) (pushed : chains'.hashes ≡ chains.hashes ++ hash ∷ []) where
+    abbrev pub new : Kept
+    new = record { element = element; first_child = length all }
+
+    old_numbers : (k : Kept) → k.first_child + length (term_children k.element) ≤ length all → child_numbers (all ++ numbers) k ≡ child_numbers all k
+    old_numbers k room =
+        let count = length (term_children k.element) in
+        ap (λ ns. take count ns) (drop-append-le k.first_child all numbers (omega (arith, room)))
+        ∙ take-append-le count (drop k.first_child all) numbers (omega (arith, room, length-drop k.first_child all))
+
+    new_numbers : child_numbers (all ++ numbers) new ≡ numbers
+    new_numbers =
+        let count = length (term_children element) in
+        ap (λ ns. take count ns) (drop-append_seam all numbers) ∙ take_all count numbers (omega (arith, StandAt-length seen numbers (term_children element) stand))
+
+    old_hash : (n : ℕ) (k : Kept) → slice_get ks n ≡ Some k → hash_of (all ++ numbers) k ≡ hash_of all k
+    old_hash n k at = ap (λ ns. key_hash k.element ns) (old_numbers k (h.kept n k at).room)
+
+    new_hash : hash_of (all ++ numbers) new ≡ hash
+    new_hash = ap (λ ns. key_hash element ns) new_numbers ∙ sym is_hash
+
+    grown : hashes (all ++ numbers) (ks ++ new ∷ []) ≡ hashes all ks ++ hash ∷ []
+    grown =
+        map-append (hash_of (all ++ numbers)) ks (new ∷ [])
+        ∙ ap (λ is. is ++ hash_of (all ++ numbers) new ∷ []) (same_maps (hash_of (all ++ numbers)) (hash_of all) ks old_hash)
+        ∙ ap (λ i. hashes all ks ++ i ∷ []) new_hash
+
+    pub grown_terms : kept_terms (ks ++ new ∷ []) ≡ seen ++ element ∷ []
+    grown_terms = map-append (λ k. k.element) ks (new ∷ [])
+
+    kept-push : (n : ℕ) (k : Kept) → slice_get (ks ++ new ∷ []) n ≡ Some k → IsKept (seen ++ element ∷ []) (all ++ numbers) k
+    kept-push n k at =
+        elim (slice_get-cases ks new n k at) [
+          | inl old ↦
+              let q = h.kept n k old in
+              record {
+                fits = q.fits;
+                room = omega (arith, q.room, length-append all numbers);
+                children = StandAt-grown seen (element ∷ []) (child_numbers (all ++ numbers) k) (term_children k.element)
+                    (subst (λ ns. StandAt seen ns (term_children k.element)) (sym (old_numbers k q.room)) q.children);
+              }
+          | inr p ↦
+              subst (λ (j : Kept). IsKept (seen ++ element ∷ []) (all ++ numbers) j) p.1 (record {
+                fits = fits;
+                room = omega (arith, StandAt-length seen numbers (term_children element) stand, length-append all numbers);
+                children = StandAt-grown seen (element ∷ []) (child_numbers (all ++ numbers) new) (term_children element)
+                    (subst (λ ns. StandAt seen ns (term_children element)) (sym new_numbers) stand);
+              })
+        ]
+
+    pub IsIndexed-push : IsIndexed (ks ++ new ∷ []) (all ++ numbers) chains'
+    IsIndexed-push = record {
+      once = subst (λ ts. (i j : ℕ) (t : Term) → slice_get ts i ≡ Some t → slice_get ts j ≡ Some t → i ≡ j) (sym grown_terms) (StandsOnce-push seen element h.once fresh);
+      kept = λ n k at. subst (λ ts. IsKept ts (all ++ numbers) k) (sym grown_terms) (kept-push n k at);
+      hashed = pushed ∙ ap (λ is. is ++ hash ∷ []) h.hashed ∙ sym grown;
+    }

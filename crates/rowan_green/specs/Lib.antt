@@ -1,6 +1,7 @@
 pub mod Builder
 pub mod BuilderCoding
 pub mod Cache
+pub mod Chains
 pub mod CacheCoding
 pub mod Coding
 pub mod Edits

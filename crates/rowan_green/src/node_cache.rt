@@ -1,21 +1,23 @@
 //! The cache of green values: equal tokens, and equal nodes of few children, are stored once.
+mod chains;
+mod table;
+
 ghost use Rattle.std.specs.Prelude.{◌≡◌, ◌<◌, length, IfOk, IfErr, OnOk, OnErr, true, Some};
 ghost use Rattle.std.specs.List.{slice_get};
 ghost use Rattle.rowan_green.specs.declared.utility_types.NodeOrToken.TheVariants.{Node, Token};
-ghost use Rattle.rowan_green.specs.Term.{token_of, node_of};
+ghost use Rattle.rowan_green.specs.Term.{Term, token_of, node_of};
 ghost use Rattle.rowan_green.specs.Fits.{byte_limit, AreWithin, WhyNoNode};
 ghost use Rattle.rowan_green.specs.Word.{WhyNoToken};
 ghost use Rattle.rowan_green.specs.Cache.{empty_cache, first_seen, count_tokens, count_nodes, intern, IsNumbered, AreNumbered, elements, ListsNumbers, gets_number};
-ghost use Rattle.rowan_green.specs.Tables.{PutsNumber, SameNumbers, number_of_token, number_of_node};
+ghost use Rattle.rowan_green.specs.Tables.{KeepsLimits};
 
 use crate::fault::Fault;
 use crate::green::{GreenElement, GreenNode, GreenToken, SyntaxKind};
 use crate::utility_types::NodeOrToken;
 use std::alloc::{AllocError, Global};
-use std::collections::HashMap;
-use std::hash::Hash;
 use std::marker::Model;
 use std::mem;
+use table::ValueTable;
 
 /// The greatest number of children of a node that `NodeCache::new` keeps.
 const MAX_CHILDREN: usize = 3;
@@ -23,28 +25,22 @@ const MAX_CHILDREN: usize = 3;
 /// An element of a tree that is being built, with its number in the cache where the cache keeps it.
 #[derive(Drop)]
 pub(crate) struct Interned {
-    pub(crate) number: Option<usize>,
+    pub(crate) number: Option<u32>,
     pub(crate) element: GreenElement,
 }
-
-// Numbers by kind, and by a key beside it.
-type Numbers<K> = HashMap<u16, HashMap<K, usize>>;
 
 /// Stores equal tokens once, and equal nodes of at most so many children, whose children it stores too.
 ///
 /// A contract sees a cache as its limit and the list of the terms that it keeps, in the order in which it was first asked for
-/// them. The place of a term in that list is its number. No call of a cache is refused; a builder that asks it may be.
+/// them. The place of a term in that list is its number. No call of a cache is refused; a builder that asks it may be, with
+/// `Memory` where there is none, and also where the cache keeps 4,294,967,295 values and would keep one more.
 #[derive(Drop)]
 pub struct NodeCache {
     alloc: Global,
     limit: usize,
-    values: Vec<GreenElement>,
-    // The number of a token by its kind and its text.
-    tokens: Numbers<String>,
-    // The number of a node by its kind and the numbers of its children.
-    nodes: Numbers<Vec<usize>>,
+    table: ValueTable,
     // The numbers of the children of the node that is looked up: kept from one call to the next for its memory.
-    numbers: Vec<usize>,
+    numbers: Vec<u32>,
     token_count: usize,
 }
 
@@ -56,11 +52,11 @@ impl Model for NodeCache {
 
     ghost coded = { coded_cache };
 
-    ghost use Rattle.rowan_green.specs.Tables.{IsIndexed};
+    ghost use Rattle.rowan_green.specs.Tables.{IsCounted};
 
-    ghost view = { λ c. record { limit = c.limit; seen = c.values.items } };
+    ghost view = { λ c. record { limit = c.limit; seen = c.table } };
 
-    ghost invariant = { λ c. IsIndexed c.limit c.values.items c.tokens c.nodes c.token_count };
+    ghost invariant = { λ c. IsCounted c.limit c.table c.token_count };
 }
 
 impl NodeCache {
@@ -78,9 +74,7 @@ impl NodeCache {
         NodeCache {
             alloc,
             limit,
-            values: Vec::new(alloc),
-            tokens: HashMap::new(alloc),
-            nodes: HashMap::new(alloc),
+            table: ValueTable::new(alloc),
             numbers: Vec::new(alloc),
             token_count: 0,
         }
@@ -107,7 +101,7 @@ impl NodeCache {
     pub fn node_count(&self) -> usize
         ensures { result ≡ count_nodes self.now.seen }
     {
-        self.values.len() - self.token_count
+        self.table.len() - self.token_count
     }
 
     // The token of a kind and a text: the one that the cache keeps, or else a new one, which it keeps from now on. A refused
@@ -123,16 +117,13 @@ impl NodeCache {
         ensures kept { OnOk result (self.new ≡ intern self.old (Token (token_of kind.0 text.now))) }
         ensures unchanged { OnErr result (self.new ≡ self.old) }
     {
-        if let Some(number) = token_number(&self.tokens, kind.0, text) {
-            return Ok(interned_at(self.values.as_slice(), number)?);
+        let hash = table::token_hash(kind, text);
+        if let Some(number) = self.table.token_number(hash, kind, text) {
+            return Ok(interned_at(&self.table, number)?);
         }
         let token = GreenToken::new(self.alloc, kind, text)?;
-        let kept = token.clone()?;
-        let key = String::from_str(self.alloc, text)?;
-        self.values.reserve(1)?;
-        let number = self.values.len();
-        put(&mut self.tokens, self.alloc, kind.0, key, number)?;
-        self.values.push(NodeOrToken::Token(kept))?;
+        let kept = NodeOrToken::Token(token.clone()?);
+        let number = self.table.keep(hash, kept, &[])?;
         self.token_count += 1;
         Ok(Interned {
             number: Some(number),
@@ -167,16 +158,14 @@ impl NodeCache {
                 element: NodeOrToken::Node(node),
             });
         }
-        if let Some(number) = node_number(&self.nodes, kind.0, self.numbers.as_slice()) {
-            return Ok(interned_at(self.values.as_slice(), number)?);
+        let numbers = self.numbers.as_slice();
+        let hash = table::node_hash(kind, numbers);
+        if let Some(number) = self.table.node_number(hash, kind, numbers) {
+            return Ok(interned_at(&self.table, number)?);
         }
         let node = GreenNode::from_interned(self.alloc, kind, children)?;
-        let kept = node.clone()?;
-        let key = self.numbers.clone()?;
-        self.values.reserve(1)?;
-        let number = self.values.len();
-        put(&mut self.nodes, self.alloc, kind.0, key, number)?;
-        self.values.push(NodeOrToken::Node(kept))?;
+        let kept = NodeOrToken::Node(node.clone()?);
+        let number = self.table.keep(hash, kept, self.numbers.as_slice())?;
         Ok(Interned {
             number: Some(number),
             element: NodeOrToken::Node(node),
@@ -184,25 +173,14 @@ impl NodeCache {
     }
 }
 
-fn token_number(tokens: &Numbers<String>, kind: u16, text: &str) -> Option<usize>
-    ensures { result ≡ number_of_token tokens.now kind text.now }
-{
-    tokens.get(&kind)?.get(text).copied()
-}
-
-fn node_number(nodes: &Numbers<Vec<usize>>, kind: u16, numbers: &[usize]) -> Option<usize>
-    ensures { result ≡ number_of_node nodes.now kind numbers.now }
-{
-    nodes.get(&kind)?.get(numbers).copied()
-}
-
 // The value that stands at a number, which is shared.
-fn interned_at(values: &[GreenElement], number: usize) -> Result<Interned, AllocError>
-    requires { number < length values.now }
-    ensures { IfOk result (λ i. (i.number ≡ Some number)
-        × (slice_get values.now number ≡ Some i.element)) }
+fn interned_at(table: &ValueTable, number: u32) -> Result<Interned, AllocError>
+    requires { number < length table.now }
+    ensures at { IfOk result (λ i. (i.number ≡ Some number)
+        × (slice_get table.now number ≡ Some i.element)) }
+    ensures fits { (t : Term) → slice_get table.now number ≡ Some t → KeepsLimits t }
 {
-    let element = values[number].as_ref().share()?;
+    let element = table.value(number).as_ref().share()?;
     Ok(Interned {
         number: Some(number),
         element,
@@ -211,7 +189,7 @@ fn interned_at(values: &[GreenElement], number: usize) -> Result<Interned, Alloc
 
 // Writes down the numbers of the children, where there are at most `limit` and each has one.
 fn write_numbers(
-    numbers: &mut Vec<usize>,
+    numbers: &mut Vec<u32>,
     limit: usize,
     children: &[Interned],
 ) -> Result<bool, AllocError>
@@ -230,20 +208,4 @@ fn write_numbers(
         numbers.push(number)?;
     }
     Ok(true)
-}
-
-// Puts a number at a kind and a key.
-fn put<K: Eq + Hash + Drop>(
-    table: &mut Numbers<K>,
-    alloc: Global,
-    kind: u16,
-    key: K,
-    number: usize,
-) -> Result<(), AllocError>
-    ensures ok { OnOk result (PutsNumber K.eq table.old table.new kind key number) }
-    ensures err { OnErr result (SameNumbers table.old table.new) }
-{
-    let numbers = table.entry(kind)?.or_insert(HashMap::new(alloc));
-    numbers.insert(key, number)?;
-    Ok(())
 }

@@ -139,7 +139,9 @@ impl NodeDraft {
         }
     }
 
-    // Adds a child, or says which limit it passes. The number of children is looked at first.
+    // Adds a child, or says which limit it passes. The number of children is looked at first. Inlined into
+    // the loops that make a node, it need not keep the draft in memory.
+    #[inline(always)]
     fn push(&mut self, element: GreenElement) -> Result<(), Fault>
         ensures ok { OnOk result (self.new ≡ self.old ++ element ∷ []) }
         ensures err { IfErr result (λ e. e ≢ Fault.Memory → ChildPasses self.old element e) }

@@ -1,8 +1,8 @@
 use Rattle.std.proofs.Common.{ap, arith}
 use Rattle.rowan_green.specs.Cache.{count_nodes}
-use Rattle.rowan_green.proofs.IndexLemmas.{count-length}
+use Rattle.rowan_green.proofs.CountLemmas.{count-length}
 use Rattle.rowan_green.proofs.node_cache.NodeCache.node_count.Goals as goal
 
 pub returns : goal.returns
 returns c = let s = c.self.inside in
-    omega (arith, count-length s.values.items, c.self.invariant.counted, s.values.ok.0, ap (λ v. count_nodes v.seen) c.self.view_is)
+    omega (arith, count-length s.table, c.self.invariant.counted, ap (λ v. count_nodes v.seen) c.self.view_is)

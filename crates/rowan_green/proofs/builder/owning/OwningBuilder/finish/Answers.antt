@@ -1,4 +1,4 @@
-use Rattle.std.proofs.Common.{◌≡◌, ◌<◌, List, ◌∷◌, [], length, refl, sym, ◌∙◌, ap, arith, true≢false}
+use Rattle.std.proofs.Common.{◌≡◌, List, ◌∷◌, [], length, refl, sym, ◌∙◌, ap, arith, true≢false}
 use Rattle.rowan_green.specs.declared.builder.owning.OpenNode.{OpenNode}
 use Rattle.rowan_green.specs.declared.node_cache.Interned.{Interned}
 use Rattle.rowan_green.specs.declared.utility_types.NodeOrToken.TheVariants.{Node, Token}

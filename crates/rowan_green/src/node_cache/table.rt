@@ -1,0 +1,194 @@
+//! The values that a cache keeps, in the order in which it was first asked for them, and how their numbers are found.
+ghost use Rattle.std.specs.Prelude.{◌≡◌, ◌+◌, ◌<◌, ◌≤◌, List, [], ◌++◌, ◌∷◌, length, IfOk, OnOk, OnErr, IfSome, IsNone, Some, false};
+ghost use Rattle.std.specs.List.{slice_get};
+ghost use Rattle.rowan_green.specs.declared.utility_types.NodeOrToken.TheVariants.{Node, Token};
+ghost use Rattle.rowan_green.specs.Term.{Term, token_of, node_of};
+ghost use Rattle.rowan_green.specs.Same.{same_term};
+ghost use Rattle.rowan_green.specs.Cache.{is_among};
+ghost use Rattle.rowan_green.specs.Path.{term_children};
+ghost use Rattle.rowan_green.specs.Tables.{token_hash, node_hash, key_hash, is_node_by, StandAt, KeepsLimits};
+
+use crate::green::{GreenElement, SyntaxKind};
+use crate::node_cache::chains::Chains;
+use crate::utility_types::NodeOrToken;
+use std::alloc::{AllocError, Global};
+use std::hash::{FoldHasher, Hasher};
+use std::marker::Model;
+
+// A value that a cache keeps.
+#[derive(Drop)]
+struct Kept {
+    element: GreenElement,
+    // Where the numbers of its children begin in the table's list of these.
+    first_child: usize,
+}
+
+// Values, no two of which are equal. The place of a value is its number. The children of a node that is kept are kept too.
+#[derive(Drop)]
+pub(super) struct ValueTable {
+    values: Vec<Kept>,
+    // The numbers of the children of each node that is kept, those of one node after those of another.
+    child_numbers: Vec<u32>,
+    // The places of the values by their hashes.
+    chains: Chains,
+}
+
+impl Model for ValueTable {
+    ghost use Rattle.std.specs.Prelude.{List};
+    ghost use Rattle.std.specs.Coded.{coded_list};
+    ghost use Rattle.rowan_green.specs.Term.{Term};
+    ghost use Rattle.rowan_green.specs.Coding.{coded_term};
+
+    ghost Value = { List Term };
+
+    ghost coded = { coded_list coded_term };
+
+    ghost use Rattle.rowan_green.specs.Tables.{kept_terms, IsIndexed};
+
+    ghost view = { λ t. kept_terms t.values.items };
+
+    ghost invariant = { λ t. IsIndexed t.values.items t.child_numbers.items t.chains };
+}
+
+impl ValueTable {
+    pub(super) fn new(alloc: Global) -> ValueTable
+        ensures { result ≡ [] }
+    {
+        ValueTable {
+            values: Vec::new(alloc),
+            child_numbers: Vec::new(alloc),
+            chains: Chains::new(alloc),
+        }
+    }
+
+    pub(super) fn len(&self) -> usize
+        ensures { result ≡ length self.now }
+    {
+        self.values.len()
+    }
+
+    // The value that stands at a number.
+    pub(super) fn value(&self, number: u32) -> &GreenElement
+        requires { number < length self.now }
+        ensures stands { slice_get self.now number ≡ Some result.now }
+        ensures fits { KeepsLimits result.now }
+    {
+        &self.values[number as usize].element
+    }
+
+    // The number of the token of a kind and a text, whose hash this is.
+    pub(super) fn token_number(&self, hash: u64, kind: SyntaxKind, text: &str) -> Option<u32>
+        requires { hash ≡ token_hash kind.0 text.now }
+        ensures some { let t = Token (token_of kind.0 text.now) in
+            IfSome result (λ n. slice_get self.now n ≡ Some t) }
+        ensures none { let t = Token (token_of kind.0 text.now) in
+            IsNone result → is_among self.now t ≡ false }
+    {
+        let mut next = self.chains.newest(hash);
+        while let Some(number) = next {
+            let kept = &self.values[number as usize];
+            if is_token(&kept.element, kind, text) {
+                return Some(number);
+            }
+            next = self.chains.older(number);
+        }
+        None
+    }
+
+    // The number of the node of a kind and of children at these numbers, whose hash this is.
+    pub(super) fn node_number(&self, hash: u64, kind: SyntaxKind, numbers: &[u32]) -> Option<u32>
+        requires { hash ≡ node_hash kind.0 numbers.now }
+        ensures some { (ts : List Term) → StandAt self.now numbers.now ts
+            → IfSome result (λ n. slice_get self.now n ≡ Some (Node (node_of kind.0 ts))) }
+        ensures none { (ts : List Term) → StandAt self.now numbers.now ts
+            → IsNone result → is_among self.now (Node (node_of kind.0 ts)) ≡ false }
+    {
+        let all = self.child_numbers.as_slice();
+        let mut next = self.chains.newest(hash);
+        while let Some(number) = next {
+            let kept = &self.values[number as usize];
+            if kept.is_node(all, kind, numbers) {
+                return Some(number);
+            }
+            next = self.chains.older(number);
+        }
+        None
+    }
+
+    // Keeps a value from now on: a new one, with its hash and the numbers of its children. A refused call leaves the table as
+    // it was.
+    pub(super) fn keep(
+        &mut self,
+        hash: u64,
+        element: GreenElement,
+        numbers: &[u32],
+    ) -> Result<u32, AllocError>
+        requires fresh { is_among self.old element ≡ false }
+        requires fits { KeepsLimits element }
+        requires children { StandAt self.old numbers.now (term_children element) }
+        requires hash { hash ≡ key_hash element numbers.now }
+        ensures ok { OnOk result (self.new ≡ self.old ++ element ∷ []) }
+        ensures number { IfOk result (λ n. n ≡ length self.old) }
+        ensures unchanged { OnErr result (self.new ≡ self.old) }
+    {
+        self.values.reserve(1)?;
+        self.child_numbers.reserve(numbers.len())?;
+        let number = self.chains.push(hash)?;
+        let first_child = self.child_numbers.len();
+        self.child_numbers.extend_from_slice(numbers)?;
+        self.values.push(Kept {
+            element,
+            first_child,
+        })?;
+        Ok(number)
+    }
+}
+
+impl Kept {
+    // Whether this is a node of a kind, whose children have these numbers.
+    fn is_node(&self, all: &[u32], kind: SyntaxKind, numbers: &[u32]) -> bool
+        requires { self.now.first_child + length (term_children self.now.element) ≤ length all.now }
+        ensures { result ≡ is_node_by all.now kind.0 numbers.now self.now self.now.element }
+    {
+        let NodeOrToken::Node(node) = &self.element else {
+            return false;
+        };
+        if node.kind() != kind {
+            return false;
+        }
+        let (_, rest) = all.split_at(self.first_child);
+        let (own, _) = rest.split_at(node.children().len());
+        own == numbers
+    }
+}
+
+fn is_token(element: &GreenElement, kind: SyntaxKind, text: &str) -> bool
+    ensures { result ≡ same_term element.now (Token (token_of kind.0 text.now)) }
+{
+    match element {
+        NodeOrToken::Node(_) => false,
+        NodeOrToken::Token(token) => token.kind() == kind && token.text() == text,
+    }
+}
+
+// The hash of a token's kind and text.
+pub(super) fn token_hash(kind: SyntaxKind, text: &str) -> u64
+    ensures { result ≡ token_hash kind.0 text.now }
+{
+    let mut state = FoldHasher::default();
+    state.write_u16(kind.0);
+    state.write(text.as_bytes());
+    state.finish()
+}
+
+// The hash of a node's kind and of the numbers of its children.
+pub(super) fn node_hash(kind: SyntaxKind, numbers: &[u32]) -> u64
+    ensures { result ≡ node_hash kind.0 numbers.now }
+{
+    let mut state = FoldHasher::default();
+    state.write_u16(kind.0);
+    for number in numbers {
+        state.write_u32(*number);
+    }
+    state.finish()
+}
