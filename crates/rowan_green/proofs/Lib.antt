@@ -22,6 +22,7 @@ pub mod StreamLemmas
 pub mod TableLemmas
 pub mod Terms
 pub mod TextLemmas
+pub mod Unread
 pub mod WeaveLemmas
 pub mod Words
 pub mod WrapLemmas

@@ -4,7 +4,7 @@ use Rattle.std.specs.Prelude.{ℕ, List, [], ◌++◌, length}
 use Rattle.std.specs.Hash as fed
 use Rattle.std.specs.List.{flat_map}
 use Rattle.rowan_green.specs.declared.utility_types.NodeOrToken.TheVariants.{Node, Token}
-use Rattle.rowan_green.specs.Term.{TokenTerm, NodeTerm, node, Forest, empty, node_then, token_then, Term, terms}
+use Rattle.rowan_green.specs.Term.{TokenTerm, NodeTerm, node, Forest, empty, node_then, token_then, Term, terms, node_kind, node_children}
 
 abbrev pub fed_token : TokenTerm → List (List ℕ)
 fed_token t = fed.u16 t.kind ++ fed.str t.text
@@ -25,3 +25,7 @@ fed_term (Token t) = fed.u8 1 ++ fed_token t
 -- for each of these terms in turn
 abbrev pub fed_terms : List Term → List (List ℕ)
 fed_terms ts = flat_map fed_term ts
+
+-- of a node, what comes before its children
+abbrev pub fed_head : NodeTerm → List (List ℕ)
+fed_head n = fed.u16 (node_kind n) ++ fed.usize (length (node_children n))

@@ -25,6 +25,7 @@ pub mod Tables
 pub mod Term
 pub mod TokenAtOffset
 pub mod TokenText
+pub mod Unread
 pub mod View
 pub mod WalkEvent
 pub mod Weave

@@ -1,9 +1,10 @@
 -- What a word asks the cache for, symbol by symbol. So a word that begins another one asks first for what that one asks.
-use Rattle.std.proofs.Common.{◌≡◌, ℕ, zero, suc, ◌+◌, ◌-◌, ◌<◌, ◌≤◌, List, [], ◌∷◌, ◌++◌, length, drop, drop_of_length-le, get_or, refl, sym, ◌∙◌, ap, subst, arith, append_assoc}
+use Rattle.std.proofs.Common.{◌≡◌, ℕ, zero, suc, ◌+◌, ◌-◌, ◌<◌, ◌≤◌, List, [], ◌∷◌, ◌++◌, refl, sym, ◌∙◌, ap, subst, arith, append_assoc}
 use Rattle.std.proofs.lemmas.List.{append-nil, replicate-append-replicate}
 use Rattle.std.specs.List.{flat_map}
 use Rattle.std.specs.Prelude.{Result, Ok, Err, replicate}
 use Rattle.std.specs.Result.{OnErr}
+use Rattle.std.specs.Str.{IsUtf8}
 use Rattle.rowan_green.specs.Builder.{BuilderValue}
 use Rattle.rowan_green.specs.Cache.{CacheValue}
 use Rattle.rowan_green.specs.Coding.{closed, read, pushed}
@@ -12,13 +13,12 @@ use Rattle.rowan_green.specs.Stream.{node_subterms, forest_subterms, subterms, I
 use Rattle.rowan_green.specs.Term.{TokenTerm, token_of, NodeTerm, node, Forest, empty, node_then, token_then, Term}
 use Rattle.rowan_green.specs.Word.{Symbol, Open, Leaf, Close, node_word, forest_word, Item, Bare, Whole, spelled, whole_terms, HasTerms}
 use Rattle.rowan_tool.specs.Grammar.{IsParse, token_terms}
-use Rattle.rowan_tool.specs.Parsing.{symbols_of, open_after, rest_word, sexp_word, Begins, InternsFirst}
-use Rattle.rowan_tool.specs.Sexp.{LexedToken, IsLexed, number_of}
+use Rattle.rowan_tool.specs.Parsing.{symbols_of, open_after, rest_word, Begins, InternsFirst}
+use Rattle.rowan_tool.specs.Sexp.{LexedToken, IsCut, number_of}
 use Rattle.rowan_tool.specs.declared.sexp.lang.SyntaxKind.{SyntaxKind}
 use Rattle.rowan_tool.specs.declared.sexp.lang.SyntaxKind.TheVariants.{L_PAREN, R_PAREN, WORD}
-use Rattle.rowan_tool.proofs.GrammarLemmas.{word-sexp}
-use Rattle.rowan_tool.proofs.LexedLemmas.{lexed-unique}
-use Rattle.rowan_tool.proofs.WordLemmas.{word_more}
+use Rattle.rowan_tool.proofs.LexedLemmas.{cuts-exist}
+use Rattle.rowan_tool.proofs.WordLemmas.{IsWordSoFar, word_more, word_ends}
 
 -- the node that a closing closed
 abbrev closed_term : List Item → List Term
@@ -86,25 +86,18 @@ requests-terms w ts h = ap (requests []) h.parts.spells ∙ requests-spelled h.i
 requests-own : (n : NodeTerm) → requests [] (node_word n) ≡ subterms (Node n)
 requests-own n = ap (requests []) (sym (append-nil (node_word n))) ∙ requests-node n [] [] ∙ append-nil (node_subterms n)
 
-interns_first : (old new : CacheValue) (b : BuilderValue) (tree : NodeTerm) → InternsWord old b → new ≡ b.cache → Begins b.word (node_word tree) → InternsFirst old new (subterms (Node tree))
-interns_first old new b tree h e g = record {
-  asked = flat_map subterms h.terms;
-  others = requests (read [] b.word) g.more;
-  first =
-      sym (requests-own tree) ∙ ap (requests []) g.goes_on ∙ requests-append [] b.word g.more
-      ∙ ap (λ ts. ts ++ requests (read [] b.word) g.more) (requests-terms b.word h.terms h.stand);
-  interns = e ∙ h.interns;
-}
-
--- a parse that is refused before it asks for anything
-pub interns_none : (text : List ℕ) (old new : CacheValue) → new ≡ old → (tree : NodeTerm) → IsParse text tree → InternsFirst old new (subterms (Node tree))
-interns_none text old new e tree p = record { asked = []; others = subterms (Node tree); first = refl; interns = e }
-
--- one that is refused where the builder has begun the word
-pub interns_begun : (text : List ℕ) (lexed tokens : List LexedToken) (old new : CacheValue) (b : BuilderValue) → IsLexed text lexed → tokens ≡ lexed → InternsWord old b → new ≡ b.cache → Begins b.word (sexp_word (token_terms tokens)) → (tree : NodeTerm) → IsParse text tree → InternsFirst old new (subterms (Node tree))
-interns_begun text lexed tokens old new b h e i f g tree p =
-    let same : node_word tree ≡ sexp_word (token_terms tokens) = word-sexp (token_terms p.lexed) tree p.sexp ∙ ap sexp_word (lexed-unique text p.lexed lexed p.cut h ∙ ap token_terms (sym e)) in
-    interns_first old new b tree i f (record { more = g.more; goes_on = same ∙ g.goes_on })
+-- a parse that is refused where the builder has begun the word of the tree
+pub interns_begun : (text : List ℕ) (old new : CacheValue) (b : BuilderValue) → InternsWord old b → new ≡ b.cache → ((tree : NodeTerm) → IsParse text tree → Begins b.word (node_word tree)) → (tree : NodeTerm) → IsParse text tree → InternsFirst old new (subterms (Node tree))
+interns_begun text old new b h e begun tree parse =
+    let g = begun tree parse in
+    record {
+      asked = flat_map subterms h.terms;
+      others = requests (read [] b.word) g.more;
+      first =
+          sym (requests-own tree) ∙ ap (requests []) g.goes_on ∙ requests-append [] b.word g.more
+          ∙ ap (λ ts. ts ++ requests (read [] b.word) g.more) (requests-terms b.word h.terms h.stand);
+      interns = e ∙ h.interns;
+    }
 
 -- ---- words that begin others
 
@@ -158,20 +151,20 @@ module _ (kind : SyntaxKind) (n : ℕ) (v w : List Symbol) (text : List ℕ) whe
   pub begun-word : kind ≡ WORD → Begins w (v ++ Open 6 ∷ Leaf (token_of (number_of kind) text) ∷ Close ∷ []) → IsBegun
   begun-word is b = subst (λ x. Begins w (v ++ symbols_of x n (token_of (number_of kind) text))) (sym is) b
 
--- a token that is refused among the others
-pub begun-token : (whole v w : List Symbol) (n : ℕ) (lexed : List LexedToken) (i : ℕ) (nothing : LexedToken) → i < length lexed → whole ≡ v ++ rest_word n (token_terms (drop i lexed)) → Begins w (v ++ symbols_of (get_or lexed i nothing).0 n (token_of (number_of (get_or lexed i nothing).0) (get_or lexed i nothing).1.now)) → Begins w whole
-begun-token whole v w n lexed i nothing h e b =
-    let x = get_or lexed i nothing in
-    let s = v ++ symbols_of x.0 n (token_of (number_of x.0) x.1.now) in
-    let rest = rest_word (open_after x.0 n) (token_terms (drop (i + 1) lexed)) in
-    begins_is w (s ++ rest) whole (sym (word_more whole v s n (open_after x.0 n) lexed i nothing h e refl refl)) (begins_more w s rest b)
+module _ (text rest : List ℕ) (v w : List Symbol) (n : ℕ) (so_far : IsWordSoFar text rest v n) where
+  -- a token that is refused among the others
+  pub begun-token : (left : List ℕ) (token : LexedToken) → IsCut rest token left → IsUtf8 left → Begins w (v ++ symbols_of token.0 n (token_of (number_of token.0) token.1.now)) → (tree : NodeTerm) → IsParse text tree → Begins w (node_word tree)
+  begun-token left token cut utf8 b tree parse =
+      let s = v ++ symbols_of token.0 n (token_of (number_of token.0) token.1.now) in
+      let others = cuts-exist left utf8 in
+      let more = rest_word (open_after token.0 n) (token_terms others.0) in
+      begins_is w (s ++ more) (node_word tree) (sym (word_more text rest left v s n (open_after token.0 n) token so_far cut refl refl others.0 others.1 tree parse)) (begins_more w s more b)
 
--- closings that are refused at the end
-pub begun-end : (whole v w : List Symbol) (n i : ℕ) (lexed : List LexedToken) → length lexed ≤ i → whole ≡ v ++ rest_word n (token_terms (drop i lexed)) → Begins w (v ++ replicate n Close) → Begins w whole
-begun-end whole v w n i lexed h e b =
-    begins_is w ((v ++ replicate n Close) ++ Close ∷ []) whole
-    (append_assoc v (replicate n Close) (Close ∷ []) ∙ ap (λ us. v ++ rest_word n (token_terms us)) (sym (drop_of_length-le lexed h)) ∙ sym e)
-    (begins_more w (v ++ replicate n Close) (Close ∷ []) b)
+  -- closings that are refused at the end
+  pub begun-end : rest ≡ [] → Begins w (v ++ replicate n Close) → (tree : NodeTerm) → IsParse text tree → Begins w (node_word tree)
+  begun-end end b tree parse =
+      let s = v ++ replicate n Close in
+      begins_is w (s ++ Close ∷ []) (node_word tree) (word_ends text rest v s (s ++ Close ∷ []) n so_far end refl refl tree parse) (begins_more w s (Close ∷ []) b)
 
 pub begun-closings : (u v w : List Symbol) (i n : ℕ) → i ≤ n → v ≡ u ++ replicate i Close → w ≡ v → Begins w (u ++ replicate n Close)
 begun-closings u v w i n h e f =

@@ -226,9 +226,3 @@ sexp_exists lexed h =
         root = (refl, subst (λ v. AreElements false (is_nil v) r.elements) r.outer r.are);
       },
     )
-
--- the tree is the node with that word
-pub sexp_from_word : (lexed : List LexedToken) (n : NodeTerm) → AllByRecursion IsToken lexed → node_word n ≡ sexp_word (token_terms lexed) → IsSexp (token_terms lexed) n
-sexp_from_word lexed n h e =
-    let tree = sexp_exists lexed h in
-    subst (IsSexp (token_terms lexed)) (node_word-injective tree.0 n (word-sexp (token_terms lexed) tree.0 tree.1 ∙ sym e)) tree.1

@@ -9,12 +9,12 @@ use Rattle.std.specs.Str.{NoCharPasses, NonePass, encode_utf8_all, IsUtf8}
 use Rattle.std.proofs.lemmas.Str.{encode_same, encode_ascii}
 use Rattle.rowan_green.specs.Term.{NodeTerm, token_of}
 use Rattle.rowan_tool.specs.Grammar.{IsSexp, IsParse, token_terms}
-use Rattle.rowan_tool.specs.Sexp.{LexedToken, IsStopped, IsRun, IsTextOf, EndsBefore, IsToken, AreApart, IsLexed, are_one, tokens_text, is_delimiter, number_of}
+use Rattle.rowan_tool.specs.Sexp.{LexedToken, IsCut, IsStopped, IsRun, IsTextOf, EndsBefore, IsToken, AreApart, IsLexed, are_one, tokens_text, is_delimiter, number_of}
 use Rattle.rowan_tool.specs.declared.sexp.lang.SyntaxKind.{SyntaxKind}
 use Rattle.rowan_tool.specs.declared.sexp.lang.SyntaxKind.TheVariants.{L_PAREN, R_PAREN, WORD, WHITESPACE, ERROR, LIST, ATOM, ROOT}
 use Rattle.rowan_tool.proofs.GrammarLemmas.{sexp_exists, sexp-unique}
 use Rattle.rowan_tool.proofs.ParsingLemmas.{IsTextOf-some}
-use Rattle.rowan_tool.proofs.SexpRuns.{IsCut, IsCutInto, first_of_run, goes_on, nonempty_from_char}
+use Rattle.rowan_tool.proofs.SexpRuns.{IsCutInto, first_of_run, goes_on, nonempty_from_char}
 
 -- ---- the kind of a token, by its first character
 
@@ -249,6 +249,11 @@ pub lexed-exists : (text : List ℕ) → IsUtf8 text → (tokens : List LexedTok
 lexed-exists text utf8 =
     let all = tokens_of utf8.0 in
     (all.tokens, subst (λ t. IsLexed t all.tokens) utf8.1.1 all.lexed)
+
+pub cuts-exist : (text : List ℕ) → IsUtf8 text → (tokens : List LexedToken) × IsCutInto text tokens
+cuts-exist text utf8 =
+    let all = lexed-exists text utf8 in
+    (all.0, cuts_from_lexed text all.0 all.1.whole all.1.each all.1.apart)
 
 pub parse-exists : (text : List ℕ) → IsUtf8 text → (tree : NodeTerm) × IsParse text tree
 parse-exists text utf8 =

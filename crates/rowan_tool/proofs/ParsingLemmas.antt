@@ -1,7 +1,6 @@
 -- How the items of a parser's builder change: with one more term, with one more open list, and with a list closed.
-use Rattle.std.proofs.Common.{◌≡◌, ℕ, ◌+◌, ◌-◌, ◌<◌, ◌≤◌, List, [], ◌∷◌, ◌++◌, map, take, get_or, length, refl, sym, ◌∙◌, ap, subst, arith, append_assoc, length-append}
-use Rattle.std.proofs.lemmas.List.{append-nil, take_more}
-use Rattle.std.proofs.lemmas.Grind.{flat_map-append}
+use Rattle.std.proofs.Common.{◌≡◌, ℕ, ◌+◌, ◌-◌, ◌<◌, ◌≤◌, List, [], ◌∷◌, ◌++◌, map, length, refl, sym, ◌∙◌, ap, subst, arith, append_assoc, length-append}
+use Rattle.std.proofs.lemmas.List.{append-nil}
 use Rattle.rowan_green.specs.declared.fault.Fault.{Fault}
 use Rattle.rowan_green.specs.declared.fault.Fault.TheVariants.{TextTooLong, TooManyChildren, CheckpointPast, CheckpointBefore, NothingOpen, NotOneElement, NotANode, OtherKind, NotFound, Memory, UnknownMark, NotOneList}
 use Rattle.rowan_green.specs.declared.utility_types.NodeOrToken.TheVariants.{Node, Token}
@@ -15,7 +14,7 @@ use Rattle.rowan_green.proofs.TextLemmas.{text-leaf, text-open, text-closes}
 use Rattle.rowan_green.proofs.Words.{parts-unique, parts-more, word_text-append, word_text-parts}
 use Rattle.rowan_tool.specs.declared.sexp.lang.SyntaxKind.{SyntaxKind}
 use Rattle.rowan_tool.specs.declared.sexp.lang.SyntaxKind.TheVariants.{L_PAREN, R_PAREN, WORD, WHITESPACE, ERROR, LIST, ATOM, ROOT}
-use Rattle.rowan_tool.specs.Sexp.{LexedToken, tokens_text, IsTextOf}
+use Rattle.rowan_tool.specs.Sexp.{IsTextOf}
 use Rattle.rowan_tool.specs.Parsing.{root_kind, bare_count, AreFilled, last_item, IsWhole, EndsWhole, IsInRoot, IsTree}
 
 bare_count-map : (ts : List Term) → bare_count (map Whole ts) ≡ 0
@@ -238,9 +237,3 @@ IsTree-refuses w f h why = refuted f why
     refuted Memory k = k
     refuted UnknownMark k = k
     refuted NotOneList k = k
-
--- the texts of the tokens so far, with the next one's
-pub tokens_text-more : (tokens : List LexedToken) (i : ℕ) (nothing : LexedToken) → i < length tokens → tokens_text (take (i + 1) tokens) ≡ tokens_text (take i tokens) ++ (get_or tokens i nothing).1.now
-tokens_text-more tokens i nothing h =
-    ap tokens_text (take_more tokens i nothing h) ∙ flat_map-append (λ (token : LexedToken). token.1.now) (take i tokens) (get_or tokens i nothing ∷ [])
-    ∙ ap (λ bs. tokens_text (take i tokens) ++ bs) (append-nil (get_or tokens i nothing).1.now)

@@ -1,13 +1,12 @@
 -- Lemmas on runs of characters and on the tokens of a text.
-use Rattle.std.proofs.Common.{◌≡◌, ◌≢◌, ℕ, zero, suc, ◌<◌, ◌≤◌, Bool, true, false, List, [], ◌∷◌, ◌++◌, take, drop, length, refl, sym, ap, ◌∙◌, subst, arith, length-append, length-take-le, take-append-drop, append_assoc, get_or, ne_eqb}
+use Rattle.std.proofs.Common.{◌≡◌, ◌≢◌, ℕ, zero, suc, ◌<◌, ◌≤◌, Bool, true, false, List, [], ◌∷◌, ◌++◌, take, drop, length, refl, sym, ap, ◌∙◌, subst, arith, length-append, length-take-le, append_assoc, get_or, ne_eqb}
 use Rattle.std.specs.Prelude.{Some}
 use Rattle.std.specs.Char.{encode_utf8, is_whitespace, is_not_whitespace}
 use Rattle.std.specs.List.{AllByRecursion}
 use Rattle.std.specs.Str.{NoCharPasses, NonePass, encode_utf8_all, IsUtf8, IsCharBoundary}
 use Rattle.std.specs.Str.Pattern.{FindsBy}
 use Rattle.std.proofs.lemmas.Str.{encode_same, length-encode, len_utf8_bounds, encode_ascii, IsCharBoundary-after_ascii}
-use Rattle.rowan_tool.specs.Sexp.{LexedToken, BeginsWith, IsStopped, IsRun, IsTextOf, EndsBefore, IsToken, AreApart, IsLexed, are_one, tokens_text, is_delimiter}
-use denote.Ref.{Bor}
+use Rattle.rowan_tool.specs.Sexp.{LexedToken, IsCut, IsStopped, IsRun, IsTextOf, EndsBefore, IsToken, AreApart, IsLexed, are_one, tokens_text, is_delimiter}
 use Rattle.rowan_tool.specs.declared.sexp.lang.SyntaxKind.{SyntaxKind}
 use Rattle.rowan_tool.specs.declared.sexp.lang.SyntaxKind.TheVariants.{WORD, WHITESPACE}
 
@@ -50,12 +49,6 @@ no_run : (ends : ℕ → Bool) (rest text more : List ℕ) → rest ≡ text ++ 
 no_run ends rest text more whole stopped run =
     let first = first_of_run ends text run in
     goes_on ends rest (first.1 ++ more) first.0 (whole ∙ ap (λ t. t ++ more) first.2 ∙ append_assoc (encode_utf8 first.0) first.1 more) first.3 stopped
-
--- the token is the first of the text, as long as can be, and the rest is what is left
-pub record IsCut (text : List ℕ) (token : LexedToken) (rest : List ℕ) : Type 0 where
-  pub whole : text ≡ token.1.now ++ rest
-  pub fit : IsTextOf token.0 token.1.now
-  pub longest : EndsBefore token.0 rest
 
 -- cutting off one token after the other gives these tokens, and leaves nothing
 abbrev pub IsCutInto : List ℕ → List LexedToken → Type 0
@@ -100,11 +93,6 @@ pub word_begins : (c : ℕ) → c ≢ 40 → c ≢ 41 → is_whitespace c ≡ fa
 word_begins c not_open not_close not_white = rw (ne_eqb c 40 not_open, ne_eqb c 41 not_close) not_white
 
 -- what is left after one more token is cut off, with that token among the tokens
-pub one_more : (text rest left : List ℕ) (tokens more : List LexedToken) (kind : SyntaxKind) (len : ℕ) (token : Bor (List ℕ)) → BeginsWith rest kind len → token.now ≡ take len rest → left ≡ drop len rest → more ≡ tokens ++ ((kind, token) ∷ []) → ((others : List LexedToken) → IsCutInto rest others → IsCutInto text (tokens ++ others)) → (others : List LexedToken) → IsCutInto left others → IsCutInto text (more ++ others)
-one_more text rest left tokens more kind len token begins front back grown so_far others cuts =
-    let cut : IsCut rest (kind, token) left = record {
-      whole = sym (take-append-drop len rest) ∙ ap (λ t. t ++ drop len rest) (sym front) ∙ ap (λ t. token.now ++ t) (sym back);
-      fit = subst (IsTextOf kind) (sym front) begins.fit;
-      longest = subst (EndsBefore kind) (sym back) begins.longest;
-    } in
-    subst (IsCutInto text) (sym (ap (λ ts. ts ++ others) grown ∙ append_assoc tokens ((kind, token) ∷ []) others)) (so_far ((kind, token) ∷ others) (left, cut, cuts))
+pub one_more : (text rest left : List ℕ) (tokens more : List LexedToken) (token : LexedToken) → IsCut rest token left → more ≡ tokens ++ (token ∷ []) → ((others : List LexedToken) → IsCutInto rest others → IsCutInto text (tokens ++ others)) → (others : List LexedToken) → IsCutInto left others → IsCutInto text (more ++ others)
+one_more text rest left tokens more token cut grown so_far others cuts =
+    subst (IsCutInto text) (sym (ap (λ ts. ts ++ others) grown ∙ append_assoc tokens (token ∷ []) others)) (so_far (token ∷ others) (left, cut, cuts))

@@ -1,17 +1,21 @@
 -- The word that the parser makes: with each token, and at the end of the text.
-use Rattle.std.proofs.Common.{◌≡◌, ℕ, zero, suc, ◌+◌, ◌-◌, ◌<◌, ◌≤◌, List, [], ◌∷◌, ◌++◌, length, drop, drop_of_length-le, get_or, refl, sym, ◌∙◌, ap, arith, append_assoc}
+use Rattle.std.proofs.Common.{◌≡◌, ℕ, zero, suc, ◌+◌, ◌-◌, ◌<◌, List, [], ◌∷◌, ◌++◌, refl, sym, ◌∙◌, ap, subst, arith, append_assoc}
 use Rattle.std.specs.Prelude.{replicate}
-use Rattle.std.proofs.lemmas.List.{append-nil, drop_more, replicate-append-replicate}
+use Rattle.std.specs.Str.{IsUtf8}
+use Rattle.std.proofs.lemmas.List.{append-nil, replicate-append-replicate}
 use Rattle.rowan_green.specs.declared.utility_types.NodeOrToken.TheVariants.{Node}
 use Rattle.rowan_green.specs.Term.{TokenTerm, token_of, NodeTerm}
 use Rattle.rowan_green.specs.Word.{Symbol, Open, Leaf, Close, Whole, node_word, HasTerms, IsFinished}
 use Rattle.rowan_green.proofs.StreamLemmas.{HasTerms-unique}
+use Rattle.rowan_green.proofs.Words.{node_word-injective}
 use Rattle.rowan_tool.specs.declared.sexp.lang.SyntaxKind.{SyntaxKind}
 use Rattle.rowan_tool.specs.declared.sexp.lang.SyntaxKind.TheVariants.{L_PAREN, R_PAREN, WORD, WHITESPACE, ERROR, LIST, ATOM, ROOT}
-use Rattle.rowan_tool.specs.Sexp.{LexedToken, IsLexed, IsTextOf, number_of, kind_of}
+use Rattle.rowan_tool.specs.Sexp.{LexedToken, IsCut, IsTextOf, number_of, kind_of}
 use Rattle.rowan_tool.specs.Grammar.{IsParse, token_terms}
-use Rattle.rowan_tool.specs.Parsing.{IsTree, symbols_of, open_after, rest_word, sexp_word}
-use Rattle.rowan_tool.proofs.GrammarLemmas.{sexp_from_word}
+use Rattle.rowan_tool.specs.Parsing.{root_kind, IsTree, symbols_of, open_after, rest_word, sexp_word}
+use Rattle.rowan_tool.proofs.GrammarLemmas.{word-sexp}
+use Rattle.rowan_tool.proofs.LexedLemmas.{lexed-unique, parse-exists}
+use Rattle.rowan_tool.proofs.SexpRuns.{IsCutInto, lexed_from_cuts}
 
 pub kind_of-number : (kind : SyntaxKind) → kind_of (number_of kind) ≡ kind
 kind_of-number L_PAREN = refl
@@ -98,17 +102,27 @@ same-lists-white kind n is = ap (λ k. open_after k n) (sym is)
 
 -- ---- the loops
 
--- the word so far, and what the tokens that are left add, are the whole
-pub word_more : (whole v w : List Symbol) (n m : ℕ) (lexed : List LexedToken) (i : ℕ) (nothing : LexedToken) → i < length lexed → whole ≡ v ++ rest_word n (token_terms (drop i lexed)) → w ≡ v ++ symbols_of (get_or lexed i nothing).0 n (token_of (number_of (get_or lexed i nothing).0) (get_or lexed i nothing).1.now) → m ≡ open_after (get_or lexed i nothing).0 n → whole ≡ w ++ rest_word m (token_terms (drop (i + 1) lexed))
-word_more whole v w n m lexed i nothing h e f g =
-    let x = get_or lexed i nothing in
-    let t = token_of (number_of x.0) x.1.now in
-    let ts = token_terms (drop (i + 1) lexed) in
-    e ∙ ap (λ us. v ++ rest_word n (token_terms us)) (drop_more lexed i nothing h)
-    ∙ ap (λ k. v ++ (symbols_of k n t ++ rest_word (open_after k n) ts)) (kind_of-number x.0)
-    ∙ sym (append_assoc v (symbols_of x.0 n t) (rest_word (open_after x.0 n) ts))
-    ∙ ap (λ u. u ++ rest_word (open_after x.0 n) ts) (sym f)
-    ∙ ap (λ j. w ++ rest_word j ts) (sym g)
+-- the word so far, and what the tokens that are left add, are the word of the text's tree
+abbrev pub IsWordSoFar : (text rest : List ℕ) → List Symbol → (open_lists : ℕ) → Type 0
+IsWordSoFar text rest w n = (tokens : List LexedToken) → IsCutInto rest tokens → (tree : NodeTerm) → IsParse text tree → node_word tree ≡ w ++ rest_word n (token_terms tokens)
+
+-- where the root is open, and nothing else is there
+pub word_begun : (text : List ℕ) (w : List Symbol) → w ≡ Open root_kind ∷ [] → IsWordSoFar text text w 0
+word_begun text w e tokens cuts tree parse =
+    word-sexp (token_terms parse.lexed) tree parse.sexp
+    ∙ ap sexp_word (lexed-unique text parse.lexed tokens parse.cut (lexed_from_cuts text tokens cuts))
+    ∙ ap (λ u. u ++ rest_word 0 (token_terms tokens)) (sym e)
+
+-- with one more token
+pub word_more : (text rest left : List ℕ) (v w : List Symbol) (n m : ℕ) (token : LexedToken) → IsWordSoFar text rest v n → IsCut rest token left → w ≡ v ++ symbols_of token.0 n (token_of (number_of token.0) token.1.now) → m ≡ open_after token.0 n → IsWordSoFar text left w m
+word_more text rest left v w n m token so_far cut e f tokens cuts tree parse =
+    let t = token_of (number_of token.0) token.1.now in
+    let ts = token_terms tokens in
+    so_far (token ∷ tokens) (left, cut, cuts) tree parse
+    ∙ ap (λ k. v ++ (symbols_of k n t ++ rest_word (open_after k n) ts)) (kind_of-number token.0)
+    ∙ sym (append_assoc v (symbols_of token.0 n t) (rest_word (open_after token.0 n) ts))
+    ∙ ap (λ u. u ++ rest_word (open_after token.0 n) ts) (sym e)
+    ∙ ap (λ j. w ++ rest_word j ts) (sym f)
 
 -- one more closing
 pub closings_more : (u v w : List Symbol) (i : ℕ) → v ≡ u ++ replicate i Close → w ≡ v ++ Close ∷ [] → w ≡ u ++ replicate (i + 1) Close
@@ -116,10 +130,9 @@ closings_more u v w i e f =
     f ∙ ap (λ x. x ++ Close ∷ []) e ∙ append_assoc u (replicate i Close) (Close ∷ []) ∙ ap (λ x. u ++ x) (replicate-append-replicate i 1 Close)
 
 -- the end of the text
-pub word_ends : (whole v u w : List Symbol) (n i : ℕ) (lexed : List LexedToken) → whole ≡ v ++ rest_word n (token_terms (drop i lexed)) → length lexed ≤ i → u ≡ v ++ replicate n Close → w ≡ u ++ Close ∷ [] → w ≡ whole
-word_ends whole v u w n i lexed e h f g =
-    g ∙ ap (λ x. x ++ Close ∷ []) f ∙ append_assoc v (replicate n Close) (Close ∷ [])
-    ∙ ap (λ us. v ++ rest_word n (token_terms us)) (sym (drop_of_length-le lexed h)) ∙ sym e
+pub word_ends : (text rest : List ℕ) (v u w : List Symbol) (n : ℕ) → IsWordSoFar text rest v n → rest ≡ [] → u ≡ v ++ replicate n Close → w ≡ u ++ Close ∷ [] → (tree : NodeTerm) → IsParse text tree → w ≡ node_word tree
+word_ends text rest v u w n so_far end e f tree parse =
+    f ∙ ap (λ x. x ++ Close ∷ []) e ∙ append_assoc v (replicate n Close) (Close ∷ []) ∙ sym (so_far [] end tree parse)
 
 -- ---- the finished tree
 
@@ -130,9 +143,7 @@ finished_word w n h f =
     let same : n ≡ h.root = cc in
     ap node_word same ∙ sym (append-nil (node_word h.root)) ∙ sym h.parts.spells
 
-pub parse_of : (text : List ℕ) (lexed tokens : List LexedToken) (w : List Symbol) (n p : NodeTerm) → IsLexed text lexed → tokens ≡ lexed → IsTree w → w ≡ sexp_word (token_terms tokens) → IsFinished w n → p ≡ n → IsParse text p
-parse_of text lexed tokens w n p h e tree word f same = record {
-  lexed = lexed;
-  cut = h;
-  sexp = sexp_from_word lexed p h.each (ap node_word same ∙ finished_word w n tree f ∙ word ∙ ap (λ ts. sexp_word (token_terms ts)) e);
-}
+pub parse_of : (text : List ℕ) (w : List Symbol) (n p : NodeTerm) → IsUtf8 text → IsTree w → ((tree : NodeTerm) → IsParse text tree → w ≡ node_word tree) → IsFinished w n → p ≡ n → IsParse text p
+parse_of text w n p utf8 h word f same =
+    let tree = parse-exists text utf8 in
+    subst (IsParse text) (node_word-injective tree.0 p (sym (word tree.0 tree.1) ∙ sym (finished_word w n h f) ∙ ap node_word (sym same))) tree.1

@@ -108,6 +108,12 @@ EndsBefore WORD rest = IsStopped is_delimiter rest
 EndsBefore WHITESPACE rest = IsStopped is_not_whitespace rest
 EndsBefore _ rest = ⊤
 
+-- the token is the first of the text, as long as can be, and the rest is what is left
+pub record IsCut (text : List ℕ) (token : LexedToken) (rest : List ℕ) : Type 0 where
+  pub whole : text ≡ token.1.now ++ rest
+  pub fit : IsTextOf token.0 token.1.now
+  pub longest : EndsBefore token.0 rest
+
 -- the first token of the text has this kind and this length in bytes
 pub record BeginsWith (text : List ℕ) (kind : SyntaxKind) (len : ℕ) : Type 0 where
   pub border : IsCharBoundary text len

@@ -1,6 +1,6 @@
 mod edits;
 
-ghost use Rattle.std.specs.Prelude.{◌≡◌, ◌≢◌, ℕ, ◌+◌, ◌<◌, ◌≤◌, [], ◌∷◌, ◌++◌, length, IfOk, IfErr, OnOk, IfSome, IsNone, Some, ◌↔◌, map, take, slice_get};
+ghost use Rattle.std.specs.Prelude.{◌≡◌, ◌≢◌, ℕ, ◌+◌, ◌<◌, ◌≤◌, ◌&&◌, [], ◌∷◌, ◌++◌, length, IfOk, IfErr, OnOk, IfSome, IsNone, Some, ◌↔◌, map, take, slice_get};
 ghost use Rattle.std.specs.Iterator.{IsFiniteIterable};
 ghost use Rattle.rowan_green.specs.Fits.{byte_limit, FitsNode, ChildPasses, AreWithin, AllFit, PassesLimit, IsMadeOf, WhyNoNode};
 ghost use Rattle.rowan_green.specs.Runs.{IteratesAll, IteratesSome};
@@ -349,27 +349,42 @@ impl Drop for GreenNode {
         let Some(mut rest) = self.into_children() else {
             return;
         };
-        while let Some(child) = rest.pop() {
-            child.drop_into(&mut rest);
+        while let Some(node) = GreenChild::pop_node(&mut rest) {
+            node.drop_into(&mut rest);
         }
     }
 }
 
 impl GreenChild {
-    ghost use Rattle.rowan_green.specs.Sizes.{children_size, term_size};
-    ghost use Rattle.rowan_green.specs.View.{child_term};
+    ghost use Rattle.rowan_green.specs.Sizes.{children_size};
 
-    // Drops the child, but for the children of its own, which go to the end of the list. Where the memory for that is
-    // refused, it drops them too.
+    // Takes the last node off the list, and drops the tokens behind it. Most children are tokens, so these have a loop of
+    // their own.
+    fn pop_node(rest: &mut Vec<GreenChild>) -> Option<GreenNode>
+        ensures node { IfSome result (λ node. children_size rest.new.items + node_size node + 1
+            ≤ children_size rest.old.items) }
+        ensures none { IsNone result → rest.new.items ≡ [] }
+    {
+        while let Some(child) = rest.pop() {
+            match child {
+                GreenChild::Node { node, .. } => return Some(node),
+                GreenChild::Token { token, .. } => drop(token),
+            }
+        }
+        None
+    }
+}
+
+impl GreenNode {
+    ghost use Rattle.rowan_green.specs.Sizes.{children_size};
+
+    // Drops the node, but for its children, which go to the end of the list. Where the memory for that is refused, it drops
+    // them too.
     #[cycle(drop)]
     fn drop_into(self, rest: &mut Vec<GreenChild>)
-        ensures { children_size rest.new.items
-            < children_size rest.old.items + term_size (child_term self) }
+        ensures { children_size rest.new.items < children_size rest.old.items + node_size self }
     {
-        let GreenChild::Node { node, .. } = self else {
-            return;
-        };
-        let Some(mut children) = node.into_children() else {
+        let Some(mut children) = self.into_children() else {
             return;
         };
         let _ = rest.append(&mut children);
@@ -386,6 +401,10 @@ impl Clone for GreenNode {
     }
 }
 
+// How many levels of a tree are compared, hashed or written by recursion, which takes no memory: more than most trees have. What
+// lies deeper goes by a list, so that a deep tree does not run out of stack.
+const MAX_RECURSION: u32 = 128;
+
 impl PartialEq for GreenNode {
     ghost use Rattle.rowan_green.specs.Same.{same_node, same_node-laws};
     ghost use Rattle.std.specs.Cmp.{partial_equiv_from_equiv};
@@ -394,8 +413,39 @@ impl PartialEq for GreenNode {
 
     ghost laws = { partial_equiv_from_equiv same_node-laws };
 
+    // The list has the pairs of nodes that are still to be compared.
     #[cycle(eq)]
     fn eq(&self, other: &GreenNode) -> bool {
+        let mut rest = Vec::new(*self.data.children.allocator());
+        if !self.is_same_but_for(other, MAX_RECURSION, &mut rest) {
+            return false;
+        }
+        while let Some(pair) = rest.pop() {
+            if !pair.0.is_same_but_for(pair.1, MAX_RECURSION, &mut rest) {
+                return false;
+            }
+        }
+        true
+    }
+}
+
+impl GreenNode {
+    ghost use Rattle.rowan_green.specs.Term.{node_size};
+    ghost use Rattle.rowan_green.specs.Same.{same_node};
+    ghost use Rattle.rowan_green.specs.Unread.{same_pairs, pairs_size};
+
+    // Whether the nodes are the same, if the pairs are that it puts to the list, which lie so many levels below.
+    #[cycle(eq)]
+    fn is_same_but_for<'a>(
+        &'a self,
+        other: &'a GreenNode,
+        levels: u32,
+        rest: &mut Vec<(&'a GreenNode, &'a GreenNode)>,
+    ) -> bool
+        ensures same { (result && same_pairs rest.new.items)
+            ≡ (same_node self.now other.now && same_pairs rest.old.items) }
+        ensures smaller { pairs_size rest.new.items < pairs_size rest.old.items + node_size self.now }
+    {
         if self.kind() != other.kind() {
             return false;
         }
@@ -404,7 +454,7 @@ impl PartialEq for GreenNode {
         }
         let children = self.data.children.as_slice();
         let others = other.data.children.as_slice();
-        GreenChild::are_same(children, others)
+        GreenChild::are_same_but_for(children, others, levels, rest)
     }
 }
 
@@ -419,28 +469,54 @@ impl GreenChild {
     ghost use lib.Pointwise.{pointwise};
     ghost use Rattle.rowan_green.specs.View.{child_term};
     ghost use Rattle.rowan_green.specs.Same.{same_term};
+    ghost use Rattle.rowan_green.specs.Sizes.{children_size, term_size};
+    ghost use Rattle.rowan_green.specs.Unread.{same_pairs, pairs_size};
 
+    // The same for two children. Where the memory for the list is refused, the nodes are compared at once. Inlined, it leaves a
+    // call for each node, and none for a token.
     #[cycle(eq)]
-    fn is_same(&self, other: &GreenChild) -> bool
-        ensures { result ≡ same_term (child_term self.now) (child_term other.now) }
+    #[inline(always)]
+    fn is_same_but_for<'a>(
+        &'a self,
+        other: &'a GreenChild,
+        levels: u32,
+        rest: &mut Vec<(&'a GreenNode, &'a GreenNode)>,
+    ) -> bool
+        ensures same { (result && same_pairs rest.new.items)
+            ≡ (same_term (child_term self.now) (child_term other.now) && same_pairs rest.old.items) }
+        ensures smaller { pairs_size rest.new.items
+            < pairs_size rest.old.items + term_size (child_term self.now) }
     {
         match (self.as_ref(), other.as_ref()) {
-            (NodeOrToken::Node(node), NodeOrToken::Node(other)) => *node == *other,
+            (NodeOrToken::Node(node), NodeOrToken::Node(other)) => {
+                match levels.checked_sub(1) {
+                    Some(levels) => node.is_same_but_for(other, levels, rest),
+                    None => rest.push((node, other)).is_ok() || *node == *other,
+                }
+            }
             (NodeOrToken::Token(token), NodeOrToken::Token(other)) => *token == *other,
             _ => false,
         }
     }
 
     #[cycle(eq)]
-    fn are_same(children: &[GreenChild], others: &[GreenChild]) -> bool
-        ensures { let terms = map child_term in
-            result ≡ pointwise same_term (terms children.now) (terms others.now) }
+    fn are_same_but_for<'a>(
+        children: &'a [GreenChild],
+        others: &'a [GreenChild],
+        levels: u32,
+        rest: &mut Vec<(&'a GreenNode, &'a GreenNode)>,
+    ) -> bool
+        ensures same { let terms = map child_term in (result && same_pairs rest.new.items)
+            ≡ (pointwise same_term (terms children.now) (terms others.now)
+            && same_pairs rest.old.items) }
+        ensures smaller { pairs_size rest.new.items
+            ≤ pairs_size rest.old.items + children_size children.now }
     {
         if children.len() != others.len() {
             return false;
         }
         for i in 0..children.len() {
-            if !children[i].is_same(&others[i]) {
+            if !children[i].is_same_but_for(&others[i], levels, rest) {
                 return false;
             }
         }
@@ -459,40 +535,88 @@ impl Hash for GreenNode {
 
     #[cycle(hash)]
     fn hash<H: Hasher>(&self, state: &mut H) {
+        self.hash_within(MAX_RECURSION, state);
+    }
+}
+
+impl GreenNode {
+    ghost use Rattle.std.specs.Prelude.{map, fold};
+    ghost use Rattle.rowan_green.specs.View.{child_term};
+    ghost use Rattle.rowan_green.specs.Feeds.{fed_head, fed_node};
+
+    fn child_slice(&self) -> &[GreenChild]
+        ensures { map child_term result.now ≡ node_children self.now }
+    {
+        self.data.children.as_slice()
+    }
+
+    // Hashes the kind and the number of children.
+    fn hash_head<H: Hasher>(&self, state: &mut H)
+        ensures { state.new ≡ fold H.write state.old (fed_head self.now) }
+    {
         self.kind().hash(state);
-        let children = self.data.children.as_slice();
-        children.len().hash(state);
-        GreenChild::hash_all(children, state);
+        self.child_slice().len().hash(state);
+    }
+
+    // The same as `hash`, by recursion for so many levels. The list has the children that are still to be hashed.
+    #[cycle(hash)]
+    fn hash_within<H: Hasher>(&self, levels: u32, state: &mut H)
+        ensures { state.new ≡ fold H.write state.old (fed_node self.now) }
+    {
+        self.hash_head(state);
+        let mut rest = Vec::new(*self.data.children.allocator());
+        let mut next = Some(self.child_slice());
+        while let Some(children) = next {
+            next = GreenChild::hash_first(children, levels, state, &mut rest);
+        }
     }
 }
 
 impl GreenChild {
     ghost use Rattle.std.specs.Prelude.{map, fold};
     ghost use Rattle.rowan_green.specs.View.{child_term};
-    ghost use Rattle.rowan_green.specs.Feeds.{fed_term, fed_terms};
+    ghost use Rattle.rowan_green.specs.Feeds.{fed_terms};
+    ghost use Rattle.rowan_green.specs.Sizes.{children_size};
+    ghost use Rattle.rowan_green.specs.Unread.{unread_terms, unread_size, left_terms, left_size};
 
+    // Hashes the first child, and answers the children that come next. A node is hashed whole where levels are left, or where the
+    // memory for the list is refused; else its children come next, and those behind it go to the list. With no child left it takes
+    // the last of the list.
     #[cycle(hash)]
-    fn hash<H: Hasher>(&self, state: &mut H)
-        ensures { state.new ≡ fold H.write state.old (fed_term (child_term self.now)) }
+    fn hash_first<'a, H: Hasher>(
+        children: &'a [GreenChild],
+        levels: u32,
+        state: &mut H,
+        rest: &mut Vec<&'a [GreenChild]>,
+    ) -> Option<&'a [GreenChild]>
+        ensures fed { fold H.write state.new (fed_terms (left_terms result rest.new.items))
+            ≡ fold H.write state.old
+            (fed_terms (map child_term children.now ++ unread_terms rest.old.items)) }
+        ensures smaller { left_size result rest.new.items
+            ≤ children_size children.now + unread_size rest.old.items }
     {
-        match self.as_ref() {
+        let Some((child, behind)) = children.split_first() else {
+            return rest.pop();
+        };
+        match child.as_ref() {
             NodeOrToken::Node(node) => {
                 state.write_u8(0);
-                node.hash(state);
+                if levels > 0 {
+                    node.hash_within(levels - 1, state);
+                    return Some(behind);
+                }
+                if rest.push(behind).is_err() {
+                    node.hash(state);
+                    return Some(behind);
+                }
+                node.hash_head(state);
+                Some(node.child_slice())
             }
             NodeOrToken::Token(token) => {
                 state.write_u8(1);
                 token.hash(state);
+                Some(behind)
             }
-        }
-    }
-
-    #[cycle(hash)]
-    fn hash_all<H: Hasher>(children: &[GreenChild], state: &mut H)
-        ensures { state.new ≡ fold H.write state.old (fed_terms (map child_term children.now)) }
-    {
-        for child in children {
-            child.hash(state);
         }
     }
 }
@@ -505,27 +629,69 @@ impl fmt::Display for GreenNode {
 
     #[cycle(display)]
     fn fmt<W: fmt::Write>(&self, f: &mut fmt::Formatter<W>) -> fmt::Result {
-        for child in self.data.children.as_slice() {
-            child.display(f)?;
+        self.fmt_within(MAX_RECURSION, f)
+    }
+}
+
+impl GreenNode {
+    ghost use Rattle.std.specs.Prelude.{Some};
+    ghost use Rattle.std.specs.Fmt.{DisplaysOnOk};
+    ghost use Rattle.rowan_green.specs.Term.{node_text};
+
+    // The same as `fmt`, by recursion for so many levels. The list has the children that are still to be written.
+    #[cycle(display)]
+    fn fmt_within<W: fmt::Write>(&self, levels: u32, f: &mut fmt::Formatter<W>) -> fmt::Result
+        ensures { DisplaysOnOk W.write_str_gives f.old result (Some (node_text self.now)) f.new }
+    {
+        let mut rest = Vec::new(*self.data.children.allocator());
+        let mut next = Some(self.child_slice());
+        while let Some(children) = next {
+            next = GreenChild::display_first(children, levels, f, &mut rest)?;
         }
         Ok(())
     }
 }
 
 impl GreenChild {
-    ghost use Rattle.std.specs.Prelude.{Some};
-    ghost use Rattle.std.specs.Fmt.{DisplaysOnOk};
+    ghost use Rattle.std.specs.Prelude.{map};
     ghost use Rattle.rowan_green.specs.View.{child_term};
-    ghost use Rattle.rowan_green.specs.Term.{term_text};
+    ghost use Rattle.rowan_green.specs.Term.{joined_text};
+    ghost use Rattle.rowan_green.specs.Sizes.{children_size};
+    ghost use Rattle.rowan_green.specs.Unread.{unread_terms, unread_size, left_terms, left_size, WritesUpTo};
 
+    // Writes the first child, and answers the children that come next, as `hash_first` does.
     #[cycle(display)]
-    fn display<W: fmt::Write>(&self, f: &mut fmt::Formatter<W>) -> fmt::Result
-        ensures { let text = Some (term_text (child_term self.now)) in
-            DisplaysOnOk W.write_str_gives f.old result text f.new }
+    fn display_first<'a, W: fmt::Write>(
+        children: &'a [GreenChild],
+        levels: u32,
+        f: &mut fmt::Formatter<W>,
+        rest: &mut Vec<&'a [GreenChild]>,
+    ) -> Result<Option<&'a [GreenChild]>, fmt::Error>
+        ensures writes { let before = map child_term children.now ++ unread_terms rest.old.items in
+            IfOk result (λ next. WritesUpTo W.write_str_gives f.old (joined_text before)
+            (joined_text (left_terms next rest.new.items)) f.new) }
+        ensures smaller { IfOk result (λ next. left_size next rest.new.items
+            ≤ children_size children.now + unread_size rest.old.items) }
     {
-        match self.as_ref() {
-            NodeOrToken::Node(node) => node.fmt(f),
-            NodeOrToken::Token(token) => token.fmt(f),
+        let Some((child, behind)) = children.split_first() else {
+            return Ok(rest.pop());
+        };
+        match child.as_ref() {
+            NodeOrToken::Node(node) => {
+                if levels > 0 {
+                    node.fmt_within(levels - 1, f)?;
+                    return Ok(Some(behind));
+                }
+                if rest.push(behind).is_err() {
+                    node.fmt(f)?;
+                    return Ok(Some(behind));
+                }
+                Ok(Some(node.child_slice()))
+            }
+            NodeOrToken::Token(token) => {
+                token.fmt(f)?;
+                Ok(Some(behind))
+            }
         }
     }
 }

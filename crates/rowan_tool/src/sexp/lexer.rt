@@ -1,8 +1,8 @@
 //! The lexer of s-expressions.
-ghost use Rattle.std.specs.Prelude.{◌≡◌, IfOk, IfErr, MatchOption, take, drop, []};
+ghost use Rattle.std.specs.Prelude.{◌≡◌, IfOk, IfErr, IfSome, MatchOption, take, drop, []};
 ghost use Rattle.std.specs.Char.{is_not_whitespace};
-ghost use Rattle.std.specs.Str.{IsCharBoundary, NoCharPasses};
-ghost use Rattle.rowan_tool.specs.Sexp.{IsLexed, BeginsWith, IsStopped, is_delimiter};
+ghost use Rattle.std.specs.Str.{IsCharBoundary, IsUtf8, NoCharPasses};
+ghost use Rattle.rowan_tool.specs.Sexp.{IsLexed, IsCut, BeginsWith, IsStopped, is_delimiter};
 
 use crate::sexp::lang::SyntaxKind;
 use rowan::Fault;
@@ -23,12 +23,21 @@ pub fn lex(alloc: Global, text: &str) -> Result<Vec<Token<'_>>, Fault>
 {
     let mut tokens = Vec::new(alloc);
     let mut rest = text;
-    while let Some((kind, len)) = first_token(rest) {
-        let (token, others) = rest.split_at(len);
-        tokens.push((kind, token))?;
+    while let Some((token, others)) = split_token(rest) {
+        tokens.push(token)?;
         rest = others;
     }
     Ok(tokens)
+}
+
+/// The first token of a text and the rest of the text, unless the text is empty.
+pub(super) fn split_token(text: &str) -> Option<(Token<'_>, &str)>
+    ensures cut { MatchOption result (text.now ≡ []) (λ split. IsCut text.now split.0 split.1.now) }
+    ensures text { IfSome result (λ split. IsUtf8 split.1.now) }
+{
+    let (kind, len) = first_token(text)?;
+    let (token, rest) = text.split_at(len);
+    Some(((kind, token), rest))
 }
 
 /// The kind of the first token of a text and its length in bytes, unless the text is empty.

@@ -6,14 +6,13 @@ ghost use Rattle.rowan_green.specs.Loan.{word_of, value_of, loan_of, text_so_far
 ghost use Rattle.rowan_green.specs.Stream.{subterms, Grows, BuildsOn};
 ghost use Rattle.rowan_green.specs.declared.utility_types.NodeOrToken.TheVariants.{Node};
 ghost use Rattle.rowan_green.specs.Term.{NodeTerm, node_text, token_of};
-ghost use Rattle.rowan_green.specs.Word.{Open, Leaf, Close};
-ghost use Rattle.rowan_tool.specs.Grammar.{IsParse, token_terms};
-ghost use Rattle.rowan_tool.specs.Parsing.{IsInRoot, IsTree, symbols_of, open_after, sexp_word, Begins, InternsFirst};
-ghost use Rattle.rowan_tool.specs.Sexp.{IsTextOf, IsToken, tokens_text, number_of};
-ghost use Rattle.std.specs.List.{AllByRecursion};
+ghost use Rattle.rowan_green.specs.Word.{Open, Leaf, Close, node_word};
+ghost use Rattle.rowan_tool.specs.Grammar.{IsParse};
+ghost use Rattle.rowan_tool.specs.Parsing.{IsInRoot, IsTree, symbols_of, open_after, Begins, InternsFirst};
+ghost use Rattle.rowan_tool.specs.Sexp.{IsTextOf, number_of};
 
 use crate::sexp::lang::SyntaxKind;
-use crate::sexp::lexer::{Token, lex};
+use crate::sexp::lexer::split_token;
 use crate::sexp::parsed::Parse;
 use rowan::{Fault, GreenNodeBuilder, NodeCache};
 use std::alloc::Global;
@@ -59,26 +58,25 @@ pub fn parse_with(alloc: Global, text: &str, cache: &mut NodeCache) -> Result<Pa
     if text.len() > u32::MAX as usize {
         return Err(Fault::TextTooLong);
     }
-    let tokens = lex(alloc, text)?;
     let mut builder = GreenNodeBuilder::with_cache(alloc, cache);
-    build(&mut builder, tokens.as_slice())?;
+    build(&mut builder, text)?;
     match builder.finish() {
         Ok(green) => return Ok(Parse::new(green)),
         Err(_unfinished) => unreachable!(),
     }
 }
 
-/// Builds the tree of the tokens.
-fn build(builder: &mut GreenNodeBuilder<'_>, tokens: &[Token<'_>]) -> Result<(), Fault>
+/// Builds the tree of a text, token by token.
+fn build(builder: &mut GreenNodeBuilder<'_>, text: &str) -> Result<(), Fault>
     requires empty { word_of builder.old ≡ [] }
-    requires tokens { AllByRecursion IsToken tokens.now }
-    requires room { length (tokens_text tokens.now) ≤ byte_limit }
+    requires room { length text.now ≤ byte_limit }
 
     ensures ok { OnOk result (IsTree (word_of builder.new)) }
-    ensures word { OnOk result (word_of builder.new ≡ sexp_word (token_terms tokens.now)) }
-    ensures begun { OnErr result
-        (Begins (word_of builder.new) (sexp_word (token_terms tokens.now))) }
-    ensures text { OnOk result (text_so_far builder.new ≡ tokens_text tokens.now) }
+    ensures word { OnOk result ((tree : NodeTerm) → IsParse text.now tree
+        → word_of builder.new ≡ node_word tree) }
+    ensures begun { OnErr result ((tree : NodeTerm) → IsParse text.now tree
+        → Begins (word_of builder.new) (node_word tree)) }
+    ensures text { OnOk result (text_so_far builder.new ≡ text.now) }
     ensures err { IfErr result (λ e. e ≡ Fault.Memory) }
 
     // The builder's cache.
@@ -87,8 +85,10 @@ fn build(builder: &mut GreenNodeBuilder<'_>, tokens: &[Token<'_>]) -> Result<(),
 {
     builder.start_node(SyntaxKind::ROOT.to_raw())?;
     let mut open_lists = 0;
-    for token in tokens {
+    let mut rest = text;
+    while let Some((token, others)) = split_token(rest) {
         open_lists = place(builder, open_lists, token.0, token.1)?;
+        rest = others;
     }
     close_lists(builder, open_lists)?;
     close_root(builder)

@@ -1,20 +1,18 @@
-use Rattle.std.proofs.Common.{◌++◌, ◌≡◌, refl, sym, ◌∙◌, ap, subst}
+use Rattle.std.proofs.Common.{◌++◌, ◌≡◌, sym, ◌∙◌, ap, subst}
 use Rattle.std.specs.Result.{OnOk}
 use Rattle.rowan_green.specs.declared.utility_types.NodeOrToken.TheVariants.{Node}
 use Rattle.rowan_green.specs.Cache.{first_seen}
 use Rattle.rowan_green.specs.Stream.{subterms}
 use Rattle.rowan_green.specs.Term.{node_text}
 use Rattle.rowan_green.proofs.StreamLemmas.{InternsWord-starts, InternsWord-finished, intern_all-first_seen}
-use Rattle.rowan_tool.specs.Sexp.{tokens_text}
 use Rattle.rowan_tool.proofs.ParsingLemmas.{IsTree-kind, IsTree-refuses}
 use Rattle.rowan_tool.proofs.WordLemmas.{parse_of}
-use Rattle.rowan_tool.proofs.AskedLemmas.{on_err_any, interns_none, interns_begun}
+use Rattle.rowan_tool.proofs.AskedLemmas.{on_err_any, interns_begun}
 use Rattle.rowan_tool.proofs.sexp.parser.parse_with.Goals as goal
 
 pub returns-in-Ok-clause-text : goal.returns-in-Ok-clause-text
 returns-in-Ok-clause-text c =
     ap node_text c.new.ensures ∙ c.in-Ok.ensures.text ∙ c.in_ok-build.ensures.text
-    ∙ ap tokens_text c.as_slice.ensures.value ∙ c.in_ok-tokens.ensures.lexed.whole
 
 pub returns-in-Ok-clause-interned : goal.returns-in-Ok-clause-interned
 returns-in-Ok-clause-interned c =
@@ -34,10 +32,7 @@ unreachable-requires c = IsTree-refuses c.build.new.builder.inner.word c.in-Err.
 
 pub returns-in-Ok-clause-tree : goal.returns-in-Ok-clause-tree
 returns-in-Ok-clause-tree c =
-    parse_of c.args.text.now _ c.as_slice.result.now c.build.new.builder.inner.word c.in-Ok.green _ c.in_ok-tokens.ensures.lexed c.as_slice.ensures.value c.in_ok-build.ensures.ok c.in_ok-build.ensures.word c.in-Ok.ensures.ok c.new.ensures
-
-pub returns-in_err-tokens-clause-refused : goal.returns-in_err-tokens-clause-refused
-returns-in_err-tokens-clause-refused c = on_err_any _ (interns_none c.args.text.now c.args.cache.now c.args.cache.now refl)
+    parse_of c.args.text.now c.build.new.builder.inner.word c.in-Ok.green _ c.utf8.text c.in_ok-build.ensures.ok c.in_ok-build.ensures.word c.in-Ok.ensures.ok c.new.ensures
 
 pub returns-in_err-build-clause-refused : goal.returns-in_err-build-clause-refused
 returns-in_err-build-clause-refused c =
@@ -45,4 +40,4 @@ returns-in_err-build-clause-refused c =
     let ended = c.build.new.builder.inner in
     let intern = c.build.ensures.stream.keeps c.args.cache.now (InternsWord-starts c.args.cache.now began (ap (λ b. b.word) c.with_cache-builder.ensures.empty) (ap (λ b. b.cache) c.with_cache-builder.ensures.empty)) in
     let left : c.cache-1.given.0 ≡ ended.cache = c.cache-1.given.1 (sym (c.build.ensures.loan ∙ c.with_cache-builder.ensures.loan)) ∙ c.drop-builder.ensures in
-    on_err_any _ (interns_begun c.args.text.now c.in_ok-tokens.tokens.items c.as_slice.result.now c.args.cache.now c.cache-1.given.0 ended c.in_ok-tokens.ensures.lexed c.as_slice.ensures.value intern left c.in_err-build.ensures.begun)
+    on_err_any _ (interns_begun c.args.text.now c.args.cache.now c.cache-1.given.0 ended intern left c.in_err-build.ensures.begun)

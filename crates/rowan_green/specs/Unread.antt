@@ -1,0 +1,45 @@
+-- What is still to be read of green nodes by a call that goes through them with a list: a comparison with a list of pairs of
+-- nodes, and a call that keeps the order with a list of children, of which the last come first.
+use Rattle.std.specs.Fmt.{HasWritten, IsPlainFormatter}
+use Rattle.std.specs.declared.fmt.Formatter.{Formatter}
+use Rattle.std.specs.Prelude.{◌≡◌, ℕ, ◌+◌, List, [], ◌∷◌, ◌++◌, Bool, true, ◌&&◌, Option, Some, None, map}
+use Rattle.std.specs.Borrow.{Bor}
+use Rattle.rowan_green.specs.declared.green.node.GreenChild.{GreenChild}
+use Rattle.rowan_green.specs.Term.{NodeTerm, Term, node_size}
+use Rattle.rowan_green.specs.View.{child_term}
+use Rattle.rowan_green.specs.Sizes.{children_size}
+use Rattle.rowan_green.specs.Same.{same_node}
+
+-- whether the nodes of each pair are the same
+abbrev pub same_pairs : List (Bor NodeTerm × Bor NodeTerm) → Bool
+same_pairs [] = true
+same_pairs (p ∷ ps) = same_node p.0.now p.1.now && same_pairs ps
+
+-- how large the nodes on the left are together
+abbrev pub pairs_size : List (Bor NodeTerm × Bor NodeTerm) → ℕ
+pairs_size [] = 0
+pairs_size (p ∷ ps) = node_size p.0.now + pairs_size ps
+
+-- the children of all lists, those of the last list first
+abbrev pub unread_terms : List (Bor (List GreenChild)) → List Term
+unread_terms [] = []
+unread_terms (cs ∷ rest) = unread_terms rest ++ map child_term cs.now
+
+-- how large they are, with 1 for each list
+abbrev pub unread_size : List (Bor (List GreenChild)) → ℕ
+unread_size [] = 0
+unread_size (cs ∷ rest) = children_size cs.now + unread_size rest + 1
+
+-- the children that come next, and then those of the lists; where none come next, nothing is left
+abbrev pub left_terms : Option (Bor (List GreenChild)) → List (Bor (List GreenChild)) → List Term
+left_terms (Some cs) rest = map child_term cs.now ++ unread_terms rest
+left_terms None rest = []
+
+abbrev pub left_size : Option (Bor (List GreenChild)) → List (Bor (List GreenChild)) → ℕ
+left_size (Some cs) rest = children_size cs.now + unread_size rest + 1
+left_size None rest = 0
+
+-- g is f after writing the text, but for an end of it that is left
+abbrev pub WritesUpTo : {W : Type 0} → (W → List ℕ → W → Type 0) → Formatter W → List ℕ → List ℕ → Formatter W → Type 0
+WritesUpTo took f text left g =
+    IsPlainFormatter f → (bs : List ℕ) × (HasWritten took f bs g × (text ≡ bs ++ left))
