@@ -1,36 +1,38 @@
--- The terms of a builder's elements, where the elements change.
-use Rattle.std.proofs.Common.{◌≡◌, ℕ, List, [], ◌∷◌, ◌++◌, length, take, drop, get_or, sym, ◌∙◌, ap, arith, length-append}
-use Rattle.std.proofs.lemmas.List.{map-append, length-map, take-map, drop-map}
-use Rattle.rowan_green.specs.declared.node_cache.Interned.{Interned}
+-- The terms of a builder's elements, where there is one, and a builder's value.
+use Rattle.std.proofs.Common.{◌≡◌, ℕ, List, [], ◌∷◌, ◌++◌, map, length, get_or, Option, sym, ◌∙◌, ap, subst, arith, length-append}
+use Rattle.rowan_green.specs.declared.builder.owning.OpenNode.{OpenNode}
+use Rattle.rowan_green.specs.declared.green.node.GreenChild.{GreenChild}
 use Rattle.rowan_green.specs.Term.{Term}
 use Rattle.rowan_green.specs.Builder.{BuilderValue}
-use Rattle.rowan_green.specs.Cache.{CacheValue, elements}
-use Rattle.rowan_green.specs.Word.{Symbol}
-
-pub elements-length : (is : List Interned) → length (elements is) ≡ length is
-elements-length is = length-map is (λ i. i.element)
-
-pub elements-push : (is js : List Interned) (i : Interned) (t : Term) → js ≡ is ++ i ∷ [] → i.element ≡ t → elements js ≡ elements is ++ t ∷ []
-elements-push is js i t e same = ap elements e ∙ map-append (λ j. j.element) is (i ∷ []) ∙ ap (λ u. elements is ++ u ∷ []) same
-
-pub elements-take : (n : ℕ) (is : List Interned) → elements (take n is) ≡ take n (elements is)
-elements-take n is = sym (take-map (λ i. i.element) n is)
-
-pub elements-drop : (n : ℕ) (is : List Interned) → elements (drop n is) ≡ drop n (elements is)
-elements-drop n is = sym (drop-map (λ i. i.element) n is)
+use Rattle.rowan_green.specs.Cache.{CacheValue, AreNumbered}
+use Rattle.rowan_green.specs.View.{child_term}
+use Rattle.rowan_green.specs.Weave.{weave, AreInOrder}
+use Rattle.rowan_green.specs.Word.{Symbol, spelled}
 
 -- a list of one element has the term of its first element alone, and of its last
-pub elements-first : (is : List Interned) (i : Interned) (t : Term) → length is ≡ 1 → i ≡ get_or is 0 i → i.element ≡ t → elements is ≡ t ∷ []
-elements-first [] i t long e same = absurd (omega arith)
-elements-first (j ∷ []) i t long e same = ap (λ u. u ∷ []) (ap (λ k. k.element) (sym e) ∙ same)
-elements-first (j ∷ k ∷ is) i t long e same = absurd (omega arith)
+pub elements-first : (cs : List GreenChild) (c : GreenChild) (t : Term) → length cs ≡ 1 → c ≡ get_or cs 0 c → child_term c ≡ t → map child_term cs ≡ t ∷ []
+elements-first [] c t long e same = absurd (omega arith)
+elements-first (d ∷ []) c t long e same = ap (λ u. u ∷ []) (ap child_term (sym e) ∙ same)
+elements-first (d ∷ b ∷ cs) c t long e same = absurd (omega arith)
 
-pub elements-last : (is js : List Interned) (i : Interned) (t : Term) → length is ≡ 1 → is ≡ js ++ i ∷ [] → i.element ≡ t → elements is ≡ t ∷ []
-elements-last is [] i t long e same = ap elements e ∙ ap (λ u. u ∷ []) same
-elements-last is (j ∷ js) i t long e same = absurd (omega (arith, ap length e, length-append js (i ∷ [])))
+pub elements-last : (cs ds : List GreenChild) (c : GreenChild) (t : Term) → length cs ≡ 1 → cs ≡ ds ++ c ∷ [] → child_term c ≡ t → map child_term cs ≡ t ∷ []
+elements-last cs [] c t long e same = ap (map child_term) e ∙ ap (λ u. u ∷ []) same
+elements-last cs (d ∷ ds) c t long e same = absurd (omega (arith, ap length e, length-append ds (c ∷ [])))
 
 abbrev value : List Symbol → CacheValue → BuilderValue
 value w c = record { word = w; cache = c }
 
 pub same_value : (w v : List Symbol) (c d : CacheValue) → w ≡ v → c ≡ d → value w c ≡ value v d
 same_value w v c d e f = ap (λ x. value x c) e ∙ ap (λ x. value v x) f
+
+-- ---- a builder whose lists hold the same
+
+pub same_builder : (os : List OpenNode) (ts us : List Term) (c d : CacheValue) (b : BuilderValue) → us ≡ ts → d ≡ c → value (spelled (weave 0 os ts)) c ≡ b → value (spelled (weave 0 os us)) d ≡ b
+same_builder os ts us c d b e f is = same_value (spelled (weave 0 os us)) (spelled (weave 0 os ts)) d c (ap (λ vs. spelled (weave 0 os vs)) e) f ∙ is
+
+pub same_invariant : (os : List OpenNode) (ts us : List Term) (ns ms : List (Option ℕ)) (c d : CacheValue) → us ≡ ts → ms ≡ ns → d ≡ c
+    → AreInOrder 0 os (length ts) × AreNumbered c ts ns → AreInOrder 0 os (length us) × AreNumbered d us ms
+same_invariant os ts us ns ms c d e f g h = (
+  subst (λ vs. AreInOrder 0 os (length vs)) (sym e) h.0,
+  subst (λ vs. AreNumbered d vs ms) (sym e) (subst (λ ks. AreNumbered d ts ks) (sym f) (subst (λ v. AreNumbered v ts ns) (sym g) h.1)),
+)

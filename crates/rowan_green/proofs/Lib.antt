@@ -10,6 +10,7 @@ pub mod LeafLaws
 pub mod NumberLemmas
 pub mod OffsetLemmas
 pub mod Paths
+pub mod Placed
 pub mod PutLemmas
 pub mod PutLimits
 pub mod PutOrders

@@ -3,11 +3,10 @@
 use Rattle.std.proofs.Common.{◌≡◌, ℕ, Bool, true, false, ◌&&◌, List, [], ◌∷◌, ◌++◌, map, take, drop, zero, suc, length, Option, Some, None, refl, sym, ◌∙◌, ap, subst}
 use Rattle.std.specs.Prelude.{nat_le, is_some}
 use Rattle.std.specs.List.{list_all, slice_get}
-use Rattle.std.proofs.lemmas.List.{length-map}
 use Rattle.rowan_green.specs.declared.node_cache.Interned.{Interned}
 use Rattle.rowan_green.specs.declared.utility_types.NodeOrToken.TheVariants.{Node, Token}
 use Rattle.rowan_green.specs.Term.{Term, forest, node_of}
-use Rattle.rowan_green.specs.Cache.{CacheValue, intern, is_eligible, is_eligible_forest, HasNumber, IsNumbered, AreNumbered, elements, all_have_numbers, ListsNumbers, gets_number, Continues}
+use Rattle.rowan_green.specs.Cache.{CacheValue, intern, is_eligible, is_eligible_forest, HasNumber, IsNumbered, AreNumbered, ListsNumbers, gets_number, Continues}
 use Rattle.rowan_green.specs.Tables.{StandAt}
 use Rattle.rowan_green.proofs.CacheLemmas.{slice_get-grown, Continues-with_term}
 use Rattle.rowan_green.proofs.Terms.{terms-forest}
@@ -22,38 +21,52 @@ HasNumber-intern cache u t None h = h
 HasNumber-intern cache u t (Some n) h =
     (h.0, slice_get-continues cache.seen (intern cache u).seen n t (Continues-with_term cache.limit cache.seen u) h.1)
 
-pub IsNumbered-intern : (cache : CacheValue) (u : Term) (i : Interned) → IsNumbered cache i → IsNumbered (intern cache u) i
-IsNumbered-intern cache u i h = record { numbered = HasNumber-intern cache u i.element i.number h.numbered }
+pub AreNumbered-intern : (cache : CacheValue) (u : Term) (ts : List Term) (ns : List (Option ℕ)) → AreNumbered cache ts ns → AreNumbered (intern cache u) ts ns
+AreNumbered-intern cache u [] [] h = tt
+AreNumbered-intern cache u [] (n ∷ ns) h = absurd h
+AreNumbered-intern cache u (t ∷ ts) [] h = absurd h
+AreNumbered-intern cache u (t ∷ ts) (n ∷ ns) h = (HasNumber-intern cache u t n h.0, AreNumbered-intern cache u ts ns h.1)
 
-pub AreNumbered-intern : (cache : CacheValue) (u : Term) (is : List Interned) → AreNumbered cache is → AreNumbered (intern cache u) is
-AreNumbered-intern cache u [] h = tt
-AreNumbered-intern cache u (i ∷ is) h = (IsNumbered-intern cache u i h.0, AreNumbered-intern cache u is h.1)
+AreNumbered-push : (cache : CacheValue) (ts : List Term) (ns : List (Option ℕ)) (t : Term) (n : Option ℕ) → AreNumbered cache ts ns → HasNumber cache t n → AreNumbered cache (ts ++ t ∷ []) (ns ++ n ∷ [])
+AreNumbered-push cache [] [] t n h g = (g, tt)
+AreNumbered-push cache [] (m ∷ ns) t n h g = absurd h
+AreNumbered-push cache (u ∷ ts) [] t n h g = absurd h
+AreNumbered-push cache (u ∷ ts) (m ∷ ns) t n h g = (h.0, AreNumbered-push cache ts ns t n h.1 g)
 
-pub AreNumbered-push : (cache : CacheValue) (is : List Interned) (i : Interned) → AreNumbered cache is → IsNumbered cache i → AreNumbered cache (is ++ i ∷ [])
-AreNumbered-push cache [] i h n = (n, tt)
-AreNumbered-push cache (j ∷ is) i h n = (h.0, AreNumbered-push cache is i h.1 n)
+pub AreNumbered-take : (cache : CacheValue) (k : ℕ) (ts : List Term) (ns : List (Option ℕ)) → AreNumbered cache ts ns → AreNumbered cache (take k ts) (take k ns)
+AreNumbered-take cache zero [] [] h = tt
+AreNumbered-take cache (suc k) [] [] h = tt
+AreNumbered-take cache k [] (n ∷ ns) h = absurd h
+AreNumbered-take cache k (t ∷ ts) [] h = absurd h
+AreNumbered-take cache zero (t ∷ ts) (n ∷ ns) h = tt
+AreNumbered-take cache (suc k) (t ∷ ts) (n ∷ ns) h = (h.0, AreNumbered-take cache k ts ns h.1)
 
-pub AreNumbered-take : (cache : CacheValue) (n : ℕ) (is : List Interned) → AreNumbered cache is → AreNumbered cache (take n is)
-AreNumbered-take cache zero [] h = tt
-AreNumbered-take cache zero (i ∷ is) h = tt
-AreNumbered-take cache (suc n) [] h = tt
-AreNumbered-take cache (suc n) (i ∷ is) h = (h.0, AreNumbered-take cache n is h.1)
+pub AreNumbered-drop : (cache : CacheValue) (k : ℕ) (ts : List Term) (ns : List (Option ℕ)) → AreNumbered cache ts ns → AreNumbered cache (drop k ts) (drop k ns)
+AreNumbered-drop cache zero [] [] h = tt
+AreNumbered-drop cache (suc k) [] [] h = tt
+AreNumbered-drop cache k [] (n ∷ ns) h = absurd h
+AreNumbered-drop cache k (t ∷ ts) [] h = absurd h
+AreNumbered-drop cache zero (t ∷ ts) (n ∷ ns) h = h
+AreNumbered-drop cache (suc k) (t ∷ ts) (n ∷ ns) h = AreNumbered-drop cache k ts ns h.1
 
-pub AreNumbered-drop : (cache : CacheValue) (n : ℕ) (is : List Interned) → AreNumbered cache is → AreNumbered cache (drop n is)
-AreNumbered-drop cache zero [] h = tt
-AreNumbered-drop cache zero (i ∷ is) h = h
-AreNumbered-drop cache (suc n) [] h = tt
-AreNumbered-drop cache (suc n) (i ∷ is) h = AreNumbered-drop cache n is h.1
+pub AreNumbered-length : (cache : CacheValue) (ts : List Term) (ns : List (Option ℕ)) → AreNumbered cache ts ns → length ts ≡ length ns
+AreNumbered-length cache [] [] h = refl
+AreNumbered-length cache [] (n ∷ ns) h = absurd h
+AreNumbered-length cache (t ∷ ts) [] h = absurd h
+AreNumbered-length cache (t ∷ ts) (n ∷ ns) h = ap suc (AreNumbered-length cache ts ns h.1)
+
+-- one more element, for which the cache was asked
+pub AreNumbered-added : (cache later : CacheValue) (u : Term) (ts us : List Term) (ns ms : List (Option ℕ)) (i : Interned)
+    → AreNumbered cache ts ns → later ≡ intern cache u → IsNumbered later i → us ≡ ts ++ i.element ∷ [] → ms ≡ ns ++ i.number ∷ [] → AreNumbered later us ms
+AreNumbered-added cache later u ts us ns ms i h e n f g =
+    let old : AreNumbered later ts ns = subst (λ c. AreNumbered c ts ns) (sym e) (AreNumbered-intern cache u ts ns h) in
+    subst (λ vs. AreNumbered later vs ms) (sym f) (subst (λ ks. AreNumbered later (ts ++ i.element ∷ []) ks) (sym g) (AreNumbered-push later ts ns i.element i.number old n.numbered))
 
 -- ---- which node is eligible
 
-pub all_have_numbers-listed : (is : List Interned) (ns : List ℕ) → ListsNumbers is ns → all_have_numbers is ≡ true
-all_have_numbers-listed [] ns e = refl
-all_have_numbers-listed (i ∷ is) [] e = absurd cc
-all_have_numbers-listed (i ∷ is) (n ∷ ns) e =
-    let here : i.number ≡ Some n = cc in
-    let rest : map (λ i. i.number) is ≡ map (λ n. Some n) ns = cc in
-    rw (here, all_have_numbers-listed is ns rest) refl
+pub all_have_numbers : (ns : List ℕ) → list_all (λ n. is_some n) (map (λ n. Some n) ns) ≡ true
+all_have_numbers [] = refl
+all_have_numbers (n ∷ ns) = all_have_numbers ns
 
 is_eligible-forest : (limit : ℕ) (ts : List Term) → is_eligible_forest limit (forest ts) ≡ list_all (is_eligible limit) ts
 is_eligible-forest limit [] = refl
@@ -64,28 +77,31 @@ is_some-eligible : (cache : CacheValue) (t : Term) (number : Option ℕ) → Has
 is_some-eligible cache t None h = h
 is_some-eligible cache t (Some n) h = h.0
 
-all_eligible : (cache : CacheValue) (is : List Interned) → AreNumbered cache is → list_all (is_eligible cache.limit) (elements is) ≡ all_have_numbers is
-all_eligible cache [] h = refl
-all_eligible cache (i ∷ is) h =
-    ap (λ b. b && list_all (is_eligible cache.limit) (elements is)) (is_some-eligible cache i.element i.number h.0.numbered)
-    ∙ ap (λ b. is_some i.number && b) (all_eligible cache is h.1)
+all_eligible : (cache : CacheValue) (ts : List Term) (ns : List (Option ℕ)) → AreNumbered cache ts ns → list_all (is_eligible cache.limit) ts ≡ list_all (λ n. is_some n) ns
+all_eligible cache [] [] h = refl
+all_eligible cache [] (n ∷ ns) h = absurd h
+all_eligible cache (t ∷ ts) [] h = absurd h
+all_eligible cache (t ∷ ts) (n ∷ ns) h =
+    ap (λ b. b && list_all (is_eligible cache.limit) ts) (is_some-eligible cache t n h.0)
+    ∙ ap (λ b. is_some n && b) (all_eligible cache ts ns h.1)
 
-pub is_eligible-elements : (cache : CacheValue) (k : ℕ) (is : List Interned) → AreNumbered cache is
-    → is_eligible cache.limit (Node (node_of k (elements is))) ≡ gets_number cache.limit is
-is_eligible-elements cache k is h =
-    ap (λ n. nat_le n cache.limit && is_eligible_forest cache.limit (forest (elements is))) (ap length (terms-forest (elements is)) ∙ length-map is (λ i. i.element))
-    ∙ ap (λ b. nat_le (length is) cache.limit && b) (is_eligible-forest cache.limit (elements is) ∙ all_eligible cache is h)
+is_eligible-elements : (cache : CacheValue) (k : ℕ) (ts : List Term) (ns : List (Option ℕ)) → AreNumbered cache ts ns → is_eligible cache.limit (Node (node_of k ts)) ≡ gets_number cache.limit ns
+is_eligible-elements cache k ts ns h =
+    ap (λ n. nat_le n cache.limit && is_eligible_forest cache.limit (forest ts)) (ap length (terms-forest ts) ∙ AreNumbered-length cache ts ns h)
+    ∙ ap (λ b. nat_le (length ns) cache.limit && b) (is_eligible-forest cache.limit ts ∙ all_eligible cache ts ns h)
 
 -- ---- where the elements stand
 
-pub StandAt-elements : (cache : CacheValue) (is : List Interned) (ns : List ℕ) → AreNumbered cache is → ListsNumbers is ns → StandAt cache.seen ns (elements is)
-StandAt-elements cache [] [] h e = tt
-StandAt-elements cache [] (n ∷ ns) h e = absurd cc
-StandAt-elements cache (i ∷ is) [] h e = absurd cc
-StandAt-elements cache (i ∷ is) (n ∷ ns) h e =
-    let here : i.number ≡ Some n = cc in
-    let rest : map (λ i. i.number) is ≡ map (λ n. Some n) ns = cc in
-    ((subst (λ o. HasNumber cache i.element o) here h.0.numbered).1, StandAt-elements cache is ns h.1 rest)
+pub StandAt-elements : (cache : CacheValue) (ts : List Term) (os : List (Option ℕ)) (ns : List ℕ) → AreNumbered cache ts os → ListsNumbers os ns → StandAt cache.seen ns ts
+StandAt-elements cache [] [] [] h e = tt
+StandAt-elements cache [] [] (n ∷ ns) h e = absurd cc
+StandAt-elements cache [] (o ∷ os) ns h e = absurd h
+StandAt-elements cache (t ∷ ts) [] ns h e = absurd h
+StandAt-elements cache (t ∷ ts) (o ∷ os) [] h e = absurd cc
+StandAt-elements cache (t ∷ ts) (o ∷ os) (n ∷ ns) h e =
+    let here : o ≡ Some n = cc in
+    let rest : os ≡ map (λ n. Some n) ns = cc in
+    ((subst (λ p. HasNumber cache t p) here h.0).1, StandAt-elements cache ts os ns h.1 rest)
 
 pub StandAt-length : (seen : List Term) (ns : List ℕ) (ts : List Term) → StandAt seen ns ts → length ns ≡ length ts
 StandAt-length seen [] [] h = refl
@@ -123,9 +139,9 @@ StandAt-grown seen more (n ∷ ns) [] h = absurd h
 StandAt-grown seen more (n ∷ ns) (t ∷ ts) h = (slice_get-grown seen more n t h.0, StandAt-grown seen more ns ts h.1)
 
 -- whether a node of elements is eligible, as the numbers say it
-pub is_eligible-kept : (cache : CacheValue) (k : ℕ) (is : List Interned) (kept : Bool) → AreNumbered cache is → kept ≡ gets_number cache.limit is
-    → is_eligible cache.limit (Node (node_of k (elements is))) ≡ kept
-is_eligible-kept cache k is kept h e = is_eligible-elements cache k is h ∙ sym e
+pub is_eligible-kept : (cache : CacheValue) (k : ℕ) (ts : List Term) (ns : List (Option ℕ)) (kept : Bool) → AreNumbered cache ts ns → kept ≡ gets_number cache.limit ns
+    → is_eligible cache.limit (Node (node_of k ts)) ≡ kept
+is_eligible-kept cache k ts ns kept h e = is_eligible-elements cache k ts ns h ∙ sym e
 
 -- ---- what has a number
 

@@ -3,7 +3,7 @@
 --     A cache keeps each eligible term that it is asked for, once, in the order of first asking.
 -- The place of a term in that list, counted from 0, is its number.
 use Rattle.std.specs.Prelude.{◌≡◌, ℕ, Bool, true, false, ◌&&◌, not, nat_le, IsTrue, if◌then◌else◌, List, [], ◌∷◌, ◌++◌, map, fold, length, Option, Some, None, is_some, count_by}
-use Rattle.std.specs.List.{list_all, list_any, slice_get, AllByRecursion}
+use Rattle.std.specs.List.{list_all, list_any, slice_get}
 use Rattle.rowan_green.specs.declared.node_cache.Interned.{Interned}
 use Rattle.rowan_green.specs.declared.utility_types.NodeOrToken.TheVariants.{Node, Token}
 use Rattle.rowan_green.specs.Term.{NodeTerm, node, Forest, empty, node_then, token_then, Term, terms}
@@ -76,20 +76,16 @@ HasNumber cache t (Some number) =
 pub record IsNumbered (cache : CacheValue) (i : Interned) : Type 0 where
   pub numbered : HasNumber cache i.element i.number
 
-abbrev pub AreNumbered : CacheValue → List Interned → Type 0
-AreNumbered cache is = AllByRecursion (IsNumbered cache) is
+-- each term has the number beside it
+abbrev pub AreNumbered : CacheValue → List Term → List (Option ℕ) → Type 0
+AreNumbered cache [] [] = Unit {0}
+AreNumbered cache (t ∷ ts) (n ∷ ns) = HasNumber cache t n × AreNumbered cache ts ns
+AreNumbered cache _ _ = ⊥
 
--- the terms of elements with their numbers
-abbrev pub elements : List Interned → List Term
-elements is = map (λ i. i.element) is
+-- each is there, and these are they
+abbrev pub ListsNumbers : List (Option ℕ) → List ℕ → Type 0
+ListsNumbers given numbers = given ≡ map (λ n. Some n) numbers
 
--- the numbers of the elements, of which each has one
-abbrev pub ListsNumbers : List Interned → List ℕ → Type 0
-ListsNumbers is numbers = map (λ i. i.number) is ≡ map (λ n. Some n) numbers
-
-abbrev pub all_have_numbers : List Interned → Bool
-all_have_numbers is = list_all (λ i. is_some i.number) is
-
--- whether a node of these elements gets a number: they are few enough, and each has one
-abbrev pub gets_number : ℕ → List Interned → Bool
-gets_number limit is = nat_le (length is) limit && all_have_numbers is
+-- whether a node of elements with these numbers gets one: they are few enough, and each has a number
+abbrev pub gets_number : ℕ → List (Option ℕ) → Bool
+gets_number limit given = nat_le (length given) limit && list_all (λ n. is_some n) given

@@ -27,6 +27,7 @@ pub mod TokenAtOffset
 pub mod TokenText
 pub mod Unread
 pub mod View
+pub mod Waiting
 pub mod WalkEvent
 pub mod Weave
 pub mod Word

@@ -9,6 +9,7 @@ mod token_text;
 
 pub use children::Children;
 pub use element::{GreenElement, GreenElementRef};
+pub(crate) use node::GreenChild;
 pub use node::{GreenNode, GreenNodeData};
 pub use token::{GreenToken, GreenTokenData};
 

@@ -1,15 +1,17 @@
 //! The cache of green values: equal tokens, and equal nodes of few children, are stored once.
 mod chains;
 mod table;
+mod waiting;
 
-ghost use Rattle.std.specs.Prelude.{◌≡◌, ◌<◌, length, IfOk, IfErr, OnOk, OnErr, true, Some};
+ghost use Rattle.std.specs.Prelude.{◌≡◌, ◌<◌, ◌≤◌, length, drop, IfOk, IfErr, OnOk, OnErr, true, Some};
 ghost use Rattle.std.specs.List.{slice_get};
 ghost use Rattle.rowan_green.specs.declared.utility_types.NodeOrToken.TheVariants.{Node, Token};
 ghost use Rattle.rowan_green.specs.Term.{Term, token_of, node_of};
 ghost use Rattle.rowan_green.specs.Fits.{byte_limit, AreWithin, WhyNoNode};
 ghost use Rattle.rowan_green.specs.Word.{WhyNoToken};
-ghost use Rattle.rowan_green.specs.Cache.{empty_cache, first_seen, count_tokens, count_nodes, intern, IsNumbered, AreNumbered, elements, ListsNumbers, gets_number};
+ghost use Rattle.rowan_green.specs.Cache.{empty_cache, first_seen, count_tokens, count_nodes, intern, IsNumbered, AreNumbered, ListsNumbers, gets_number};
 ghost use Rattle.rowan_green.specs.Tables.{KeepsLimits};
+ghost use Rattle.rowan_green.specs.Waiting.{elements, numbers_of, IsSame, IsCutAt};
 
 use crate::fault::Fault;
 use crate::green::{GreenElement, GreenNode, GreenToken, SyntaxKind};
@@ -18,6 +20,7 @@ use std::alloc::{AllocError, Global};
 use std::marker::Model;
 use std::mem;
 use table::ValueTable;
+pub(crate) use waiting::Waiting;
 
 /// The greatest number of children of a node that `NodeCache::new` keeps.
 const MAX_CHILDREN: usize = 3;
@@ -131,28 +134,36 @@ impl NodeCache {
         })
     }
 
-    // The node of a kind and these children: the one that the cache keeps, or else a new one, which it keeps from now on where
-    // it is eligible. A refused call leaves the cache as it was.
+    // The node of a kind and the elements that wait from a place on, which it takes: the one that the cache keeps, or else a new
+    // one, which it keeps from now on where it is eligible. A refused call leaves the cache as it was, and all waits on.
     pub(crate) fn node(
         &mut self,
         kind: SyntaxKind,
-        children: &[Interned],
+        waiting: &mut Waiting,
+        first: usize,
     ) -> Result<Interned, Fault>
-        requires { AreNumbered self.old children.now }
+        requires within { first ≤ length (elements waiting.old) }
+        requires numbered { AreNumbered self.old (elements waiting.old) (numbers_of waiting.old) }
 
         // The node, or why there is none.
-        ensures ok { IfOk result (λ i. i.element ≡ Node (node_of kind.0 (elements children.now))) }
-        ensures within { OnOk result (AreWithin (elements children.now)) }
+        ensures ok { let ts = drop first (elements waiting.old) in
+            IfOk result (λ i. i.element ≡ Node (node_of kind.0 ts)) }
+        ensures within { OnOk result (AreWithin (drop first (elements waiting.old))) }
         ensures number { IfOk result (IsNumbered self.new) }
-        ensures err { IfErr result (WhyNoNode (elements children.now)) }
+        ensures err { IfErr result (WhyNoNode (drop first (elements waiting.old))) }
 
         // What the cache keeps.
-        ensures kept { let node = node_of kind.0 (elements children.now) in
-            OnOk result (self.new ≡ intern self.old (Node node)) }
+        ensures kept { let ts = drop first (elements waiting.old) in
+            OnOk result (self.new ≡ intern self.old (Node (node_of kind.0 ts))) }
         ensures unchanged { OnErr result (self.new ≡ self.old) }
+
+        // What waits on.
+        ensures rest { OnOk result (IsCutAt first waiting.old waiting.new) }
+        ensures all { OnErr result (IsSame waiting.old waiting.new) }
     {
-        if !write_numbers(&mut self.numbers, self.limit, children)? {
-            let node = GreenNode::from_interned(self.alloc, kind, children)?;
+        if !write_numbers(&mut self.numbers, self.limit, waiting.numbers_from(first))? {
+            let node = GreenNode::from_last(self.alloc, kind, &mut waiting.elements, first)?;
+            waiting.numbers.truncate(first);
             return Ok(Interned {
                 number: None,
                 element: NodeOrToken::Node(node),
@@ -161,11 +172,14 @@ impl NodeCache {
         let numbers = self.numbers.as_slice();
         let hash = table::node_hash(kind, numbers);
         if let Some(number) = self.table.node_number(hash, kind, numbers) {
-            return Ok(interned_at(&self.table, number)?);
+            let found = interned_at(&self.table, number)?;
+            waiting.truncate(first);
+            return Ok(found);
         }
-        let node = GreenNode::from_interned(self.alloc, kind, children)?;
+        let node = GreenNode::from_shared(self.alloc, kind, waiting.elements_from(first))?;
         let kept = NodeOrToken::Node(node.clone()?);
         let number = self.table.keep(hash, kept, self.numbers.as_slice())?;
+        waiting.truncate(first);
         Ok(Interned {
             number: Some(number),
             element: NodeOrToken::Node(node),
@@ -187,11 +201,11 @@ fn interned_at(table: &ValueTable, number: u32) -> Result<Interned, AllocError>
     })
 }
 
-// Writes down the numbers of the children, where there are at most `limit` and each has one.
+// Writes down the numbers of children, where there are at most `limit` and each has one.
 fn write_numbers(
     numbers: &mut Vec<u32>,
     limit: usize,
-    children: &[Interned],
+    children: &[Option<u32>],
 ) -> Result<bool, AllocError>
     ensures kept { IfOk result (λ kept. kept ≡ gets_number limit children.now) }
     ensures numbers { IfOk result (λ kept.
@@ -202,7 +216,7 @@ fn write_numbers(
         return Ok(false);
     }
     for child in children {
-        let Some(number) = child.number else {
+        let Some(number) = *child else {
             return Ok(false);
         };
         numbers.push(number)?;

@@ -10,8 +10,8 @@ ghost use Rattle.rowan_green.specs.Term.{node_text};
 use crate::builder::Checkpoint;
 use crate::builder::loan::HoldsCache;
 use crate::fault::Fault;
-use crate::green::{GreenNode, SyntaxKind};
-use crate::node_cache::{Interned, NodeCache};
+use crate::green::{GreenChild, GreenNode, SyntaxKind};
+use crate::node_cache::{NodeCache, Waiting};
 use crate::utility_types::NodeOrToken;
 use std::alloc::{AllocError, Global};
 use std::marker::Model;
@@ -27,7 +27,7 @@ struct OpenNode {
 #[derive(Drop)]
 pub struct OwningBuilder {
     parents: Vec<OpenNode>,
-    finished: Vec<Interned>,
+    finished: Waiting,
     cache: NodeCache,
 }
 
@@ -40,17 +40,18 @@ impl Model for OwningBuilder {
 
     ghost coded = { coded_builder };
 
-    ghost use Rattle.rowan_green.specs.Cache.{AreNumbered, elements};
+    ghost use Rattle.rowan_green.specs.Cache.{AreNumbered};
+    ghost use Rattle.rowan_green.specs.Waiting.{elements, numbers_of};
     ghost use Rattle.rowan_green.specs.Word.{spelled};
     ghost use Rattle.rowan_green.specs.Weave.{weave, AreInOrder};
 
     ghost view = { λ b. record {
-      word = spelled (weave 0 b.parents.items (elements b.finished.items));
+      word = spelled (weave 0 b.parents.items (elements b.finished));
       cache = b.cache;
     } };
 
-    ghost invariant = { λ b. AreInOrder 0 b.parents.items (length (elements b.finished.items))
-        × AreNumbered b.cache b.finished.items };
+    ghost invariant = { λ b. AreInOrder 0 b.parents.items (length (elements b.finished))
+        × AreNumbered b.cache (elements b.finished) (numbers_of b.finished) };
 }
 
 impl HoldsCache for OwningBuilder {
@@ -67,7 +68,7 @@ impl OwningBuilder {
     {
         OwningBuilder {
             parents: Vec::new(alloc),
-            finished: Vec::new(alloc),
+            finished: Waiting::new(alloc),
             cache,
         }
     }
@@ -82,9 +83,9 @@ impl OwningBuilder {
         if text.len() > u32::MAX as usize {
             return Err(Fault::TextTooLong);
         }
-        self.finished.reserve(1)?;
+        self.finished.reserve()?;
         let token = self.cache.token(kind, text)?;
-        self.finished.push(token)?;
+        self.finished.push(token);
         Ok(())
     }
 
@@ -106,12 +107,12 @@ impl OwningBuilder {
         let Some(open) = self.parents.last().copied() else {
             return Err(Fault::NothingOpen);
         };
-        self.finished.reserve(1)?;
-        let (_, children) = self.finished.as_slice().split_at(open.first_child);
-        let node = self.cache.node(open.kind, children)?;
+        self.finished.reserve()?;
+        let node = self
+            .cache
+            .node(open.kind, &mut self.finished, open.first_child)?;
         self.parents.pop();
-        self.finished.truncate(open.first_child);
-        self.finished.push(node)?;
+        self.finished.push(node);
         Ok(())
     }
 
@@ -166,7 +167,7 @@ impl OwningBuilder {
         if self.finished.len() != 1 {
             return Err(Fault::NotOneElement);
         }
-        match &self.finished[0].element {
+        match self.finished.elements[0].as_ref() {
             NodeOrToken::Node(node) => Ok(node),
             NodeOrToken::Token(_) => Err(Fault::NotANode),
         }
@@ -186,13 +187,12 @@ impl OwningBuilder {
             mut finished,
             cache,
         } = self;
-        let Some(last) = finished.pop() else {
+        let Some(last) = finished.elements.pop() else {
             unreachable!()
         };
-        let Interned { number: _, element } = last;
-        match element {
-            NodeOrToken::Node(node) => Ok((node, cache)),
-            NodeOrToken::Token(_) => unreachable!(),
+        match last {
+            GreenChild::Node { node, .. } => Ok((node, cache)),
+            GreenChild::Token { .. } => unreachable!(),
         }
     }
 }

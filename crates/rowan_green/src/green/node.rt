@@ -1,4 +1,5 @@
 mod edits;
+mod finished;
 
 ghost use Rattle.std.specs.Prelude.{◌≡◌, ◌≢◌, ℕ, ◌+◌, ◌<◌, ◌≤◌, ◌&&◌, [], ◌∷◌, ◌++◌, length, IfOk, IfErr, OnOk, IfSome, IsNone, Some, ◌↔◌, map, take, slice_get};
 ghost use Rattle.std.specs.Iterator.{IsFiniteIterable};
@@ -11,7 +12,6 @@ ghost use Rattle.rowan_green.specs.Steps.{Rises};
 
 use crate::fault::Fault;
 use crate::green::{Children, GreenElement, GreenElementRef, GreenToken, SyntaxKind};
-use crate::node_cache::Interned;
 use crate::steps::Steps;
 use crate::text::{TextRange, TextSize};
 use crate::utility_types::NodeOrToken;
@@ -40,7 +40,7 @@ struct NodeData {
 /// A child, and where its text starts in that of its parent.
 #[cycle(green)]
 #[derive(Drop)]
-pub(super) enum GreenChild {
+pub(crate) enum GreenChild {
     Node {
         rel_offset: TextSize,
         node: GreenNode,
@@ -57,7 +57,7 @@ const _: () = prove!(mem::size_of::<GreenChild>() == 16);
 impl GreenChild {
     ghost use Rattle.rowan_green.specs.View.{child_term, child_offset};
 
-    fn new(rel_offset: TextSize, element: GreenElement) -> GreenChild
+    pub(crate) fn new(rel_offset: TextSize, element: GreenElement) -> GreenChild
         ensures offset { child_offset result ≡ rel_offset }
         ensures term { child_term result ≡ element }
     {
@@ -77,7 +77,7 @@ impl GreenChild {
         }
     }
 
-    pub(super) fn as_ref(&self) -> GreenElementRef<'_>
+    pub(crate) fn as_ref(&self) -> GreenElementRef<'_>
         ensures { pointee result ≡ child_term self.now }
     {
         match self {
@@ -204,8 +204,6 @@ impl Model for GreenNode {
 }
 
 impl GreenNode {
-    ghost use Rattle.rowan_green.specs.Cache.{elements};
-
     /// The node of a kind and the children that an iterator gives. The first child at which a limit is passed decides how it
     /// is refused: `TooManyChildren` past 4,294,967,295 children, else `TextTooLong` past as many bytes of text; and else it is
     /// refused only for want of memory.
@@ -227,23 +225,6 @@ impl GreenNode {
         let mut draft = NodeDraft::new(Vec::new(alloc));
         for element in children {
             draft.push(element)?;
-        }
-        Ok(draft.finish(alloc, kind)?)
-    }
-
-    // The node of a kind and these elements, which stay with the caller too.
-    pub(crate) fn from_interned(
-        alloc: Global,
-        kind: SyntaxKind,
-        children: &[Interned],
-    ) -> Result<GreenNode, Fault>
-        ensures ok { IfOk result (λ n. n ≡ node_of kind.0 (elements children.now)) }
-        ensures within { OnOk result (AreWithin (elements children.now)) }
-        ensures err { IfErr result (WhyNoNode (elements children.now)) }
-    {
-        let mut draft = NodeDraft::new(Vec::with_capacity(alloc, children.len())?);
-        for child in children {
-            draft.push(child.element.as_ref().to_owned()?)?;
         }
         Ok(draft.finish(alloc, kind)?)
     }

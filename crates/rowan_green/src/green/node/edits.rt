@@ -16,7 +16,7 @@ impl NodeDraft {
     ghost use Rattle.rowan_green.specs.View.{child_term};
 
     // Adds children that stay where they are, too.
-    fn push_shared(&mut self, children: &[GreenChild]) -> Result<(), Fault>
+    pub(super) fn push_shared(&mut self, children: &[GreenChild]) -> Result<(), Fault>
         ensures ok { OnOk result (self.new ≡ self.old ++ map child_term children.now) }
         ensures err { IfErr result (WhyNoNode (self.old ++ map child_term children.now)) }
     {

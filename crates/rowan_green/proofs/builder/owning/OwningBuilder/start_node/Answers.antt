@@ -2,8 +2,8 @@ use Rattle.std.proofs.Common.{◌++◌, ◌∷◌, [], List, length, sym, ◌∙
 use Rattle.rowan_green.specs.declared.builder.owning.OpenNode.{OpenNode}
 use Rattle.rowan_green.specs.Word.{Open, spelled}
 use Rattle.rowan_green.specs.Weave.{weave, AreInOrder}
-use Rattle.rowan_green.specs.Cache.{elements}
-use Rattle.rowan_green.proofs.BuilderLemmas.{elements-length, same_value}
+use Rattle.rowan_green.specs.Waiting.{elements}
+use Rattle.rowan_green.proofs.BuilderLemmas.{same_value}
 use Rattle.rowan_green.proofs.WeaveLemmas.{spelled-start, AreInOrder-push, AreInOrder-grow}
 use Rattle.rowan_green.proofs.builder.owning.OwningBuilder.start_node.Goals as goal
 
@@ -11,11 +11,11 @@ pub invariant_of-self-2 : goal.invariant_of-self-2
 invariant_of-self-2 c =
     let s = c.self.inside in
     let o : OpenNode = record { kind = c.args.kind; first_child = c.len-first_child.result } in
-    let P : List OpenNode → Type 0 = λ os. AreInOrder 0 os (length (elements s.finished.items)) in (
+    let P : List OpenNode → Type 0 = λ os. AreInOrder 0 os (length (elements s.finished)) in (
       subst P (sym c.in_ok-push.ensures.items)
-          (AreInOrder-push 0 s.parents.items o (length (elements s.finished.items))
-          (AreInOrder-grow 0 s.parents.items (length (elements s.finished.items)) o.first_child c.self.invariant.0 (omega (arith, s.finished.ok.0, elements-length s.finished.items)))
-          (omega (arith, s.finished.ok.0, elements-length s.finished.items))),
+          (AreInOrder-push 0 s.parents.items o (length (elements s.finished))
+          (AreInOrder-grow 0 s.parents.items (length (elements s.finished)) o.first_child c.self.invariant.0 (omega arith))
+          (omega arith)),
       c.self.invariant.1,
     )
 
@@ -24,7 +24,7 @@ returns-clause-ok c =
     let s = c.self.inside in
     let o : OpenNode = record { kind = c.args.kind; first_child = c.len-first_child.result } in
     same_value _ _ _ _
-    (ap (λ os. spelled (weave 0 os (elements s.finished.items))) c.in_ok-push.ensures.items
-    ∙ spelled-start s.parents.items (elements s.finished.items) o c.self.invariant.0 (omega (arith, c.len-first_child.ensures, s.finished.ok.0, elements-length s.finished.items))
+    (ap (λ os. spelled (weave 0 os (elements s.finished))) c.in_ok-push.ensures.items
+    ∙ spelled-start s.parents.items (elements s.finished) o c.self.invariant.0 (omega (arith, c.len-first_child.ensures))
     ∙ ap (λ b. b.word ++ Open c.args.kind.0 ∷ []) c.self.view_is)
     (ap (λ b. b.cache) c.self.view_is)

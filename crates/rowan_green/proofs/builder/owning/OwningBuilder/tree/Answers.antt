@@ -1,28 +1,36 @@
-use Rattle.std.proofs.Common.{◌∷◌, [], refl, sym, ◌∙◌, ap, arith}
+use Rattle.std.proofs.Common.{◌∷◌, [], length, refl, sym, ◌∙◌, ap, arith}
+use Rattle.std.proofs.lemmas.List.{length-map}
 use Rattle.rowan_green.specs.declared.utility_types.NodeOrToken.TheVariants.{Node, Token}
-use Rattle.rowan_green.specs.Cache.{elements}
-use Rattle.rowan_green.proofs.BuilderLemmas.{elements-length, elements-first}
+use Rattle.rowan_green.specs.Lent.{pointee}
+use Rattle.rowan_green.specs.Waiting.{elements}
+use Rattle.rowan_green.proofs.BuilderLemmas.{elements-first}
+use Rattle.rowan_green.specs.View.{child_term}
 use Rattle.rowan_green.proofs.WeaveLemmas.{HasTerms-weave}
 use Rattle.rowan_green.proofs.builder.owning.OwningBuilder.tree.Goals as goal
 
 pub returns-in-Node-clause-ok : goal.returns-in-Node-clause-ok
 returns-in-Node-clause-ok c =
     let s = c.self.inside in
-    HasTerms-weave s.parents.items (elements s.finished.items) (Node c.in-Node.node ∷ []) c.args.self.now.word (ap (λ b. b.word) c.self.view_is)
-    (elements-first s.finished.items c.index.result.now (Node c.in-Node.node) (omega (arith, c.if-len-ne1.false, c.len.ensures, s.finished.ok.0)) c.index.ensures c.in-Node.is)
+    HasTerms-weave s.parents.items (elements s.finished) (Node c.in-Node.node.now ∷ []) c.args.self.now.word (ap (λ b. b.word) c.self.view_is)
+    (elements-first s.finished.elements.items c.index.result.now (Node c.in-Node.node.now) (omega (arith, c.if-len-ne1.false, c.len.ensures, length-map s.finished.elements.items child_term)) c.index.ensures (sym c.as_ref.ensures ∙ ap pointee c.in-Node.is))
 
 pub returns-then-len-ne1-clause-err : goal.returns-then-len-ne1-clause-err
 returns-then-len-ne1-clause-err c =
     let s = c.self.inside in (
-      elements s.finished.items,
-      HasTerms-weave s.parents.items (elements s.finished.items) (elements s.finished.items) c.args.self.now.word (ap (λ b. b.word) c.self.view_is) refl,
-      λ e. c.if-len-ne1.true (c.len.ensures ∙ s.finished.ok.0 ∙ sym (elements-length s.finished.items) ∙ e),
+      elements s.finished,
+      HasTerms-weave s.parents.items (elements s.finished) (elements s.finished) c.args.self.now.word (ap (λ b. b.word) c.self.view_is) refl,
+      λ e. c.if-len-ne1.true (c.len.ensures ∙ e),
     )
 
 pub returns-in-Token-clause-err : goal.returns-in-Token-clause-err
 returns-in-Token-clause-err c =
     let s = c.self.inside in (
-      c.in-Token.field-0,
-      HasTerms-weave s.parents.items (elements s.finished.items) (Token c.in-Token.field-0 ∷ []) c.args.self.now.word (ap (λ b. b.word) c.self.view_is)
-          (elements-first s.finished.items c.index.result.now (Token c.in-Token.field-0) (omega (arith, c.if-len-ne1.false, c.len.ensures, s.finished.ok.0)) c.index.ensures c.in-Token.is),
+      c.in-Token.field-0.now,
+      HasTerms-weave s.parents.items (elements s.finished) (Token c.in-Token.field-0.now ∷ []) c.args.self.now.word (ap (λ b. b.word) c.self.view_is)
+          (elements-first s.finished.elements.items c.index.result.now (Token c.in-Token.field-0.now) (omega (arith, c.if-len-ne1.false, c.len.ensures, length-map s.finished.elements.items child_term)) c.index.ensures (sym c.as_ref.ensures ∙ ap pointee c.in-Token.is)),
     )
+
+pub index-requires : goal.index-requires
+index-requires c =
+    let s = c.self.inside in
+    omega (arith, c.if-len-ne1.false, c.len.ensures, length-map s.finished.elements.items child_term, s.finished.elements.ok.0)

@@ -1,0 +1,27 @@
+-- What waits in a builder: elements, with their numbers.
+use Rattle.std.specs.Prelude.{◌≡◌, ℕ, ◌<◌, List, map, take, Option, vec_len, vec_capacity}
+use Rattle.rowan_green.specs.declared.node_cache.waiting.Waiting.{Waiting}
+use Rattle.rowan_green.specs.Term.{Term}
+use Rattle.rowan_green.specs.View.{child_term}
+
+-- the terms of the elements
+abbrev pub elements : Waiting → List Term
+elements w = map child_term w.elements.items
+
+-- the number of each, where it has one
+abbrev pub numbers_of : Waiting → List (Option ℕ)
+numbers_of w = w.numbers.items
+
+-- there is room for one more
+abbrev pub HasRoom : Waiting → Type 0
+HasRoom w = (vec_len w.elements < vec_capacity w.elements) × (vec_len w.numbers < vec_capacity w.numbers)
+
+-- the same waits
+abbrev pub IsSame : Waiting → Waiting → Type 0
+IsSame old new = (elements new ≡ elements old) × (numbers_of new ≡ numbers_of old)
+
+-- what stands before the place still waits, with the room that there was
+pub record IsCutAt (place : ℕ) (old new : Waiting) : Type 0 where
+  pub terms : elements new ≡ take place (elements old)
+  pub numbers : numbers_of new ≡ take place (numbers_of old)
+  pub room : HasRoom old → HasRoom new

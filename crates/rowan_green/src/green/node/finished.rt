@@ -1,0 +1,112 @@
+//! Nodes over the elements that a builder has finished.
+ghost use Rattle.std.specs.Prelude.{◌≡◌, ◌<◌, ◌≤◌, length, map, take, drop, IfOk, IfErr, OnOk, OnErr, vec_len, vec_capacity};
+ghost use Rattle.rowan_green.specs.Fits.{AreWithin, PassesLimit, WhyNoNode};
+ghost use Rattle.rowan_green.specs.Term.{node_of};
+ghost use Rattle.rowan_green.specs.View.{child_term, child_offset, AreSound};
+
+use crate::fault::Fault;
+use crate::green::SyntaxKind;
+use crate::green::node::{GreenChild, GreenNode, NodeData, NodeDraft};
+use crate::text::TextSize;
+use std::alloc::{AllocFailed, Global};
+use std::rc::Rc;
+
+impl GreenNode {
+    // The node of a kind and these elements, which stay with the caller too.
+    pub(crate) fn from_shared(
+        alloc: Global,
+        kind: SyntaxKind,
+        elements: &[GreenChild],
+    ) -> Result<GreenNode, Fault>
+        ensures ok { IfOk result (λ n. n ≡ node_of kind.0 (map child_term elements.now)) }
+        ensures within { OnOk result (AreWithin (map child_term elements.now)) }
+        ensures err { IfErr result (WhyNoNode (map child_term elements.now)) }
+    {
+        let mut draft = NodeDraft::new(Vec::with_capacity(alloc, elements.len())?);
+        draft.push_shared(elements)?;
+        Ok(draft.finish(alloc, kind)?)
+    }
+
+    // The node of a kind and the elements of a list from a place on, which move into it as one block. A refused call leaves
+    // them in the list.
+    pub(crate) fn from_last(
+        alloc: Global,
+        kind: SyntaxKind,
+        elements: &mut Vec<GreenChild>,
+        first: usize,
+    ) -> Result<GreenNode, Fault>
+        requires { first ≤ length elements.old.items }
+
+        // The node, or why there is none.
+        ensures ok { let ts = map child_term elements.old.items in
+            IfOk result (λ n. n ≡ node_of kind.0 (drop first ts)) }
+        ensures within { OnOk result (AreWithin (drop first (map child_term elements.old.items))) }
+        ensures err { IfErr result (WhyNoNode (drop first (map child_term elements.old.items))) }
+
+        // What is left in the list.
+        ensures rest { let terms = map child_term in
+            OnOk result (terms elements.new.items ≡ take first (terms elements.old.items)) }
+        ensures unchanged { let terms = map child_term in
+            OnErr result (terms elements.new.items ≡ terms elements.old.items) }
+        ensures room { vec_len elements.old < vec_capacity elements.old
+            → vec_len elements.new < vec_capacity elements.new }
+    {
+        let text_len = GreenChild::place(elements, first)?;
+        let children = elements.split_off(first)?;
+        let data = NodeData {
+            kind,
+            text_len,
+            children,
+        };
+        match Rc::new(alloc, data) {
+            Ok(data) => Ok(GreenNode { data }),
+            Err(refused) => {
+                let AllocFailed { value } = refused;
+                let NodeData {
+                    kind: _,
+                    text_len: _,
+                    mut children,
+                } = value;
+                // The list has still the room that they had.
+                let _ = elements.append(&mut children);
+                Err(Fault::Memory)
+            }
+        }
+    }
+}
+
+impl GreenChild {
+    // Gives each child of a list from a place on its offset, and says how long their text is, or which limit they pass.
+    fn place(children: &mut Vec<GreenChild>, first: usize) -> Result<TextSize, Fault>
+        requires { first ≤ length children.old.items }
+        ensures ok { IfOk result (λ len. AreSound len (drop first children.new.items)) }
+        ensures err { IfErr result (PassesLimit (drop first (map child_term children.old.items))) }
+        ensures same { map child_term children.new.items ≡ map child_term children.old.items }
+        ensures len { vec_len children.new ≡ vec_len children.old }
+        ensures capacity { vec_capacity children.new ≡ vec_capacity children.old }
+    {
+        let mut text_len = TextSize::from(0);
+        for index in first..children.len() {
+            let len = u32::from(children[index].as_ref().text_len());
+            if index - first >= u32::MAX as usize {
+                return Err(Fault::TooManyChildren);
+            }
+            let Some(end) = u32::from(text_len).checked_add(len) else {
+                return Err(Fault::TextTooLong);
+            };
+            children[index].set_rel_offset(text_len);
+            text_len = TextSize::from(end);
+        }
+        Ok(text_len)
+    }
+
+    fn set_rel_offset(&mut self, offset: TextSize)
+        ensures offset { child_offset self.new ≡ offset }
+        ensures term { child_term self.new ≡ child_term self.old }
+    {
+        match self {
+            GreenChild::Node { rel_offset, .. } => *rel_offset = offset,
+            GreenChild::Token { rel_offset, .. } => *rel_offset = offset,
+        }
+    }
+}
