@@ -1,6 +1,7 @@
 pub mod BuilderLemmas
 pub mod CacheLemmas
 pub mod ChainLemmas
+pub mod ChainWalks
 pub mod ChildList
 pub mod CountLemmas
 pub mod Drops

@@ -14,7 +14,7 @@ use Rattle.rowan_green.specs.Term.{NodeTerm, node, Term, token_of, node_of, node
 use Rattle.rowan_green.specs.Same.{same_term, same_term-decides}
 use Rattle.rowan_green.specs.Path.{term_children}
 use Rattle.rowan_green.specs.Cache.{is_among}
-use Rattle.rowan_green.specs.Chains.{ChainsValue, bucket, buckets, IsUpTo, IsNewest}
+use Rattle.rowan_green.specs.Chains.{ChainsValue, IsUpTo, IsNewest}
 use Rattle.rowan_green.specs.Tables.{token_hash, node_hash, key_hash, child_numbers, is_node_by, hash_of, hashes, kept_terms, StandAt, KeepsLimits, IsKept, IsIndexed}
 use Rattle.rowan_green.proofs.CacheLemmas.{slice_get-cases, place_from_is_among, StandsOnce-push}
 use Rattle.rowan_green.proofs.NumberLemmas.{StandAt-terms, StandAt-numbers, StandAt-grown, StandAt-length}
@@ -38,7 +38,7 @@ same_maps f g (x ∷ xs) h = ap (λ y. y ∷ map f xs) (h 0 x refl) ∙ ap (λ y
 
 -- ---- a search along a chain
 
--- what a search has still before it: the next value is in the bucket, and each that passes the test stands there or before it
+-- what a search has still before it: the next value has the hash, and each that passes the test stands there or before it
 pub record IsAhead (ks : List Kept) (bs : List ℕ) (b : ℕ) (next : Option ℕ) (test : Kept → Bool) : Type 0 where
   pub stands : (n : ℕ) → next ≡ Some n → (n < length ks) × (slice_get bs n ≡ Some b)
   pub ahead : (n : ℕ) (k : Kept) → slice_get ks n ≡ Some k → test k ≡ true → IsUpTo n next
@@ -56,22 +56,21 @@ older_left bs n b o s =
     ] s.stands
 
 module _ {ks : List Kept} {all : List ℕ} {chains : ChainsValue} (h : IsIndexed ks all chains) (hash : ℕ) (test : Kept → Bool) (hits : (k : Kept) → test k ≡ true → hash_of all k ≡ hash) where
-  hit_bucket : (n : ℕ) (k : Kept) → slice_get ks n ≡ Some k → test k ≡ true → slice_get (buckets chains) n ≡ Some (bucket chains.count hash)
-  hit_bucket n k at on =
-      at_map (bucket chains.count) chains.hashes n (hash_of all k) (ap (λ is. slice_get is n) h.hashed ∙ at_map (hash_of all) ks n k at)
-      ∙ ap (λ i. Some (bucket chains.count i)) (hits k on)
+  hit_hash : (n : ℕ) (k : Kept) → slice_get ks n ≡ Some k → test k ≡ true → slice_get chains.hashes n ≡ Some hash
+  hit_hash n k at on =
+      ap (λ is. slice_get is n) h.hashed ∙ at_map (hash_of all) ks n k at ∙ ap (λ i. Some i) (hits k on)
 
   places : length chains.hashes ≡ length ks
   places = ap length h.hashed ∙ length-map ks (hash_of all)
 
-  pub IsAhead-first : (o : Option ℕ) → IsNewest (buckets chains) (length chains.hashes) (bucket chains.count hash) o → IsAhead ks (buckets chains) (bucket chains.count hash) o test
+  pub IsAhead-first : (o : Option ℕ) → IsNewest chains.hashes (length chains.hashes) hash o → IsAhead ks chains.hashes hash o test
   IsAhead-first o s = record {
     stands = λ n e. let p = s.stands n e in (omega (arith, p.0, places), p.1);
-    ahead = λ n k at on. s.last n (omega (arith, slice_get_within ks n k at, places)) (hit_bucket n k at on);
+    ahead = λ n k at on. s.last n (omega (arith, slice_get_within ks n k at, places)) (hit_hash n k at on);
   }
 
-  pub IsAhead-older : (n : ℕ) (k : Kept) → slice_get ks n ≡ Some k → IsAhead ks (buckets chains) (bucket chains.count hash) (Some n) test → test k ≡ false
-      → (o : Option ℕ) → IsNewest (buckets chains) n (bucket chains.count hash) o → IsAhead ks (buckets chains) (bucket chains.count hash) o test
+  pub IsAhead-older : (n : ℕ) (k : Kept) → slice_get ks n ≡ Some k → IsAhead ks chains.hashes hash (Some n) test → test k ≡ false
+      → (o : Option ℕ) → IsNewest chains.hashes n hash o → IsAhead ks chains.hashes hash o test
   IsAhead-older n k at a off o s = record {
     stands = λ m e. let p = s.stands m e in (omega (arith, p.0, slice_get_within ks n k at), p.1);
     ahead = λ m j at_m on.
@@ -81,7 +80,7 @@ module _ {ks : List Kept} {all : List ℕ} {chains : ChainsValue} (h : IsIndexed
               let again : Some j ≡ Some k = sym at_m ∙ ap (slice_get ks) here ∙ at in
               let is : j ≡ k = cc in
               absurd (both_ways (test k) off (subst (λ i. test i ≡ true) is on))
-          | inr apart ↦ s.last m (omega (arith, upto, apart)) (hit_bucket m j at_m on)
+          | inr apart ↦ s.last m (omega (arith, upto, apart)) (hit_hash m j at_m on)
         ];
   }
 

@@ -1,5 +1,5 @@
 -- Chains of places by their hashes. A hash has a bucket. The places of one bucket are a chain, the newest first.
-use Rattle.std.specs.Prelude.{◌≡◌, ℕ, ◌-◌, ◌<◌, ◌≤◌, List, length, map, Option, Some, None, bit_and, refl}
+use Rattle.std.specs.Prelude.{◌≡◌, ℕ, ◌-◌, ◌<◌, ◌≤◌, ◌==◌, List, length, map, Option, Some, None, cond, bit_and, refl}
 use Rattle.std.specs.Coded.{Coded, code_by, coded×, coded_ℕ, coded_list}
 use Rattle.std.specs.List.{slice_get}
 
@@ -8,19 +8,23 @@ pub record ChainsValue : Type 0 where
   pub hashes : List ℕ
   pub count : ℕ
 
+-- a place or none, by a number of 32 bits: the greatest stands for none
+abbrev pub linked : ℕ → Option ℕ
+linked raw = cond (raw == 4294967295) None (Some raw)
+
+abbrev pub link_number : Option ℕ → ℕ
+link_number None = 4294967295
+link_number (Some place) = place
+
 abbrev pub bucket : ℕ → ℕ → ℕ
 bucket count hash = bit_and hash (count - 1)
-
--- the bucket of each place
-abbrev pub buckets : ChainsValue → List ℕ
-buckets c = map (bucket c.count) c.hashes
 
 -- the place is at or before this one
 abbrev pub IsUpTo : ℕ → Option ℕ → Type 0
 IsUpTo place None = ⊥
 IsUpTo place (Some n) = place ≤ n
 
--- this is the last place before the bound at which this bucket stands, or none
+-- this is the last place before the bound at which this stands, a hash or a bucket, or none
 pub record IsNewest (bs : List ℕ) (bound b : ℕ) (newest : Option ℕ) : Type 0 where
   pub stands : (n : ℕ) → newest ≡ Some n → (n < bound) × (slice_get bs n ≡ Some b)
   pub last : (n : ℕ) → n < bound → slice_get bs n ≡ Some b → IsUpTo n newest
@@ -33,6 +37,12 @@ pub record AreLinked (hashes : List ℕ) (newest older : List (Option ℕ)) : Ty
   pub rest : (n b : ℕ) (o : Option ℕ)
       → slice_get (map (bucket (length newest)) hashes) n ≡ Some b → slice_get older n ≡ Some o
       → IsNewest (map (bucket (length newest)) hashes) n b o
+
+-- a chain goes on at one of the places or ends, and each link leads to an older place
+pub record IsOnChain (hashes : List ℕ) (older : List (Option ℕ)) (next : Option ℕ) : Type 0 where
+  pub count : length older ≡ length hashes
+  pub within : (n : ℕ) → next ≡ Some n → n < length hashes
+  pub falls : (n m : ℕ) → slice_get older n ≡ Some (Some m) → m < n
 
 -- what the fields of chains keep: there are no fewer buckets than places, and the numbers of places have 32 bits
 pub record AreChains (hashes : List ℕ) (newest older : List (Option ℕ)) : Type 0 where

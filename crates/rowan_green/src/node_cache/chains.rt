@@ -1,25 +1,69 @@
 //! Places by their hashes: the places whose hashes have one bucket are a chain, the newest first.
-ghost use Rattle.std.specs.Prelude.{◌≡◌, ◌+◌, ◌<◌, List, ℕ, [], ◌++◌, ◌∷◌, length, replicate, None, Some, IfOk, OnOk, OnErr};
+ghost use Rattle.std.specs.Prelude.{◌≡◌, ◌+◌, ◌<◌, List, ℕ, [], ◌++◌, ◌∷◌, length, map, replicate, Option, None, Some, IfOk, OnOk, OnErr};
 ghost use Rattle.std.specs.List.{slice_get};
-ghost use Rattle.rowan_green.specs.Chains.{bucket, buckets, IsNewest, AreLinked};
+ghost use Rattle.rowan_green.specs.Chains.{bucket, IsNewest, IsOnChain, AreLinked};
 
 use std::alloc::{AllocError, Global};
 use std::marker::Model;
 
-// The greatest number of places: each has a number of 32 bits.
+// The greatest number of places. Each has a number of 32 bits, of which the greatest stands for none.
 const MAX_PLACES: usize = u32::MAX as usize;
 
 // The number of buckets that the first place takes. It is doubled as the places grow, so it is a power of two.
 const FIRST_BUCKETS: usize = 16;
 
+// A place or none, in four bytes.
+#[derive(Clone, Copy)]
+struct Link {
+    raw: u32,
+}
+
+impl Model for Link {
+    ghost use Rattle.std.specs.Prelude.{ℕ, Option};
+    ghost use Rattle.std.specs.Coded.{coded_option, coded_ℕ};
+    ghost use Rattle.rowan_green.specs.Chains.{linked, link_number};
+
+    ghost Value = { Option ℕ };
+
+    ghost coded = { coded_option coded_ℕ };
+
+    ghost view = { λ l. linked l.raw };
+
+    ghost inverse = { λ o. record { raw = link_number o } };
+}
+
+impl Link {
+    fn none() -> Link
+        ensures { result ≡ None }
+    {
+        Link { raw: u32::MAX }
+    }
+
+    fn to(place: u32) -> Link
+        requires { place < 4294967295 }
+        ensures { result ≡ Some place }
+    {
+        Link { raw: place }
+    }
+
+    fn place(self) -> Option<u32>
+        ensures { result ≡ self }
+    {
+        if self.raw == u32::MAX {
+            return None;
+        }
+        Some(self.raw)
+    }
+}
+
 #[derive(Drop)]
 pub(super) struct Chains {
     alloc: Global,
-    hashes: Vec<u64>,
+    hashes: Vec<u32>,
     // The newest place of each bucket. There are no fewer buckets than places.
-    newest: Vec<Option<u32>>,
+    newest: Vec<Link>,
     // Of each place, the newest of the older ones in its bucket.
-    older: Vec<Option<u32>>,
+    older: Vec<Link>,
 }
 
 impl Model for Chains {
@@ -49,28 +93,30 @@ impl Chains {
         }
     }
 
-    // The newest place in the bucket of a hash.
-    pub(super) fn newest(&self, hash: u64) -> Option<u32>
-        ensures { let b = bucket self.now.count hash in
-            IsNewest (buckets self.now) (length self.now.hashes) b result }
+    // The newest place with this hash.
+    pub(super) fn newest(&self, hash: u32) -> Option<u32>
+        ensures { IsNewest self.now.hashes (length self.now.hashes) hash result }
     {
         if self.newest.is_empty() {
             return None;
         }
-        self.newest[bucket(hash, self.newest.len())]
+        let first = self.newest[bucket(hash, self.newest.len())];
+        place_with(hash, self.hashes.as_slice(), self.older.as_slice(), first)
     }
 
-    // The newest of the places that are older than this one and in its bucket.
+    // The newest of the places that are older than this one and have its hash.
     pub(super) fn older(&self, place: u32) -> Option<u32>
         requires { place < length self.now.hashes }
-        ensures { (b : ℕ) → slice_get (buckets self.now) place ≡ Some b
-            → IsNewest (buckets self.now) place b result }
+        ensures { (hash : ℕ) → slice_get self.now.hashes place ≡ Some hash
+            → IsNewest self.now.hashes place hash result }
     {
-        self.older[place as usize]
+        let hash = self.hashes[place as usize];
+        let next = self.older[place as usize];
+        place_with(hash, self.hashes.as_slice(), self.older.as_slice(), next)
     }
 
     // Adds a place with this hash, and says which. A refused call leaves the places as they were.
-    pub(super) fn push(&mut self, hash: u64) -> Result<u32, AllocError>
+    pub(super) fn push(&mut self, hash: u32) -> Result<u32, AllocError>
         ensures ok { OnOk result (self.new.hashes ≡ self.old.hashes ++ hash ∷ []) }
         ensures place { IfOk result (λ n. n ≡ length self.old.hashes) }
         ensures unchanged { OnErr result (self.new.hashes ≡ self.old.hashes) }
@@ -81,7 +127,7 @@ impl Chains {
         }
         self.make_room()?;
         self.hashes.reserve(1)?;
-        link(&mut self.newest, &mut self.older, hash)?;
+        add_link(&mut self.newest, &mut self.older, hash)?;
         self.hashes.push(hash)?;
         Ok(place as u32)
     }
@@ -101,7 +147,7 @@ impl Chains {
         let mut older = Vec::with_capacity(self.alloc, buckets)?;
         let hashes = self.hashes.as_slice();
         for hash in hashes {
-            link(&mut newest, &mut older, *hash)?;
+            add_link(&mut newest, &mut older, *hash)?;
         }
         self.newest = newest;
         self.older = older;
@@ -121,20 +167,16 @@ fn buckets_for(places: usize) -> usize
 }
 
 // Buckets that have no place.
-fn no_places(alloc: Global, count: usize) -> Result<Vec<Option<u32>>, AllocError>
+fn no_places(alloc: Global, count: usize) -> Result<Vec<Link>, AllocError>
     ensures { IfOk result (λ v. v.items ≡ replicate count None) }
 {
     let mut newest = Vec::with_capacity(alloc, count)?;
-    newest.resize(count, None)?;
+    newest.resize(count, Link::none())?;
     Ok(newest)
 }
 
 // Links the next place, which has this hash. A refused call changes neither list.
-fn link(
-    newest: &mut Vec<Option<u32>>,
-    older: &mut Vec<Option<u32>>,
-    hash: u64,
-) -> Result<(), AllocError>
+fn add_link(newest: &mut Vec<Link>, older: &mut Vec<Link>, hash: u32) -> Result<(), AllocError>
     requires some { 0 < length newest.old.items }
     requires small { length older.old.items < 4294967295 }
     ensures ok { OnOk result ((hs : List ℕ) → AreLinked hs newest.old.items older.old.items
@@ -146,11 +188,29 @@ fn link(
     let place = older.len() as u32;
     let bucket = bucket(hash, newest.len());
     older.push(newest[bucket])?;
-    newest[bucket] = Some(place);
+    newest[bucket] = Link::to(place);
     Ok(())
 }
 
-fn bucket(hash: u64, count: usize) -> usize
+// The first place with this hash on the chain that goes on here.
+fn place_with(hash: u32, hashes: &[u32], older: &[Link], next: Link) -> Option<u32>
+    requires { IsOnChain hashes.now older.now next }
+    ensures { (newest : List (Option ℕ)) (bound : ℕ) → AreLinked hashes.now newest older.now
+        → let count = length newest in
+        IsNewest (map (bucket count) hashes.now) bound (bucket count hash) next
+        → IsNewest hashes.now bound hash result }
+{
+    let mut next = next.place();
+    while let Some(place) = next {
+        if hashes[place as usize] == hash {
+            return Some(place);
+        }
+        next = older[place as usize].place();
+    }
+    None
+}
+
+fn bucket(hash: u32, count: usize) -> usize
     requires { 0 < count }
     ensures value { result ≡ bucket count hash }
     ensures within { result < count }

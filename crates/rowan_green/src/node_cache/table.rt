@@ -6,7 +6,7 @@ ghost use Rattle.rowan_green.specs.Term.{Term, token_of, node_of};
 ghost use Rattle.rowan_green.specs.Same.{same_term};
 ghost use Rattle.rowan_green.specs.Cache.{is_among};
 ghost use Rattle.rowan_green.specs.Path.{term_children};
-ghost use Rattle.rowan_green.specs.Tables.{token_hash, node_hash, key_hash, is_node_by, StandAt, KeepsLimits};
+ghost use Rattle.rowan_green.specs.Tables.{low_bits, token_hash, node_hash, key_hash, is_node_by, StandAt, KeepsLimits};
 
 use crate::green::{GreenElement, SyntaxKind};
 use crate::node_cache::chains::Chains;
@@ -77,7 +77,7 @@ impl ValueTable {
     }
 
     // The number of the token of a kind and a text, whose hash this is.
-    pub(super) fn token_number(&self, hash: u64, kind: SyntaxKind, text: &str) -> Option<u32>
+    pub(super) fn token_number(&self, hash: u32, kind: SyntaxKind, text: &str) -> Option<u32>
         requires { hash ≡ token_hash kind.0 text.now }
         ensures some { let t = Token (token_of kind.0 text.now) in
             IfSome result (λ n. slice_get self.now n ≡ Some t) }
@@ -96,7 +96,7 @@ impl ValueTable {
     }
 
     // The number of the node of a kind and of children at these numbers, whose hash this is.
-    pub(super) fn node_number(&self, hash: u64, kind: SyntaxKind, numbers: &[u32]) -> Option<u32>
+    pub(super) fn node_number(&self, hash: u32, kind: SyntaxKind, numbers: &[u32]) -> Option<u32>
         requires { hash ≡ node_hash kind.0 numbers.now }
         ensures some { (ts : List Term) → StandAt self.now numbers.now ts
             → IfSome result (λ n. slice_get self.now n ≡ Some (Node (node_of kind.0 ts))) }
@@ -119,7 +119,7 @@ impl ValueTable {
     // it was.
     pub(super) fn keep(
         &mut self,
-        hash: u64,
+        hash: u32,
         element: GreenElement,
         numbers: &[u32],
     ) -> Result<u32, AllocError>
@@ -172,17 +172,17 @@ fn is_token(element: &GreenElement, kind: SyntaxKind, text: &str) -> bool
 }
 
 // The hash of a token's kind and text.
-pub(super) fn token_hash(kind: SyntaxKind, text: &str) -> u64
+pub(super) fn token_hash(kind: SyntaxKind, text: &str) -> u32
     ensures { result ≡ token_hash kind.0 text.now }
 {
     let mut state = FoldHasher::default();
     state.write_u16(kind.0);
     state.write(text.as_bytes());
-    state.finish()
+    low_bits(state.finish())
 }
 
 // The hash of a node's kind and of the numbers of its children.
-pub(super) fn node_hash(kind: SyntaxKind, numbers: &[u32]) -> u64
+pub(super) fn node_hash(kind: SyntaxKind, numbers: &[u32]) -> u32
     ensures { result ≡ node_hash kind.0 numbers.now }
 {
     let mut state = FoldHasher::default();
@@ -190,5 +190,11 @@ pub(super) fn node_hash(kind: SyntaxKind, numbers: &[u32]) -> u64
     for number in numbers {
         state.write_u32(*number);
     }
-    state.finish()
+    low_bits(state.finish())
+}
+
+fn low_bits(hash: u64) -> u32
+    ensures { result ≡ low_bits hash }
+{
+    (hash & u64::from(u32::MAX)) as u32
 }

@@ -6,14 +6,12 @@ use Rattle.rowan_green.specs.declared.utility_types.NodeOrToken.TheVariants.{Tok
 use Rattle.rowan_green.specs.Term.{Term, token_of}
 use Rattle.rowan_green.specs.Same.{same_term}
 use Rattle.rowan_green.specs.Cache.{is_among}
-use Rattle.rowan_green.specs.Chains.{bucket, buckets}
 use Rattle.rowan_green.proofs.TableLemmas.{IsAhead, IsAhead-first, IsAhead-older, IsAhead-none, places-length, older_left, left_before, token_hits, token_found, token_absent}
 use Rattle.rowan_green.proofs.node_cache.table.ValueTable.token_number.Goals as goal
 
 pub loop-next-init : goal.loop-next-init
 loop-next-init c =
     let s = c.self.inside in
-    let b = bucket s.chains.count c.args.hash in
     let t : Term = Token (token_of c.args.kind.0 c.args.text.now) in
     IsAhead-first c.self.invariant c.args.hash (λ k. same_term k.element t) (λ k on. token_hits s.child_numbers.items c.args.kind.0 c.args.text.now k on ∙ sym c.requires) c.newest-next.result c.newest-next.ensures
 
@@ -34,26 +32,23 @@ returns-then-is_token-clause-some c =
 pub loop-next-smaller : goal.loop-next-smaller
 loop-next-smaller c =
     let s = c.self.inside in
-    let b = bucket s.chains.count c.args.hash in
-    let newer = c.older-next.ensures b (c.loop-next.invariant.stands c.in-Some.number c.in-Some.is).1 in
-    subst (λ o. left_before c.older-next.result < left_before o) (sym c.in-Some.is) (older_left (buckets s.chains) c.in-Some.number b c.older-next.result newer)
+    let newer = c.older-next.ensures c.args.hash (c.loop-next.invariant.stands c.in-Some.number c.in-Some.is).1 in
+    subst (λ o. left_before c.older-next.result < left_before o) (sym c.in-Some.is) (older_left s.chains.hashes c.in-Some.number c.args.hash c.older-next.result newer)
 
 pub loop-next-preserved : goal.loop-next-preserved
 loop-next-preserved c =
     let s = c.self.inside in
-    let b = bucket s.chains.count c.args.hash in
     let t : Term = Token (token_of c.args.kind.0 c.args.text.now) in
     let k : Kept = c.index-kept.result.now in
     let at : slice_get s.values.items c.in-Some.number ≡ Some k = slice_get_read s.values.items (length s.values.items) c.in-Some.number k refl (c.loop-next.invariant.stands c.in-Some.number c.in-Some.is).0 c.index-kept.ensures in
-    let ahead = subst (λ o. IsAhead s.values.items (buckets s.chains) b o (λ k. same_term k.element t)) c.in-Some.is c.loop-next.invariant in
-    let newer = c.older-next.ensures b (c.loop-next.invariant.stands c.in-Some.number c.in-Some.is).1 in
+    let ahead = subst (λ o. IsAhead s.values.items s.chains.hashes c.args.hash o (λ k. same_term k.element t)) c.in-Some.is c.loop-next.invariant in
+    let newer = c.older-next.ensures c.args.hash (c.loop-next.invariant.stands c.in-Some.number c.in-Some.is).1 in
     IsAhead-older c.self.invariant c.args.hash (λ k. same_term k.element t) (λ k on. token_hits s.child_numbers.items c.args.kind.0 c.args.text.now k on ∙ sym c.requires) c.in-Some.number k at ahead
     (sym c.is_token.ensures ∙ c.if-is_token.false) c.older-next.result newer
 
 pub returns-clause-none : goal.returns-clause-none
 returns-clause-none c = λ none.
     let s = c.self.inside in
-    let b = bucket s.chains.count c.args.hash in
     let t : Term = Token (token_of c.args.kind.0 c.args.text.now) in
-    let ahead = subst (λ o. IsAhead s.values.items (buckets s.chains) b o (λ k. same_term k.element t)) c.in_default.is c.loop-next.invariant in
-    ap (λ ts. is_among ts t) (sym c.self.view_is) ∙ token_absent c.self.invariant t (IsAhead-none s.values.items (buckets s.chains) b (λ k. same_term k.element t) ahead)
+    let ahead = subst (λ o. IsAhead s.values.items s.chains.hashes c.args.hash o (λ k. same_term k.element t)) c.in_default.is c.loop-next.invariant in
+    ap (λ ts. is_among ts t) (sym c.self.view_is) ∙ token_absent c.self.invariant t (IsAhead-none s.values.items s.chains.hashes c.args.hash (λ k. same_term k.element t) ahead)

@@ -3,7 +3,7 @@ use Rattle.std.specs.List.{slice_get}
 use Rattle.std.proofs.lemmas.Option.{slice_get_read}
 use Rattle.rowan_green.specs.Chains.{bucket, AreLinked}
 use Rattle.rowan_green.proofs.ChainLemmas.{AreLinked-push, bucket-within}
-use Rattle.rowan_green.proofs.node_cache.chains.link.Goals as goal
+use Rattle.rowan_green.proofs.node_cache.chains.add_link.Goals as goal
 
 pub returns-clause-ok : goal.returns-clause-ok
 returns-clause-ok c = λ hs linked.
@@ -15,6 +15,6 @@ returns-clause-ok c = λ hs linked.
     let here : c.bucket-bucket.result ≡ bucket (length newest) c.args.hash = c.bucket-bucket.ensures.value ∙ ap (λ n. bucket n c.args.hash) count in
     let within = subst (λ n. n < length newest) (sym here) (bucket-within (length newest) c.args.hash c.requires.some) in
     let at : slice_get newest (bucket (length newest) c.args.hash) ≡ Some o = ap (slice_get newest) (sym here) ∙ slice_get_read newest (length newest) c.bucket-bucket.result o refl within c.index.ensures in
-    let set_at = ap (λ n. slice_set newest n (Some c.len-place.result)) here ∙ ap (λ n. slice_set newest (bucket (length newest) c.args.hash) (Some n)) place in
-    subst (λ os. AreLinked (hs ++ c.args.hash ∷ []) (slice_set newest c.bucket-bucket.result (Some c.len-place.result)) os) (sym c.in_ok-push.ensures.items)
+    let set_at = ap (λ n. slice_set newest n c.to.result) here ∙ ap (λ q. slice_set newest (bucket (length newest) c.args.hash) q) (c.to.ensures ∙ ap (λ n. Some n) place) in
+    subst (λ os. AreLinked (hs ++ c.args.hash ∷ []) (slice_set newest c.bucket-bucket.result c.to.result) os) (sym c.in_ok-push.ensures.items)
     (subst (λ ns. AreLinked (hs ++ c.args.hash ∷ []) ns (older ++ o ∷ [])) (sym set_at) (AreLinked-push hs c.args.hash newest older o c.requires.some at linked))
