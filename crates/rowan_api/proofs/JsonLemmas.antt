@@ -19,7 +19,7 @@ use Rattle.rowan_cursor.proofs.OffsetLemmas.{drop-first}
 use Rattle.rowan_cursor.proofs.PathLemmas.{offset-node_child}
 use Rattle.rowan_api.specs.Printed.{node_json, forest_json, term_json, json_of, tree_json, kind_called, node_object, token_json, printed_of}
 use Rattle.rowan_api.specs.Unfinished.{Unfinished, entered, left}
-use Rattle.rowan_api.proofs.PrintedLemmas.{front-child, next-start, at_elements}
+use Rattle.rowan_api.proofs.WalkLemmas.{front-child, next-start, at_elements}
 
 -- what is finished once some events are past
 abbrev pub past : (ℕ → List ℕ) → List (WalkEvent Element) → Unfinished → Unfinished

@@ -1,120 +1,202 @@
--- Walks and printed lines: what is still to be written at each event of a walk.
-use Rattle.std.proofs.Common.{◌≡◌, ℕ, zero, suc, ◌+◌, ◌-◌, ◌<◌, ◌≤◌, List, [], ◌∷◌, ◌++◌, map, length, drop, codes, IsAscii, Option, Some, None, Ok, Err, refl, sym, ◌∙◌, ap, subst, arith, append_assoc, length-append, ◌*◌}
-use Rattle.std.specs.Prelude.{slice_get, IfOk, replicate}
-use Rattle.std.proofs.lemmas.List.{append-nil, map-append}
+-- Printed lines: what is still to be written of open nodes, when one of them has written the line of its next child.
+use Rattle.std.proofs.Common.{◌≡◌, ℕ, zero, suc, ◌+◌, ◌*◌, ◌<◌, ◌≤◌, List, [], ◌∷◌, ◌++◌, length, drop, codes, IsAscii, Bool, true, false, not, true≢false, Some, Result, Ok, Err, refl, sym, ◌∙◌, ap, subst, arith, append_assoc, length-append}
+use Rattle.std.specs.Prelude.{slice_get, replicate, OnOk}
+use Rattle.std.specs.Bool.{if◌then◌else◌}
+use Rattle.std.specs.List.{AllByRecursion}
+use Rattle.std.proofs.lemmas.List.{append-nil}
 use Rattle.std.proofs.lemmas.Str.{IsAscii-take, IsAscii-drop}
 use Rattle.std.proofs.Math.Seq.{take-append_seam, drop-append_seam}
 use Rattle.rowan_green.specs.declared.utility_types.NodeOrToken.TheVariants.{Node, Token}
-use Rattle.rowan_green.specs.declared.utility_types.WalkEvent.{WalkEvent}
-use Rattle.rowan_green.specs.declared.utility_types.WalkEvent.TheVariants.{Enter, Leave}
-use Rattle.rowan_green.specs.Term.{NodeTerm, node, Forest, empty, node_then, token_then, Term, terms, node_children, node_text, forest_text, term_len, term_text}
-use Rattle.rowan_green.specs.Path.{Path, subterm, offset, len_of, text_of}
+use Rattle.rowan_green.specs.Fits.{byte_limit}
+use Rattle.rowan_green.specs.Term.{TokenTerm, NodeTerm, node, Forest, empty, node_then, token_then, Term, terms, node_children, node_text, forest_text, node_len, term_len, term_text, joined_text, sum_of_lens}
+use Rattle.rowan_green.specs.Path.{len_of}
 use Rattle.rowan_green.specs.Search.{child_start}
-use Rattle.rowan_cursor.specs.Cursor.{Cursor, term_at, text_at}
-use Rattle.rowan_cursor.specs.Moves.{Element, children_of, element_at, place_of}
-use Rattle.rowan_cursor.specs.Preorder.{event_map, node_events, forest_events, term_events, preorder_with_tokens}
-use Rattle.rowan_cursor.specs.Yields.{Rest, YieldsOrRefuses}
-use Rattle.rowan_cursor.proofs.CoverLemmas.{place_of-element}
-use Rattle.rowan_cursor.proofs.OffsetLemmas.{drop-first}
-use Rattle.rowan_cursor.proofs.PathLemmas.{subterm-child, offset-node_child, child_start-next}
-use Rattle.rowan_api.specs.Printed.{node_lines, forest_lines, node_line, token_line, indented, term_line, term_lines, printed_of, debug_line, debug_tree}
+use Rattle.rowan_green.specs.Sizes.{terms_size, term_size}
+use Rattle.rowan_green.proofs.Drops.{terms_size-node_children}
+use Rattle.rowan_green.proofs.SearchLemmas.{child_start-le_all}
+use Rattle.rowan_green.proofs.Terms.{node_len-children}
+use Rattle.rowan_green.proofs.Writes.{node_text-children}
+use Rattle.rowan_cursor.proofs.PathLemmas.{child_start-next}
+use Rattle.rowan_api.specs.declared.api.open_node.OpenNode.{OpenNode}
+use Rattle.rowan_api.specs.Opened.{left, next_start, HasNext, Passes, lines_of, lines_from, left_lines, open_lines, open_size, IsPlain, IsWithin}
+use Rattle.rowan_api.specs.Printed.{node_lines, forest_lines, node_line, token_line, indented}
 
--- ---- children in a walk
+-- ---- the next child
 
--- the child at the front of what is left of a node's children
-pub front-child : (root : NodeTerm) (p : Path) (n : NodeTerm) (i : ℕ) (c : Term) (ts : List Term) → subterm (Node root) p ≡ Some (Node n) → drop i (node_children n) ≡ c ∷ ts → subterm (Node root) (p ++ i ∷ []) ≡ Some c
-front-child root p n i c ts there rest =
-    subterm-child (Some (Node root)) p i ∙ ap (λ o. slice_get (children_of o) i) there ∙ (drop-first i (node_children n) c ts rest).0
+drop-there : (ts : List Term) (i : ℕ) (t : Term) → slice_get ts i ≡ Some t → drop i ts ≡ t ∷ drop (suc i) ts
+drop-there [] i t h = absurd cc
+drop-there (s ∷ ts) zero t h = cc
+drop-there (s ∷ ts) (suc i) t h = drop-there ts i t h
 
--- where the next child starts
-pub next-start : (ts : List Term) (i : ℕ) (c : Term) (us : List Term) → drop i ts ≡ c ∷ us → child_start ts (suc i) ≡ child_start ts i + term_len c
-next-start ts i c us rest =
-    let at = drop-first i ts c us rest in
-    let one : suc i ≡ i + 1 = omega arith in
-    ap (child_start ts) one ∙ child_start-next ts i (within ts i c at.0) ∙ ap (λ o. child_start ts i + len_of o) at.0
-  where
-    within : (ts : List Term) (m : ℕ) (c : Term) → slice_get ts m ≡ Some c → m < length ts
-    within [] m c h = absurd cc
-    within (t ∷ ts) zero c h = omega arith
-    within (t ∷ ts) (suc m) c h = omega (arith, within ts m c h)
+there-below : (ts : List Term) (i : ℕ) (t : Term) → slice_get ts i ≡ Some t → i < length ts
+there-below [] i t h = absurd cc
+there-below (s ∷ ts) zero t h = omega arith
+there-below (s ∷ ts) (suc i) t h = omega (arith, there-below ts i t h)
 
--- the event of an element of a root
-abbrev pub at_elements : NodeTerm → List (WalkEvent Path) → List (WalkEvent Element)
-at_elements root es = map (event_map (element_at root)) es
+pub drop-past : (ts : List Term) (i : ℕ) → length ts ≤ i → drop i ts ≡ []
+drop-past [] zero h = refl
+drop-past [] (suc i) h = refl
+drop-past (t ∷ ts) zero h = absurd (omega arith)
+drop-past (t ∷ ts) (suc i) h = drop-past ts i (omega arith)
+
+pub left-passes : (p q : OpenNode) (t : Term) → HasNext p t → Passes p q → left p ≡ t ∷ left q
+left-passes p q t n f =
+    let ts = node_children p.green.now in
+    let one : suc p.next ≡ q.next = omega (arith, f.next) in
+    drop-there ts p.next t n.child ∙ ap (λ i. t ∷ drop i ts) one ∙ ap (λ m. t ∷ drop q.next (node_children m)) (sym f.green)
+
+-- the child behind it starts where this one ends
+pub start-passes : (p q : OpenNode) (t : Term) → HasNext p t → Passes p q → next_start p + term_len t ≡ next_start q
+start-passes p q t n f =
+    let ts = node_children p.green.now in
+    let step = child_start-next ts p.next (there-below ts p.next t n.child) in
+    let at : child_start ts q.next ≡ child_start (node_children q.green.now) q.next = ap (λ m. child_start (node_children m) q.next) (sym f.green) in
+    omega (arith, step, ap len_of n.child, ap (child_start ts) f.next, at, f.start)
+
+-- a child ends within its parent
+pub child-within : (p : OpenNode) (t : Term) → IsWithin p → slice_get (node_children p.green.now) p.next ≡ Some t → next_start p + term_len t ≤ byte_limit
+child-within p t w there =
+    let ts = node_children p.green.now in
+    let step = child_start-next ts p.next (there-below ts p.next t there) in
+    omega (arith, w, step, ap len_of there, child_start-le_all ts (p.next + 1), node_len-children p.green.now)
 
 -- ---- lines
 
--- the lines of what some events enter, from a level on
-abbrev pub event_lines : (ℕ → List ℕ) → ℕ → List (WalkEvent Element) → List ℕ
-event_lines name level [] = []
-event_lines name level (Enter e ∷ es) = indented level (debug_line name (place_of e)) ++ event_lines name (level + 1) es
-event_lines name level (Leave e ∷ es) = event_lines name (level - 1) es
+lines-forest : (name : ℕ → List ℕ) (start level : ℕ) (f : Forest) → forest_lines name start level f ≡ lines_from name start level (terms f)
+lines-forest name start level empty = refl
+lines-forest name start level (node_then n f) = ap (λ us. node_lines name start level n ++ us) (lines-forest name (start + node_len n) level f)
+lines-forest name start level (token_then t f) =
+    ap (λ us. indented level (token_line name start t) ++ us) (lines-forest name (start + length t.text) level f)
 
-line-there : (name : ℕ → List ℕ) (root : NodeTerm) (p : Path) (t : Term) → subterm (Node root) p ≡ Some t → debug_line name (place_of (element_at root p)) ≡ term_line name (offset (Node root) p) t
-line-there name root p t there =
-    ap (debug_line name) (place_of-element root p) ∙ ap (printed_of (term_line name (offset (Node root) p))) there
+-- a node's own line, and those of its children
+pub lines-node : (name : ℕ → List ℕ) (start level : ℕ) (n : NodeTerm) → node_lines name start level n ≡ indented level (node_line name start n) ++ lines_from name start (level + 1) (node_children n)
+lines-node name start level (node k f) =
+    ap (λ us. indented level (node_line name start (node k f)) ++ us) (lines-forest name start (level + 1) f)
 
-mutual
-  node-lines : (name : ℕ → List ℕ) (root : NodeTerm) (p : Path) (n : NodeTerm) (level : ℕ) (rest : List (WalkEvent Element)) → subterm (Node root) p ≡ Some (Node n)
-      → event_lines name level (at_elements root (node_events p n) ++ rest) ≡ node_lines name (offset (Node root) p) level n ++ event_lines name level rest
-  node-lines name root p (node k f) level rest there =
-      let own = indented level (node_line name (offset (Node root) p) (node k f)) in
-      let leave = Leave (element_at root p) in
-      let inner = forest_events p 0 f in
-      let back : level + 1 - 1 ≡ level = omega arith in
-      let start : offset (Node root) p ≡ offset (Node root) p + child_start (node_children (node k f)) 0 = omega arith in
-      ap (λ line. indented level line ++ event_lines name (level + 1) (at_elements root (inner ++ Leave p ∷ []) ++ rest)) (line-there name root p (Node (node k f)) there)
-      ∙ ap (λ es. own ++ event_lines name (level + 1) es) (ap (λ es. es ++ rest) (map-append (event_map (element_at root)) inner (Leave p ∷ [])) ∙ append_assoc (at_elements root inner) (leave ∷ []) rest)
-      ∙ ap (λ us. own ++ us) (forest-lines name root p (node k f) 0 f (level + 1) (leave ∷ rest) (offset (Node root) p) there refl start)
-      ∙ sym (append_assoc own (forest_lines name (offset (Node root) p) (level + 1) f) (event_lines name (level + 1) (leave ∷ rest)))
-      ∙ ap (λ m. node_lines name (offset (Node root) p) level (node k f) ++ event_lines name m rest) back
+left_lines-passes : (name : ℕ → List ℕ) (level : ℕ) (p q : OpenNode) (t : Term) → HasNext p t → Passes p q → left_lines name level p ≡ lines_of name (next_start p) level t ++ left_lines name level q
+left_lines-passes name level p q t n f =
+    ap (lines_from name (next_start p) level) (left-passes p q t n f)
+    ∙ ap (λ at. lines_of name (next_start p) level t ++ lines_from name at level (left q)) (start-passes p q t n f)
 
-  forest-lines : (name : ℕ → List ℕ) (root : NodeTerm) (p : Path) (n : NodeTerm) (i : ℕ) (f : Forest) (level : ℕ) (rest : List (WalkEvent Element)) (start : ℕ) → subterm (Node root) p ≡ Some (Node n)
-      → drop i (node_children n) ≡ terms f → start ≡ offset (Node root) p + child_start (node_children n) i
-      → event_lines name level (at_elements root (forest_events p i f) ++ rest) ≡ forest_lines name start level f ++ event_lines name level rest
-  forest-lines name root p n i empty level rest start there left at = refl
-  forest-lines name root p n i (node_then m f) level rest start there left at =
-      let own = node_events (p ++ i ∷ []) m in
-      let later = forest_events p (suc i) f in
-      let others = at_elements root later ++ rest in
-      let own_start : offset (Node root) (p ++ i ∷ []) ≡ start = omega (arith, offset-node_child (Node root) p i n there) in
-      let next : start + term_len (Node m) ≡ offset (Node root) p + child_start (node_children n) (suc i) = omega (arith, next-start (node_children n) i (Node m) (terms f) left) in
-      ap (event_lines name level) (ap (λ es. es ++ rest) (map-append (event_map (element_at root)) own later) ∙ append_assoc (at_elements root own) (at_elements root later) rest)
-      ∙ node-lines name root (p ++ i ∷ []) m level others (front-child root p n i (Node m) (terms f) there left)
-      ∙ ap (λ s. node_lines name s level m ++ event_lines name level others) own_start
-      ∙ ap (λ us. node_lines name start level m ++ us) (forest-lines name root p n (suc i) f level rest (start + term_len (Node m)) there (drop-first i (node_children n) (Node m) (terms f) left).1 next)
-      ∙ sym (append_assoc (node_lines name start level m) (forest_lines name (start + term_len (Node m)) level f) (event_lines name level rest))
-  forest-lines name root p n i (token_then t f) level rest start there left at =
-      let later = at_elements root (forest_events p (suc i) f) ++ rest in
-      let own_start : offset (Node root) (p ++ i ∷ []) ≡ start = omega (arith, offset-node_child (Node root) p i n there) in
-      let next : start + term_len (Token t) ≡ offset (Node root) p + child_start (node_children n) (suc i) = omega (arith, next-start (node_children n) i (Token t) (terms f) left) in
-      let back : level + 1 - 1 ≡ level = omega arith in
-      let own = indented level (token_line name start t) in
-      ap (λ line. indented level line ++ event_lines name (level + 1 - 1) later)
-      (line-there name root (p ++ i ∷ []) (Token t) (front-child root p n i (Token t) (terms f) there left) ∙ ap (λ s. token_line name s t) own_start)
-      ∙ ap (λ m. own ++ event_lines name m later) back
-      ∙ ap (λ us. own ++ us) (forest-lines name root p n (suc i) f level rest (start + term_len (Token t)) there (drop-first i (node_children n) (Token t) (terms f) left).1 next)
-      ∙ sym (append_assoc own (forest_lines name (start + term_len (Token t)) level f) (event_lines name level rest))
+pub open_lines-push : (name : ℕ → List ℕ) (level : ℕ) (ns : List OpenNode) (n : OpenNode) → open_lines name level (ns ++ n ∷ []) ≡ left_lines name (level + length ns) n ++ open_lines name level ns
+open_lines-push name level [] n =
+    let same : level ≡ level + 0 = omega arith in
+    ap (λ l. left_lines name l n) same ∙ sym (append-nil (left_lines name (level + 0) n))
+open_lines-push name level (m ∷ ns) n =
+    let deeper : level + 1 + length ns ≡ level + length (m ∷ ns) = omega arith in
+    ap (λ us. us ++ left_lines name level m) (open_lines-push name (level + 1) ns n)
+    ∙ append_assoc (left_lines name (level + 1 + length ns) n) (open_lines name (level + 1) ns) (left_lines name level m)
+    ∙ ap (λ l. left_lines name l n ++ open_lines name level (m ∷ ns)) deeper
 
--- the events of a cursor have the lines of its tree
-walk-lines : (name : ℕ → List ℕ) (c : Cursor) → event_lines name 0 (preorder_with_tokens c) ≡ debug_tree name c
-walk-lines name c = at (term_at c) refl
-  where
-    at : (o : Option Term) → term_at c ≡ o → event_lines name 0 (at_elements c.root (term_events c.path o)) ≡ printed_of (term_lines name (offset (Node c.root) c.path)) o
-    at None there = refl
-    at (Some (Token t)) there =
-        ap (λ line. indented 0 line ++ []) (line-there name c.root c.path (Token t) there) ∙ append-nil (indented 0 (token_line name (offset (Node c.root) c.path) t))
-    at (Some (Node n)) there =
-        ap (event_lines name 0) (sym (append-nil (at_elements c.root (node_events c.path n))))
-        ∙ node-lines name c.root c.path n 0 [] there ∙ append-nil (node_lines name (offset (Node c.root) c.path) 0 n)
+-- a node that has no child left leaves no line
+pub lines-closed : (name : ℕ → List ℕ) (ns : List OpenNode) (p : OpenNode) → left p ≡ [] → open_lines name 1 ns ≡ open_lines name 1 (ns ++ p ∷ [])
+lines-closed name ns p h =
+    sym (open_lines-push name 1 ns p ∙ ap (λ ts. lines_from name (next_start p) (1 + length ns) ts ++ open_lines name 1 ns) h)
+
+-- a line behind its spaces, and its newline
+behind-spaces : (bs line : List ℕ) (level : ℕ) → (bs ++ replicate (2 * level) 32) ++ line ++ codes "\n" ≡ bs ++ indented level line
+behind-spaces bs line level =
+    let spaces = replicate (2 * level) 32 in
+    append_assoc (bs ++ spaces) line (codes "\n") ∙ append_assoc bs spaces (line ++ codes "\n") ∙ ap (λ us. bs ++ us) (sym (append_assoc spaces line (codes "\n")))
+
+-- a node that is open from now on has the lines of all its children left
+pub entered : (r : OpenNode) (n : NodeTerm) → r.green.now ≡ n → r.next ≡ 0 → left r ≡ node_children n
+entered r n green next = ap (λ i. drop i (node_children r.green.now)) next ∙ ap node_children green
+
+pub starts-entered : (r : OpenNode) (start : ℕ) → r.start ≡ start → r.next ≡ 0 → next_start r ≡ start
+starts-entered r start at next = omega (arith, at, ap (child_start (node_children r.green.now)) next)
+
+pub left_lines-entered : (name : ℕ → List ℕ) (start level : ℕ) (r : OpenNode) (n : NodeTerm) → r.green.now ≡ n → r.start ≡ start → r.next ≡ 0 → left_lines name level r ≡ lines_from name start level (node_children n)
+left_lines-entered name start level r n green at next =
+    ap (λ s. lines_from name s level (left r)) (starts-entered r start at next) ∙ ap (lines_from name start level) (entered r n green next)
+
+-- the line of a token was written
+pub token-written : (name : ℕ → List ℕ) (ns : List OpenNode) (p q : OpenNode) (t : TokenTerm) (bs spaces new : List ℕ) (level at : ℕ) (items : List OpenNode) → HasNext p (Token t) → Passes p q
+    → items ≡ ns ++ q ∷ [] → level ≡ 1 + length ns → at ≡ next_start p → spaces ≡ bs ++ replicate (2 * level) 32 → new ≡ spaces ++ token_line name at t ++ codes "\n"
+    → new ++ open_lines name 1 items ≡ bs ++ open_lines name 1 (ns ++ p ∷ [])
+token-written name ns p q t bs spaces new level at items h f list deep starts indents wrote =
+    let line = indented (1 + length ns) (token_line name (next_start p) t) in
+    let rest = open_lines name 1 ns in
+    ap (λ us. us ++ open_lines name 1 items)
+    (wrote ∙ ap (λ us. us ++ token_line name at t ++ codes "\n") indents ∙ behind-spaces bs (token_line name at t) level
+    ∙ ap (λ l. bs ++ indented l (token_line name at t)) deep ∙ ap (λ s. bs ++ indented (1 + length ns) (token_line name s t)) starts)
+    ∙ ap (λ ms. (bs ++ line) ++ open_lines name 1 ms) list
+    ∙ append_assoc bs line (open_lines name 1 (ns ++ q ∷ []))
+    ∙ ap (λ us. bs ++ us)
+    (ap (λ us. line ++ us) (open_lines-push name 1 ns q) ∙ sym (append_assoc line (left_lines name (1 + length ns) q) rest)
+    ∙ ap (λ us. us ++ rest) (sym (left_lines-passes name (1 + length ns) p q (Token t) h f)) ∙ sym (open_lines-push name 1 ns p))
+
+-- the own line of a node was written, which is open from now on
+pub node-written : (name : ℕ → List ℕ) (ns : List OpenNode) (p q r : OpenNode) (n : NodeTerm) (bs spaces new : List ℕ) (level at : ℕ) (items : List OpenNode) → HasNext p (Node n) → Passes p q
+    → r.green.now ≡ n → r.start ≡ at → r.next ≡ 0 → items ≡ (ns ++ q ∷ []) ++ r ∷ [] → level ≡ 1 + length ns → at ≡ next_start p → spaces ≡ bs ++ replicate (2 * level) 32
+    → new ≡ spaces ++ node_line name at n ++ codes "\n" → new ++ open_lines name 1 items ≡ bs ++ open_lines name 1 (ns ++ p ∷ [])
+node-written name ns p q r n bs spaces new level at items h f green begins next list deep starts indents wrote =
+    let here = 1 + length ns in
+    let line = indented here (node_line name (next_start p) n) in
+    let rest = open_lines name 1 ns in
+    let inner = lines_from name (next_start p) (here + 1) (node_children n) in
+    let deeper : 1 + length (ns ++ q ∷ []) ≡ here + 1 = omega (arith, length-append ns (q ∷ [])) in
+    let own : left_lines name (1 + length (ns ++ q ∷ [])) r ≡ inner = ap (λ l. left_lines name l r) deeper ∙ left_lines-entered name (next_start p) (here + 1) r n green (begins ∙ starts) next in
+    ap (λ us. us ++ open_lines name 1 items)
+    (wrote ∙ ap (λ us. us ++ node_line name at n ++ codes "\n") indents ∙ behind-spaces bs (node_line name at n) level
+    ∙ ap (λ l. bs ++ indented l (node_line name at n)) deep ∙ ap (λ s. bs ++ indented here (node_line name s n)) starts)
+    ∙ ap (λ ms. (bs ++ line) ++ open_lines name 1 ms) list
+    ∙ append_assoc bs line (open_lines name 1 ((ns ++ q ∷ []) ++ r ∷ []))
+    ∙ ap (λ us. bs ++ us)
+    (ap (λ us. line ++ us) (open_lines-push name 1 (ns ++ q ∷ []) r ∙ ap (λ us. us ++ open_lines name 1 (ns ++ q ∷ [])) own ∙ ap (λ us. inner ++ us) (open_lines-push name 1 ns q))
+    ∙ sym (append_assoc line inner (left_lines name here q ++ rest))
+    ∙ ap (λ us. us ++ (left_lines name here q ++ rest)) (sym (lines-node name (next_start p) here n))
+    ∙ sym (append_assoc (node_lines name (next_start p) here n) (left_lines name here q) rest)
+    ∙ ap (λ us. us ++ rest) (sym (left_lines-passes name here p q (Node n) h f)) ∙ sym (open_lines-push name 1 ns p))
+
+-- ---- lists of open nodes
+
+pub none-open : (ns : List OpenNode) → length ns ≡ 0 → ns ≡ []
+none-open [] h = refl
+none-open (n ∷ ns) h = absurd (omega arith)
+
+-- a node was put to the list
+pub pushed : (err ok : Bool) (old new : List OpenNode) (n : OpenNode) → err ≡ false → ok ≡ not err → new ≡ (if ok then old ++ n ∷ [] else old) → new ≡ old ++ n ∷ []
+pushed false true old new n h e x = x
+pushed false false old new n h e x = absurd (true≢false (sym e))
+pushed true ok old new n h e x = absurd (true≢false h)
+
+pub on_ok : {T E P Q : Type 0} (r : Result T E) → OnOk r P → (P → Q) → OnOk r Q
+on_ok (Ok x) h f = f h
+on_ok (Err e) h f = tt
+
+pub on_ok_too : {T E P : Type 0} (r : Result T E) → P → OnOk r P
+on_ok_too (Ok x) h = h
+on_ok_too (Err e) h = tt
+
+pub all-push : (P : OpenNode → Type 0) (ns : List OpenNode) (n : OpenNode) → AllByRecursion P ns → P n → AllByRecursion P (ns ++ n ∷ [])
+all-push P [] n h p = (p, tt)
+all-push P (m ∷ ns) n h p = (h.0, all-push P ns n h.1 p)
+
+pub all-front : (P : OpenNode → Type 0) (ns : List OpenNode) (n : OpenNode) → AllByRecursion P (ns ++ n ∷ []) → AllByRecursion P ns
+all-front P [] n h = tt
+all-front P (m ∷ ns) n h = (h.0, all-front P ns n h.1)
+
+pub all-last : (P : OpenNode → Type 0) (ns : List OpenNode) (n : OpenNode) → AllByRecursion P (ns ++ n ∷ []) → P n
+all-last P [] n h = h.0
+all-last P (m ∷ ns) n h = all-last P ns n h.1
+
+open_size-push : (ns : List OpenNode) (n : OpenNode) → open_size (ns ++ n ∷ []) ≡ terms_size (left n) + open_size ns + 1
+open_size-push [] n = refl
+open_size-push (m ∷ ns) n = omega (arith, open_size-push ns n)
+
+pub size-closed : (ns : List OpenNode) (p : OpenNode) → open_size ns < open_size (ns ++ p ∷ [])
+size-closed ns p = omega (arith, open_size-push ns p)
+
+pub size-token : (ns : List OpenNode) (p q : OpenNode) (t : TokenTerm) → HasNext p (Token t) → Passes p q → open_size (ns ++ q ∷ []) < open_size (ns ++ p ∷ [])
+size-token ns p q t h f = omega (arith, open_size-push ns p, open_size-push ns q, ap terms_size (left-passes p q (Token t) h f))
+
+pub size-node_entered : (ns : List OpenNode) (p q r : OpenNode) (n : NodeTerm) → HasNext p (Node n) → Passes p q → r.green.now ≡ n → r.next ≡ 0
+    → open_size ((ns ++ q ∷ []) ++ r ∷ []) < open_size (ns ++ p ∷ [])
+size-node_entered ns p q r n h f green next =
+    omega (arith, open_size-push ns p, open_size-push ns q, open_size-push (ns ++ q ∷ []) r, ap terms_size (left-passes p q (Node n) h f), ap terms_size (entered r n green next), terms_size-node_children n)
 
 -- ---- ASCII
-
--- the texts of what some events enter are ASCII
-abbrev pub AsciiEvents : List (WalkEvent Element) → Type 0
-AsciiEvents [] = Unit {0}
-AsciiEvents (Enter e ∷ es) = IsAscii (text_at (place_of e)) × AsciiEvents es
-AsciiEvents (Leave e ∷ es) = AsciiEvents es
 
 ascii-front : (xs ys : List ℕ) → IsAscii (xs ++ ys) → IsAscii xs
 ascii-front xs ys h = subst IsAscii (take-append_seam xs ys) (IsAscii-take (xs ++ ys) (length xs) h)
@@ -122,104 +204,11 @@ ascii-front xs ys h = subst IsAscii (take-append_seam xs ys) (IsAscii-take (xs +
 ascii-back : (xs ys : List ℕ) → IsAscii (xs ++ ys) → IsAscii ys
 ascii-back xs ys h = subst IsAscii (drop-append_seam xs ys) (IsAscii-drop (xs ++ ys) (length xs) h)
 
-ascii-there : (root : NodeTerm) (p : Path) (t : Term) → subterm (Node root) p ≡ Some t → IsAscii (term_text t) → IsAscii (text_at (place_of (element_at root p)))
-ascii-there root p t there h = subst IsAscii (sym (ap text_at (place_of-element root p) ∙ ap text_of there)) h
+pub plain-child : (p q : OpenNode) (t : Term) → HasNext p t → Passes p q → IsPlain p → IsAscii (term_text t) × IsPlain q
+plain-child p q t n f h =
+    let both = subst (λ ts. IsAscii (joined_text ts)) (left-passes p q t n f) h in
+    (ascii-front (term_text t) (joined_text (left q)) both, ascii-back (term_text t) (joined_text (left q)) both)
 
-mutual
-  node-ascii : (root : NodeTerm) (p : Path) (n : NodeTerm) (rest : List (WalkEvent Element)) → subterm (Node root) p ≡ Some (Node n) → IsAscii (node_text n) → AsciiEvents rest
-      → AsciiEvents (at_elements root (node_events p n) ++ rest)
-  node-ascii root p (node k f) rest there h g =
-      let inner = forest_events p 0 f in
-      let parts = ap (λ es. es ++ rest) (map-append (event_map (element_at root)) inner (Leave p ∷ [])) ∙ append_assoc (at_elements root inner) (Leave (element_at root p) ∷ []) rest in
-      (ascii-there root p (Node (node k f)) there h, subst AsciiEvents (sym parts) (forest-ascii root p (node k f) 0 f (Leave (element_at root p) ∷ rest) there refl h g))
-
-  forest-ascii : (root : NodeTerm) (p : Path) (n : NodeTerm) (i : ℕ) (f : Forest) (rest : List (WalkEvent Element)) → subterm (Node root) p ≡ Some (Node n) → drop i (node_children n) ≡ terms f
-      → IsAscii (forest_text f) → AsciiEvents rest → AsciiEvents (at_elements root (forest_events p i f) ++ rest)
-  forest-ascii root p n i empty rest there left h k = k
-  forest-ascii root p n i (node_then m f) rest there left h k =
-      let own = node_events (p ++ i ∷ []) m in
-      let later = forest_events p (suc i) f in
-      let parts = ap (λ es. es ++ rest) (map-append (event_map (element_at root)) own later) ∙ append_assoc (at_elements root own) (at_elements root later) rest in
-      subst AsciiEvents (sym parts)
-      (node-ascii root (p ++ i ∷ []) m (at_elements root later ++ rest) (front-child root p n i (Node m) (terms f) there left) (ascii-front (node_text m) (forest_text f) h)
-      (forest-ascii root p n (suc i) f rest there (drop-first i (node_children n) (Node m) (terms f) left).1 (ascii-back (node_text m) (forest_text f) h) k))
-  forest-ascii root p n i (token_then t f) rest there left h k = (
-    ascii-there root (p ++ i ∷ []) (Token t) (front-child root p n i (Token t) (terms f) there left) (ascii-front t.text (forest_text f) h),
-    forest-ascii root p n (suc i) f rest there (drop-first i (node_children n) (Token t) (terms f) left).1 (ascii-back t.text (forest_text f) h) k,
-  )
-
-walk-ascii : (c : Cursor) → IsAscii (text_at c) → AsciiEvents (preorder_with_tokens c)
-walk-ascii c h = at (term_at c) refl h
-  where
-    at : (o : Option Term) → term_at c ≡ o → IsAscii (text_of o) → AsciiEvents (at_elements c.root (term_events c.path o))
-    at None there h = tt
-    at (Some (Token t)) there h = (ascii-there c.root c.path (Token t) there h, tt)
-    at (Some (Node n)) there h =
-        subst AsciiEvents (append-nil (at_elements c.root (node_events c.path n))) (node-ascii c.root c.path n [] there h tt)
-
--- ---- the loop over a walk
-
--- the text that is written and the lines of the events that are left are those of the tree, and no
--- level is greater than the text is long
-pub record Writes (name : ℕ → List ℕ) (c : Cursor) (text : List ℕ) (level : ℕ) (es : List (WalkEvent Element)) : Type 0 where
-  pub plain : AsciiEvents es
-  pub lines : text ++ event_lines name level es ≡ debug_tree name c
-  pub low : level ≤ length text
-
-abbrev pub WritesAscii : (ℕ → List ℕ) → Cursor → List ℕ → ℕ → Rest (WalkEvent Element) → Type 0
-WritesAscii name c text level (Ok es) = IsAscii (text_at c) → Writes name c text level es
-WritesAscii name c text level (Err e) = Unit {0}
-
-pub writes-first : (name : ℕ → List ℕ) (c : Cursor) (rest : Rest (WalkEvent Element)) (text : List ℕ) → text ≡ [] → IfOk rest (λ es. es ≡ preorder_with_tokens c) → WritesAscii name c text 0 rest
-writes-first name c (Err e) text new h = tt
-writes-first name c (Ok es) text new h = λ ascii. record {
-  plain = subst AsciiEvents (sym h) (walk-ascii c ascii);
-  lines = ap (λ us. us ++ event_lines name 0 es) new ∙ ap (event_lines name 0) h ∙ walk-lines name c;
-  low = omega arith;
-}
-
-pub writes-enter : (name : ℕ → List ℕ) (c : Cursor) (before after : Rest (WalkEvent Element)) (e : Element) (text written : List ℕ) (level deeper : ℕ) → WritesAscii name c text level before
-    → YieldsOrRefuses before (Some (Ok (Enter e))) after → (IsAscii (text_at (place_of e)) → written ≡ text ++ indented level (debug_line name (place_of e))) → (level ≤ length text → deeper ≡ level + 1)
-    → WritesAscii name c written deeper after
-writes-enter name c (Err x) after e text written level deeper h step wrote goes = absurd step
-writes-enter name c (Ok es) after e text written level deeper h step wrote goes =
-    subst (WritesAscii name c written deeper) (sym step.2)
-    (λ ascii.
-    let w = h ascii in
-    let plain = subst AsciiEvents step.1 w.plain in
-    let line = indented level (debug_line name (place_of e)) in
-    let down : deeper ≡ level + 1 = goes w.low in
-    let more : written ≡ text ++ line = wrote plain.0 in
-    record {
-      plain = plain.1;
-      lines =
-          ap (λ us. us ++ event_lines name deeper step.0) more
-          ∙ ap (λ m. (text ++ line) ++ event_lines name m step.0) down
-          ∙ append_assoc text line (event_lines name (level + 1) step.0)
-          ∙ ap (λ xs. text ++ event_lines name level xs) (sym step.1) ∙ w.lines;
-      low = omega (arith, w.low, ap length more, length-append text line, length-append (replicate (2 * level) 32 ++ debug_line name (place_of e)) (codes "\n"));
-    })
-
-pub writes-leave : (name : ℕ → List ℕ) (c : Cursor) (before after : Rest (WalkEvent Element)) (e : Element) (text : List ℕ) (level higher : ℕ) → WritesAscii name c text level before
-    → YieldsOrRefuses before (Some (Ok (Leave e))) after → higher ≡ level - 1 → WritesAscii name c text higher after
-writes-leave name c (Err x) after e text level higher h step goes = absurd step
-writes-leave name c (Ok es) after e text level higher h step goes =
-    subst (WritesAscii name c text higher) (sym step.2)
-    (λ ascii.
-    let w = h ascii in
-    record {
-      plain = subst AsciiEvents step.1 w.plain;
-      lines = ap (λ m. text ++ event_lines name m step.0) goes ∙ ap (λ xs. text ++ event_lines name level xs) (sym step.1) ∙ w.lines;
-      low = omega (arith, w.low);
-    })
-
-pub writes-all : (name : ℕ → List ℕ) (c : Cursor) (before after : Rest (WalkEvent Element)) (text : List ℕ) (level : ℕ) → WritesAscii name c text level before
-    → YieldsOrRefuses before None after → IsAscii (text_at c) → text ≡ debug_tree name c
-writes-all name c (Err x) after text level h step ascii = absurd step
-writes-all name c (Ok es) after text level h step ascii =
-    sym (append-nil text) ∙ ap (λ us. text ++ event_lines name level us) (sym step.0) ∙ (h ascii).lines
-
-pub indented-behind : (bs line : List ℕ) (level : ℕ) → ((bs ++ replicate (2 * level) 32) ++ line) ++ codes "\n" ≡ bs ++ indented level line
-indented-behind bs line level =
-    let spaces = replicate (2 * level) 32 in
-    append_assoc (bs ++ spaces) line (codes "\n") ∙ append_assoc bs spaces (line ++ codes "\n") ∙ ap (λ us. bs ++ us) (sym (append_assoc spaces line (codes "\n")))
+pub plain-node : (r : OpenNode) (n : NodeTerm) → r.green.now ≡ n → r.next ≡ 0 → IsAscii (node_text n) → IsPlain r
+plain-node r n green next h =
+    subst (λ ts. IsAscii (joined_text ts)) (sym (entered r n green next)) (subst IsAscii (node_text-children n) h)

@@ -9,11 +9,11 @@ use Rattle.std.proofs.lemmas.List.{get_or-drop, length-drop, replicate-append-re
 use Rattle.std.proofs.lemmas.List.Sums.{prefix_len_is}
 use Rattle.std.proofs.lemmas.Str.{IsAscii-append, IsAscii-take, IsAscii-drop}
 use Rattle.rowan_green.specs.declared.utility_types.NodeOrToken.TheVariants.{Node}
-use Rattle.rowan_green.specs.Term.{TokenTerm, Term}
+use Rattle.rowan_green.specs.Term.{TokenTerm, Term, token_len}
 use Rattle.rowan_green.specs.Path.{offset, len_of}
 use Rattle.rowan_green.specs.Span.{Span}
 use Rattle.rowan_cursor.specs.Cursor.{Cursor, StandsAtToken, text_range}
-use Rattle.rowan_api.specs.Printed.{goes_on, beginning, shown, quoted, is_plain, headline, term_line, printed_of, debug_line}
+use Rattle.rowan_api.specs.Printed.{goes_on, beginning, shown, quoted, is_plain, headline, extent, token_line, term_line, printed_of, debug_line}
 
 -- ---- where a long text is cut
 
@@ -119,19 +119,21 @@ quoted-behind bs text h =
 
 -- ---- lines of cursors
 
-pub debug_line-token : (name : ℕ → List ℕ) (c : Cursor) (t : TokenTerm) → StandsAtToken c t → headline (name t.kind) (text_range c) ++ codes " " ++ quoted (shown t.text) ≡ debug_line name c
-debug_line-token name c t h =
-    let at = offset (Node c.root) c.path in
-    subst (λ (o : Option Term). headline (name t.kind) (record { start = at; end = at + len_of o }) ++ codes " " ++ quoted (shown t.text) ≡ printed_of (term_line name at) o) (sym h) refl
-
-pub token_line-behind : (name : ℕ → List ℕ) (c : Cursor) (t : TokenTerm) (kind : ℕ) (range : Span) (text bs : List ℕ) → StandsAtToken c t → kind ≡ t.kind → range ≡ text_range c → text ≡ t.text
-    → ((bs ++ headline (name kind) range) ++ codes " ") ++ quoted (shown text) ≡ bs ++ debug_line name c
-token_line-behind name c t kind range text bs h k r e =
+pub token_line-behind : (name : ℕ → List ℕ) (start : ℕ) (t : TokenTerm) (kind : ℕ) (range : Span) (text bs : List ℕ) → kind ≡ t.kind → range ≡ extent start (token_len t) → text ≡ t.text
+    → ((bs ++ headline (name kind) range) ++ codes " ") ++ quoted (shown text) ≡ bs ++ token_line name start t
+token_line-behind name start t kind range text bs k r e =
     let head = headline (name kind) range in
     append_assoc (bs ++ head) (codes " ") (quoted (shown text)) ∙ append_assoc bs head (codes " " ++ quoted (shown text))
     ∙ ap (λ us. bs ++ us)
     (sym (append_assoc head (codes " ") (quoted (shown text)))
     ∙ ap (λ j. headline (name j) range ++ codes " " ++ quoted (shown text)) k
     ∙ ap (λ (s : Span). headline (name t.kind) s ++ codes " " ++ quoted (shown text)) r
-    ∙ ap (λ us. headline (name t.kind) (text_range c) ++ codes " " ++ quoted (shown us)) e
-    ∙ debug_line-token name c t h)
+    ∙ ap (λ us. headline (name t.kind) (extent start (token_len t)) ++ codes " " ++ quoted (shown us)) e)
+
+pub debug_line-token : (name : ℕ → List ℕ) (c : Cursor) (t : TokenTerm) → StandsAtToken c t → token_line name (offset (Node c.root) c.path) t ≡ debug_line name c
+debug_line-token name c t h = ap (printed_of (term_line name (offset (Node c.root) c.path))) (sym h)
+
+pub range-token : (c : Cursor) (t : TokenTerm) → StandsAtToken c t → text_range c ≡ extent (offset (Node c.root) c.path) (token_len t)
+range-token c t h =
+    let at = offset (Node c.root) c.path in
+    ap (λ (o : Option Term). extent at (len_of o)) h

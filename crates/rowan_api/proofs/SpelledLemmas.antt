@@ -1,7 +1,6 @@
--- Walks and the tokens of their JSON: what is still to be written at each event of a walk.
-use Rattle.std.proofs.Common.{◌≡◌, ℕ, suc, ◌+◌, false, List, [], ◌∷◌, ◌++◌, decimal, drop, Option, Some, None, Result, Ok, Err, refl, sym, ◌∙◌, ap, subst, arith, append_assoc, append-nil}
-use Rattle.std.specs.Prelude.{IfOk, OnOk}
-use Rattle.std.proofs.lemmas.List.{map-append}
+-- JSON as it is written: what is still to be written of open nodes, when one of them has written its next child.
+use Rattle.std.proofs.Common.{◌≡◌, ℕ, suc, ◌+◌, ◌<◌, List, [], ◌∷◌, ◌++◌, decimal, drop, Some, Result, Ok, Err, refl, sym, ◌∙◌, ap, subst, arith, append_assoc, append-nil}
+use Rattle.std.specs.Prelude.{OnOk}
 use Rattle.json.specs.Token.{Token as JsonToken, end_array, number}
 use Rattle.json.specs.Print.{print}
 use Rattle.json.specs.Tree.{json_tokens, items_tokens}
@@ -11,20 +10,15 @@ use Rattle.serde_json.specs.View.{items_of}
 use Rattle.serde_json.specs.Written.{outline, items_outline, compact_text}
 use Rattle.serde_json.proofs.Texts.{print-outline}
 use Rattle.rowan_green.specs.declared.utility_types.NodeOrToken.TheVariants.{Node, Token}
-use Rattle.rowan_green.specs.declared.utility_types.WalkEvent.{WalkEvent}
-use Rattle.rowan_green.specs.declared.utility_types.WalkEvent.TheVariants.{Enter, Leave}
-use Rattle.rowan_green.specs.Term.{NodeTerm, node, Forest, empty, node_then, token_then, Term, terms, node_children, term_len, term_kind, node_kind, node_len}
-use Rattle.rowan_green.specs.Path.{Path, subterm, offset, len_of}
-use Rattle.rowan_green.specs.Search.{child_start}
-use Rattle.rowan_cursor.specs.Cursor.{Cursor, StandsAt}
-use Rattle.rowan_cursor.specs.Moves.{Element, element_at, element_if, cursor_at, is_node}
-use Rattle.rowan_cursor.specs.Preorder.{event_map, node_events, forest_events, term_events, preorder_with_tokens}
-use Rattle.rowan_cursor.specs.Yields.{Rest, YieldsOrRefuses}
-use Rattle.rowan_cursor.proofs.OffsetLemmas.{drop-first}
-use Rattle.rowan_cursor.proofs.PathLemmas.{offset-node_child}
-use Rattle.rowan_api.specs.Printed.{node_json, forest_json, term_json, json_of, tree_json, token_json, printed_of, extent}
-use Rattle.rowan_api.specs.Spelled.{Spells, kind_tokens, range_tokens, tree_tokens, begun, ended}
-use Rattle.rowan_api.proofs.PrintedLemmas.{front-child, next-start, at_elements}
+use Rattle.rowan_green.specs.Span.{Span}
+use Rattle.rowan_green.specs.Term.{TokenTerm, NodeTerm, node, Forest, empty, node_then, token_then, Term, terms, node_children, node_kind, node_len, token_len, term_len}
+use Rattle.rowan_green.specs.Path.{offset, len_of}
+use Rattle.rowan_cursor.specs.Cursor.{Cursor, StandsAtToken, text_range}
+use Rattle.rowan_api.specs.declared.api.open_node.OpenNode.{OpenNode}
+use Rattle.rowan_api.specs.Opened.{left, next_start, HasNext, Passes}
+use Rattle.rowan_api.specs.Printed.{extent, node_json, forest_json, token_json, token_object, term_json, json_of, tree_json}
+use Rattle.rowan_api.specs.Spelled.{Spells, SpellsUpTo, kind_tokens, range_tokens, value_tokens, values_tokens, begun, ended, values_from, left_tokens, open_tokens}
+use Rattle.rowan_api.proofs.PrintedLemmas.{left-passes, start-passes, entered, starts-entered}
 
 -- ---- tokens behind one another
 
@@ -38,18 +32,7 @@ spells-token (Err e) u v w ts t h k = tt
 pub spells-number : {E : Type 0} (r : Result (Unit {0}) E) (u v w : Written) (ts : List JsonToken) (n m : ℕ) → Spells u v ts → n ≡ m → Writes r v w (number (decimal n)) → OnOk r (Spells u w (ts ++ number (decimal m) ∷ []))
 spells-number r u v w ts n m h e k = subst (λ i. OnOk r (Spells u w (ts ++ number (decimal i) ∷ []))) e (spells-token r u v w ts (number (decimal n)) h k)
 
--- ---- the tokens of events
-
--- the tokens that some events write
-abbrev pub event_tokens : (ℕ → List ℕ) → List (WalkEvent Element) → List JsonToken
-event_tokens name [] = []
-event_tokens name (Enter e ∷ es) = begun name e ++ event_tokens name es
-event_tokens name (Leave e ∷ es) = ended name e ++ event_tokens name es
-
--- the tokens of some values
-abbrev values_tokens : List Data → List JsonToken
-values_tokens [] = []
-values_tokens (d ∷ ds) = json_tokens (outline d) ++ values_tokens ds
+-- ---- values
 
 values-items : (ds : List Data) (ts : List JsonToken) → values_tokens ds ++ end_array ∷ ts ≡ items_tokens (items_outline (items_of ds)) ++ ts
 values-items [] ts = refl
@@ -57,114 +40,104 @@ values-items (d ∷ ds) ts =
     let own = json_tokens (outline d) in
     append_assoc own (values_tokens ds) (end_array ∷ ts) ∙ ap (λ us. own ++ us) (values-items ds ts) ∙ sym (append_assoc own (items_tokens (items_outline (items_of ds))) ts)
 
-node-there : (root : NodeTerm) (p : Path) (n : NodeTerm) → subterm (Node root) p ≡ Some (Node n) → element_at root p ≡ Node (cursor_at root p)
-node-there root p n there = ap (λ (o : Option Term). element_if (is_node o) (cursor_at root p)) there
+forest-values : (name : ℕ → List ℕ) (start : ℕ) (f : Forest) → forest_json name start f ≡ values_from name start (terms f)
+forest-values name start empty = refl
+forest-values name start (node_then n f) = ap (λ ds. node_json name start n ∷ ds) (forest-values name (start + node_len n) f)
+forest-values name start (token_then t f) = ap (λ ds. token_json name start t ∷ ds) (forest-values name (start + token_len t) f)
 
-token-there : (name : ℕ → List ℕ) (root : NodeTerm) (p : Path) (t : Term) → subterm (Node root) p ≡ Some t → is_node (Some t) ≡ false
-    → begun name (element_at root p) ++ ended name (element_at root p) ≡ json_tokens (outline (term_json name (offset (Node root) p) t))
-token-there name root p t there kind =
-    ap (λ e. begun name e ++ ended name e) (ap (λ (o : Option Term). element_if (is_node o) (cursor_at root p)) there ∙ ap (λ b. element_if b (cursor_at root p)) kind)
-    ∙ append-nil (tree_tokens name (cursor_at root p))
-    ∙ ap (λ (o : Option Term). json_tokens (outline (json_of (term_json name (offset (Node root) p)) o))) there
+-- the value of a node is its beginning, the values of its children, and its end
+node-spelled : (name : ℕ → List ℕ) (start : ℕ) (n : NodeTerm)
+    → value_tokens (node_json name start n) ≡ begun ++ (values_tokens (values_from name start (node_children n)) ++ ended (name (node_kind n)) (extent start (node_len n)))
+node-spelled name start (node k f) =
+    let end = ended (name k) (extent start (node_len (node k f))) in
+    sym (ap (λ ds. begun ++ (values_tokens ds ++ end)) (sym (forest-values name start f))
+    ∙ ap (λ us. begun ++ us) (values-items (forest_json name start f) (kind_tokens (name k) ++ range_tokens (extent start (node_len (node k f))))))
 
--- what ends the value of the node at a path
-node-ended : (name : ℕ → List ℕ) (root : NodeTerm) (p : Path) (n : NodeTerm) → subterm (Node root) p ≡ Some (Node n)
-    → ended name (element_at root p) ≡ end_array ∷ kind_tokens (name (node_kind n)) ++ range_tokens (extent (offset (Node root) p) (node_len n))
-node-ended name root p n there =
-    let at = offset (Node root) p in
-    ap (ended name) (node-there root p n there)
-    ∙ ap (λ (o : Option Term). end_array ∷ kind_tokens (printed_of (λ t. name (term_kind t)) o) ++ range_tokens (record { start = at; end = at + len_of o })) there
+-- the text of the tokens of a value
+pub print-value : (d : Data) (ts : List JsonToken) → ts ≡ value_tokens d → print ts ≡ compact_text d
+print-value d ts h = ap print h ∙ print-outline d
 
-mutual
-  node-tokens : (name : ℕ → List ℕ) (root : NodeTerm) (p : Path) (n : NodeTerm) (rest : List (WalkEvent Element)) → subterm (Node root) p ≡ Some (Node n)
-      → event_tokens name (at_elements root (node_events p n) ++ rest) ≡ json_tokens (outline (node_json name (offset (Node root) p) n)) ++ event_tokens name rest
-  node-tokens name root p (node k f) rest there =
-      let at = offset (Node root) p in
-      let inner = forest_events p 0 f in
-      let leave = Leave (element_at root p) in
-      let values = forest_json name at f in
-      let tail = kind_tokens (name k) ++ range_tokens (extent at (node_len (node k f))) in
-      let head = begun name (Node (cursor_at root p)) in
-      let start : at ≡ at + child_start (node_children (node k f)) 0 = omega arith in
-      ap (λ e. begun name e ++ event_tokens name (at_elements root (inner ++ Leave p ∷ []) ++ rest)) (node-there root p (node k f) there)
-      ∙ ap (λ es. head ++ event_tokens name es) (ap (λ es. es ++ rest) (map-append (event_map (element_at root)) inner (Leave p ∷ [])) ∙ append_assoc (at_elements root inner) (leave ∷ []) rest)
-      ∙ ap (λ us. head ++ us)
-      (forest-tokens name root p (node k f) 0 f (leave ∷ rest) at there refl start
-      ∙ ap (λ us. values_tokens values ++ (us ++ event_tokens name rest)) (node-ended name root p (node k f) there)
-      ∙ values-items values (tail ++ event_tokens name rest)
-      ∙ sym (append_assoc (items_tokens (items_outline (items_of values))) tail (event_tokens name rest)))
+-- the value of a token that stands at a cursor
+pub token-there : (name : ℕ → List ℕ) (c : Cursor) (t : TokenTerm) (range : Span) → StandsAtToken c t → range ≡ text_range c → token_object (name t.kind) range t.text ≡ tree_json name c
+token-there name c t range there at =
+    let start = offset (Node c.root) c.path in
+    ap (λ (s : Span). token_object (name t.kind) s t.text) (at ∙ ap (λ o. extent start (len_of o)) there)
+    ∙ sym (ap (json_of (term_json name start)) there)
 
-  forest-tokens : (name : ℕ → List ℕ) (root : NodeTerm) (p : Path) (n : NodeTerm) (i : ℕ) (f : Forest) (rest : List (WalkEvent Element)) (start : ℕ) → subterm (Node root) p ≡ Some (Node n)
-      → drop i (node_children n) ≡ terms f → start ≡ offset (Node root) p + child_start (node_children n) i
-      → event_tokens name (at_elements root (forest_events p i f) ++ rest) ≡ values_tokens (forest_json name start f) ++ event_tokens name rest
-  forest-tokens name root p n i empty rest start there left at = refl
-  forest-tokens name root p n i (node_then m f) rest start there left at =
-      let own = node_events (p ++ i ∷ []) m in
-      let later = forest_events p (suc i) f in
-      let others = at_elements root later ++ rest in
-      let own_start : offset (Node root) (p ++ i ∷ []) ≡ start = omega (arith, offset-node_child (Node root) p i n there) in
-      let next : start + term_len (Node m) ≡ offset (Node root) p + child_start (node_children n) (suc i) = omega (arith, next-start (node_children n) i (Node m) (terms f) left) in
-      let first = json_tokens (outline (node_json name start m)) in
-      ap (event_tokens name) (ap (λ es. es ++ rest) (map-append (event_map (element_at root)) own later) ∙ append_assoc (at_elements root own) (at_elements root later) rest)
-      ∙ node-tokens name root (p ++ i ∷ []) m others (front-child root p n i (Node m) (terms f) there left)
-      ∙ ap (λ s. json_tokens (outline (node_json name s m)) ++ event_tokens name others) own_start
-      ∙ ap (λ us. first ++ us) (forest-tokens name root p n (suc i) f rest (start + term_len (Node m)) there (drop-first i (node_children n) (Node m) (terms f) left).1 next)
-      ∙ sym (append_assoc first (values_tokens (forest_json name (start + term_len (Node m)) f)) (event_tokens name rest))
-  forest-tokens name root p n i (token_then t f) rest start there left at =
-      let later = at_elements root (forest_events p (suc i) f) ++ rest in
-      let own_start : offset (Node root) (p ++ i ∷ []) ≡ start = omega (arith, offset-node_child (Node root) p i n there) in
-      let next : start + term_len (Token t) ≡ offset (Node root) p + child_start (node_children n) (suc i) = omega (arith, next-start (node_children n) i (Token t) (terms f) left) in
-      let e = element_at root (p ++ i ∷ []) in
-      let own = json_tokens (outline (token_json name start t)) in
-      sym (append_assoc (begun name e) (ended name e) (event_tokens name later))
-      ∙ ap (λ us. us ++ event_tokens name later) (token-there name root (p ++ i ∷ []) (Token t) (front-child root p n i (Token t) (terms f) there left) refl ∙ ap (λ s. json_tokens (outline (token_json name s t))) own_start)
-      ∙ ap (λ us. own ++ us) (forest-tokens name root p n (suc i) f rest (start + term_len (Token t)) there (drop-first i (node_children n) (Token t) (terms f) left).1 next)
-      ∙ sym (append_assoc own (values_tokens (forest_json name (start + term_len (Token t)) f)) (event_tokens name rest))
+-- ---- open nodes
 
--- the events of a cursor at a node write the tokens of its tree
-walk-tokens : (name : ℕ → List ℕ) (c : Cursor) (n : NodeTerm) → StandsAt c n → event_tokens name (preorder_with_tokens c) ≡ tree_tokens name c
-walk-tokens name c n there =
-    ap (λ o. event_tokens name (at_elements c.root (term_events c.path o))) there
-    ∙ ap (event_tokens name) (sym (append-nil (at_elements c.root (node_events c.path n))))
-    ∙ node-tokens name c.root c.path n [] there
-    ∙ append-nil (json_tokens (outline (node_json name (offset (Node c.root) c.path) n)))
-    ∙ sym (ap (λ o. json_tokens (outline (json_of (term_json name (offset (Node c.root) c.path)) o))) there)
+-- the next child and what is left behind it
+left_tokens-passes : (name : ℕ → List ℕ) (p q : OpenNode) (t : Term) → HasNext p t → Passes p q → left_tokens name p ≡ value_tokens (term_json name (next_start p) t) ++ left_tokens name q
+left_tokens-passes name p q t h f =
+    let own = value_tokens (term_json name (next_start p) t) in
+    let end = λ (n : NodeTerm) (s : ℕ). ended (name (node_kind n)) (extent s (node_len n)) in
+    let others = values_tokens (values_from name (next_start q) (left q)) in
+    ap (λ ts. values_tokens (values_from name (next_start p) ts) ++ end p.green.now p.start) (left-passes p q t h f)
+    ∙ ap (λ s. (own ++ values_tokens (values_from name s (left q))) ++ end p.green.now p.start) (start-passes p q t h f)
+    ∙ append_assoc own others (end p.green.now p.start)
+    ∙ ap (λ n. own ++ (others ++ end n p.start)) (sym f.green)
+    ∙ ap (λ s. own ++ (others ++ end q.green.now s)) (sym f.start)
 
--- ---- the loop over a walk
+left_tokens-entered : (name : ℕ → List ℕ) (start : ℕ) (r : OpenNode) (n : NodeTerm) → r.green.now ≡ n → r.start ≡ start → r.next ≡ 0
+    → left_tokens name r ≡ values_tokens (values_from name start (node_children n)) ++ ended (name (node_kind n)) (extent start (node_len n))
+left_tokens-entered name start r n green at next =
+    ap (λ s. values_tokens (values_from name s (left r)) ++ ended (name (node_kind r.green.now)) (extent r.start (node_len r.green.now))) (starts-entered r start at next)
+    ∙ ap (λ ts. values_tokens (values_from name start ts) ++ ended (name (node_kind r.green.now)) (extent r.start (node_len r.green.now))) (entered r n green next)
+    ∙ ap (λ m. values_tokens (values_from name start (node_children n)) ++ ended (name (node_kind m)) (extent r.start (node_len m))) green
+    ∙ ap (λ s. values_tokens (values_from name start (node_children n)) ++ ended (name (node_kind n)) (extent s (node_len n))) at
 
--- behind nothing stand the tokens that are written, and with those of the events that are left they
--- are those of the tree
-abbrev pub WritesTokens : (ℕ → List ℕ) → Cursor → Written → Rest (WalkEvent Element) → Type 0
-WritesTokens name c w (Ok es) = (w.before ≡ []) × (w.tokens ++ event_tokens name es ≡ tree_tokens name c)
-WritesTokens name c w (Err e) = Unit {0}
+open_tokens-push : (name : ℕ → List ℕ) (ns : List OpenNode) (n : OpenNode) → open_tokens name (ns ++ n ∷ []) ≡ left_tokens name n ++ open_tokens name ns
+open_tokens-push name [] n = sym (append-nil (left_tokens name n))
+open_tokens-push name (m ∷ ns) n =
+    ap (λ us. us ++ left_tokens name m) (open_tokens-push name ns n) ∙ append_assoc (left_tokens name n) (open_tokens name ns) (left_tokens name m)
 
-pub left-first : (name : ℕ → List ℕ) (c : Cursor) (n : NodeTerm) (rest : Rest (WalkEvent Element)) (w : Written) → StandsAt c n → w.before ≡ [] → w.tokens ≡ [] → IfOk rest (λ es. es ≡ preorder_with_tokens c) → WritesTokens name c w rest
-left-first name c n (Err e) w there before none h = tt
-left-first name c n (Ok es) w there before none h =
-    (before, ap (λ ts. ts ++ event_tokens name es) none ∙ ap (event_tokens name) h ∙ walk-tokens name c n there)
+-- the end of a node was written that has no child left
+pub end-written : (name : ℕ → List ℕ) (ns : List OpenNode) (p : OpenNode) (u v : Written) → left p ≡ [] → Spells u v (ended (name (node_kind p.green.now)) (extent p.start (node_len p.green.now)))
+    → SpellsUpTo u v (open_tokens name (ns ++ p ∷ [])) (open_tokens name ns)
+end-written name ns p u v none wrote =
+    let end = ended (name (node_kind p.green.now)) (extent p.start (node_len p.green.now)) in
+    let own : left_tokens name p ≡ end = ap (λ ts. values_tokens (values_from name (next_start p) ts) ++ end) none in (
+      wrote.0,
+      ap (λ ts. ts ++ open_tokens name ns) wrote.1 ∙ append_assoc u.tokens end (open_tokens name ns)
+          ∙ ap (λ ts. u.tokens ++ ts) (ap (λ ts. ts ++ open_tokens name ns) (sym own) ∙ sym (open_tokens-push name ns p)),
+    )
 
-left-step : (name : ℕ → List ℕ) (c : Cursor) (v w : Written) (ts : List JsonToken) (ev : WalkEvent Element) (es fs : List (WalkEvent Element)) → (v.before ≡ []) × (v.tokens ++ event_tokens name es ≡ tree_tokens name c)
-    → es ≡ ev ∷ fs → event_tokens name (ev ∷ fs) ≡ ts ++ event_tokens name fs → Spells v w ts → (w.before ≡ []) × (w.tokens ++ event_tokens name fs ≡ tree_tokens name c)
-left-step name c v w ts ev es fs h front own k = (
-  k.0 ∙ h.0,
-  ap (λ us. us ++ event_tokens name fs) k.1 ∙ append_assoc v.tokens ts (event_tokens name fs) ∙ ap (λ us. v.tokens ++ us) (sym (ap (event_tokens name) front ∙ own)) ∙ h.1,
-)
+-- a child that is a token was written
+pub token-spelled : (name : ℕ → List ℕ) (ns items : List OpenNode) (p q : OpenNode) (t : TokenTerm) (u v : Written) (at : ℕ) (range : Span) → HasNext p (Token t) → Passes p q → items ≡ ns ++ q ∷ []
+    → at ≡ next_start p → range ≡ extent at (token_len t) → Spells u v (value_tokens (token_object (name t.kind) range t.text)) → SpellsUpTo u v (open_tokens name (ns ++ p ∷ [])) (open_tokens name items)
+token-spelled name ns items p q t u v at range h f list starts reach wrote =
+    let own = value_tokens (token_json name (next_start p) t) in
+    let rest = open_tokens name ns in
+    let same : value_tokens (token_object (name t.kind) range t.text) ≡ own = ap (λ (s : Span). value_tokens (token_object (name t.kind) s t.text)) (reach ∙ ap (λ s. extent s (token_len t)) starts) in (
+      wrote.0,
+      ap (λ ms. v.tokens ++ open_tokens name ms) list ∙ ap (λ ts. ts ++ open_tokens name (ns ++ q ∷ [])) (wrote.1 ∙ ap (λ ts. u.tokens ++ ts) same)
+          ∙ append_assoc u.tokens own (open_tokens name (ns ++ q ∷ []))
+          ∙ ap (λ ts. u.tokens ++ ts)
+          (ap (λ ts. own ++ ts) (open_tokens-push name ns q) ∙ sym (append_assoc own (left_tokens name q) rest) ∙ ap (λ ts. ts ++ rest) (sym (left_tokens-passes name p q (Token t) h f)) ∙ sym (open_tokens-push name ns p)),
+    )
 
-pub left-enter : (name : ℕ → List ℕ) (c : Cursor) (before after : Rest (WalkEvent Element)) (e : Element) (v w : Written) → WritesTokens name c v before → YieldsOrRefuses before (Some (Ok (Enter e))) after → Spells v w (begun name e) → WritesTokens name c w after
-left-enter name c (Err x) after e v w h step k = absurd step
-left-enter name c (Ok es) after e v w h step k =
-    subst (WritesTokens name c w) (sym step.2) (left-step name c v w (begun name e) (Enter e) es step.0 h step.1 refl k)
+-- a child that is a node was begun, and is open from now on
+pub node-begun : (name : ℕ → List ℕ) (ns items : List OpenNode) (p q r : OpenNode) (n : NodeTerm) (u v : Written) (at : ℕ) → HasNext p (Node n) → Passes p q → r.green.now ≡ n → r.start ≡ at → r.next ≡ 0
+    → items ≡ (ns ++ q ∷ []) ++ r ∷ [] → at ≡ next_start p → Spells u v begun → SpellsUpTo u v (open_tokens name (ns ++ p ∷ [])) (open_tokens name items)
+node-begun name ns items p q r n u v at h f green begins next list starts wrote =
+    let rest = open_tokens name ns in
+    let others = left_tokens name q ++ rest in
+    let whole : begun ++ left_tokens name r ≡ value_tokens (node_json name (next_start p) n) = ap (λ ts. begun ++ ts) (left_tokens-entered name (next_start p) r n green (begins ∙ starts) next) ∙ sym (node-spelled name (next_start p) n) in (
+      wrote.0,
+      ap (λ ms. v.tokens ++ open_tokens name ms) list
+          ∙ ap (λ ts. ts ++ open_tokens name ((ns ++ q ∷ []) ++ r ∷ [])) wrote.1
+          ∙ append_assoc u.tokens begun (open_tokens name ((ns ++ q ∷ []) ++ r ∷ []))
+          ∙ ap (λ ts. u.tokens ++ ts)
+          (ap (λ ts. begun ++ ts) (open_tokens-push name (ns ++ q ∷ []) r ∙ ap (λ ts. left_tokens name r ++ ts) (open_tokens-push name ns q))
+          ∙ sym (append_assoc begun (left_tokens name r) others) ∙ ap (λ ts. ts ++ others) whole
+          ∙ sym (append_assoc (value_tokens (node_json name (next_start p) n)) (left_tokens name q) rest)
+          ∙ ap (λ ts. ts ++ rest) (sym (left_tokens-passes name p q (Node n) h f)) ∙ sym (open_tokens-push name ns p)),
+    )
 
-pub left-leave : (name : ℕ → List ℕ) (c : Cursor) (before after : Rest (WalkEvent Element)) (e : Element) (v w : Written) → WritesTokens name c v before → YieldsOrRefuses before (Some (Ok (Leave e))) after → Spells v w (ended name e) → WritesTokens name c w after
-left-leave name c (Err x) after e v w h step k = absurd step
-left-leave name c (Ok es) after e v w h step k =
-    subst (WritesTokens name c w) (sym step.2) (left-step name c v w (ended name e) (Leave e) es step.0 h step.1 refl k)
-
-pub left-none : (name : ℕ → List ℕ) (c : Cursor) (before after : Rest (WalkEvent Element)) (w : Written) → WritesTokens name c w before → YieldsOrRefuses before None after → (w.before ≡ []) × (w.tokens ≡ tree_tokens name c)
-left-none name c (Err x) after w h step = absurd step
-left-none name c (Ok es) after w h step =
-    (h.0, sym (append-nil w.tokens) ∙ ap (λ us. w.tokens ++ event_tokens name us) (sym step.0) ∙ h.1)
-
--- the text of the tokens of a tree
-pub print-tree : (name : ℕ → List ℕ) (c : Cursor) (ts : List JsonToken) → ts ≡ tree_tokens name c → print ts ≡ compact_text (tree_json name c)
-print-tree name c ts h = ap print h ∙ print-outline (tree_json name c)
+-- a root was begun, and is the only open node
+pub root-begun : (name : ℕ → List ℕ) (start : ℕ) (items : List OpenNode) (r : OpenNode) (n : NodeTerm) (u v : Written) → r.green.now ≡ n → r.start ≡ start → r.next ≡ 0 → items ≡ r ∷ []
+    → u.tokens ≡ [] → Spells u v begun → v.tokens ++ open_tokens name items ≡ value_tokens (node_json name start n)
+root-begun name start items r n u v green begins next list new wrote =
+    ap (λ ms. v.tokens ++ open_tokens name ms) list
+    ∙ ap (λ ts. ts ++ left_tokens name r) (wrote.1 ∙ ap (λ ts. ts ++ begun) new)
+    ∙ ap (λ ts. begun ++ ts) (left_tokens-entered name start r n green begins next) ∙ sym (node-spelled name start n)

@@ -1,14 +1,15 @@
--- JSON as it is written in a walk: the tokens of each event.
-use Rattle.std.specs.Prelude.{◌≡◌, ℕ, List, [], ◌∷◌, ◌++◌, codes, decimal}
+-- JSON as it is written: the tokens of values, and what is still to be written of nodes that are open.
+use Rattle.std.specs.Prelude.{◌≡◌, ℕ, ◌+◌, List, [], ◌∷◌, ◌++◌, codes, decimal}
 use Rattle.json.specs.Token as json
 use Rattle.json.specs.Tree.{json_tokens}
 use Rattle.json.specs.Written.{Written}
+use Rattle.serde_json.specs.Data.{Data}
 use Rattle.serde_json.specs.Written.{outline}
 use Rattle.rowan_green.specs.Span.{Span}
-use Rattle.rowan_green.specs.declared.utility_types.NodeOrToken.TheVariants.{Node, Token}
-use Rattle.rowan_cursor.specs.Cursor.{Cursor, text_range}
-use Rattle.rowan_cursor.specs.Moves.{Element}
-use Rattle.rowan_api.specs.Printed.{kind_called, tree_json}
+use Rattle.rowan_green.specs.Term.{NodeTerm, Term, node_kind, node_len, term_len}
+use Rattle.rowan_api.specs.Opened.{left, next_start}
+use Rattle.rowan_api.specs.Printed.{extent, term_json}
+use Rattle.rowan_api.specs.declared.api.open_node.OpenNode.{OpenNode}
 
 -- these tokens were written behind the others
 abbrev pub Spells : Written → Written → List json.Token → Type 0
@@ -24,17 +25,40 @@ range_tokens range =
     json.key (codes "text_range") ∷ json.begin_array ∷ json.number (decimal range.start)
     ∷ json.number (decimal range.end) ∷ json.end_array ∷ json.end_object ∷ []
 
--- the JSON of what stands at a cursor
-abbrev pub tree_tokens : (ℕ → List ℕ) → Cursor → List json.Token
-tree_tokens name c = json_tokens (outline (tree_json name c))
+-- a value, and values one after the other
+abbrev pub value_tokens : Data → List json.Token
+value_tokens d = json_tokens (outline d)
 
--- where the value of a node begins, up to those of its children; the whole value of a token
-abbrev pub begun : (ℕ → List ℕ) → Element → List json.Token
-begun name (Node c) = json.begin_object ∷ json.key (codes "children") ∷ json.begin_array ∷ []
-begun name (Token c) = tree_tokens name c
+abbrev pub values_tokens : List Data → List json.Token
+values_tokens [] = []
+values_tokens (d ∷ ds) = value_tokens d ++ values_tokens ds
 
--- where the value of a node ends, behind those of its children
-abbrev pub ended : (ℕ → List ℕ) → Element → List json.Token
-ended name (Node c) =
-    json.end_array ∷ kind_tokens (kind_called name c) ++ range_tokens (text_range c)
-ended name (Token c) = []
+-- where the value of a node begins, up to those of its children
+abbrev pub begun : List json.Token
+begun = json.begin_object ∷ json.key (codes "children") ∷ json.begin_array ∷ []
+
+-- where the value of a node of a kind and a range ends, behind those of its children
+abbrev pub ended : List ℕ → Span → List json.Token
+ended kind range = json.end_array ∷ kind_tokens kind ++ range_tokens range
+
+-- the values of terms side by side, the first of which starts at the offset
+abbrev pub values_from : (ℕ → List ℕ) → ℕ → List Term → List Data
+values_from name start [] = []
+values_from name start (t ∷ ts) =
+    term_json name start t ∷ values_from name (start + term_len t) ts
+
+-- what is still to be written of a node that is open: the values of the children that are left, and its end
+abbrev pub left_tokens : (ℕ → List ℕ) → OpenNode → List json.Token
+left_tokens name n =
+    values_tokens (values_from name (next_start n) (left n))
+    ++ ended (name (node_kind n.green.now)) (extent n.start (node_len n.green.now))
+
+-- of all of them, the innermost first
+abbrev pub open_tokens : (ℕ → List ℕ) → List OpenNode → List json.Token
+open_tokens name [] = []
+open_tokens name (n ∷ ns) = open_tokens name ns ++ left_tokens name n
+
+-- what was to be written before has been written, but for what is still to be written now
+abbrev pub SpellsUpTo : Written → Written → List json.Token → List json.Token → Type 0
+SpellsUpTo old new before now =
+    (new.before ≡ old.before) × (new.tokens ++ now ≡ old.tokens ++ before)

@@ -11,6 +11,7 @@ mod json_text;
 mod json_value;
 mod language;
 mod node;
+mod open_node;
 mod preorder;
 mod preorder_with_tokens;
 mod printed;

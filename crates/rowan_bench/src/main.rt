@@ -28,6 +28,7 @@ usage: rowan_bench depth parse|compare|hash|show LEVELS
        rowan_bench depth walk|search|copy|replace|point|lines|json LEVELS
        rowan_bench build TOKENS
        rowan_bench parse
+       rowan_bench keep
        rowan_bench intern tokens|nodes COUNT
        rowan_bench search shared|own CHILDREN TIMES
        rowan_bench reach shared|own CHILDREN TIMES
@@ -54,6 +55,7 @@ depth   parses that many lists, one in the other, and then
         The status is 0 if it ends; a stack that is too small ends the process by a signal.
 build   builds a tree of that many tokens, with a new cache and once more with the same cache
 parse   parses the s-expressions of standard input, with a new cache and once more with the same cache
+keep    parses the s-expressions of standard input once, and keeps the tree to the end
 intern  makes that many tokens, or nodes of two tokens, no two equal, and keeps them in a cache
 search  searches the child at so many ranges in a node over that many tokens, where
           shared   equal tokens are one, as a cache makes them
@@ -114,6 +116,7 @@ fn run(rt: &HostRuntime) -> Result<()> {
         "depth" => nest(rt, words),
         "build" => build(rt, number_at(words, 1)?),
         "parse" => parse(rt),
+        "keep" => keep(rt),
         "intern" => intern(rt, words),
         "search" => search(rt, words),
         "reach" => reach(rt, words),
@@ -173,6 +176,14 @@ fn parse(rt: &HostRuntime) -> Result<()> {
         let tree = sexp::parse_with(rt.alloc(), text.as_str(), &mut cache)?;
         tell(rt, state, start, &cache, tree.green().text_len())?;
     }
+    Ok(())
+}
+
+/// Parses a text once. The tree stays until its length was printed, and there is no cursor.
+fn keep(rt: &HostRuntime) -> Result<()> {
+    let text = io::read_to_string(rt.alloc(), rt.reader())?;
+    let parsed = sexp::parse(rt.alloc(), text.as_str())?;
+    println!(rt; "{:?} bytes", parsed.green().text_len())?;
     Ok(())
 }
 

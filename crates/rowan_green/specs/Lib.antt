@@ -24,7 +24,7 @@ pub mod Stream
 pub mod Tables
 pub mod Term
 pub mod TokenAtOffset
-pub mod TokenText
+pub mod TokenData
 pub mod Unread
 pub mod View
 pub mod Waiting

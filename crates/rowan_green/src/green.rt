@@ -4,8 +4,9 @@ mod children;
 mod element;
 mod node;
 mod search;
+mod short_text;
 mod token;
-mod token_text;
+mod token_data;
 
 pub use children::Children;
 pub use element::{GreenElement, GreenElementRef};

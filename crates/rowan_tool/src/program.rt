@@ -1,11 +1,12 @@
 //! The program `rowan`: what its arguments ask for, what it reads and writes, and why it stops.
-ghost use Rattle.std.specs.Prelude.{◌≡◌, ◌≢◌, ◌↔◌, ◌<◌, ◌≤◌, ◌++◌, length, take, Ok, Err, IfOk, IfErr, IfSome, IfNone, OnOk, IsUtf8, string_bytes, vec_len};
+ghost use Rattle.std.specs.Prelude.{◌≡◌, ◌≢◌, ◌↔◌, ◌<◌, ◌≤◌, [], ◌++◌, length, take, Ok, Err, IfOk, IfErr, IfSome, IfNone, OnOk, IsUtf8, string_bytes, vec_len};
 ghost use Rattle.std.specs.Io.KnownBytes.{Appends, Consumes, IsAtEnd};
+ghost use Rattle.rowan_cursor.specs.Moves.{cursor_at};
 ghost use Rattle.rowan_green.specs.Term.{node_text};
 ghost use Rattle.rowan_tool.specs.Program.{AsksFor, IsCommandLine, IsReadWhole, ReadsAll, IsShown, Shows, IsAnswered, longest_input, value_line, value_lines_at, json_line_at, status_of, line_of};
 
 use crate::sexp::{self, Lang, Parse, Root};
-use rowan::{Fault, SyntaxNode};
+use rowan::{Fault, GreenNode, SyntaxNode};
 use std::alloc::{AllocError, Global};
 use std::io::{ErrorKind, Read, Write};
 
@@ -166,18 +167,18 @@ fn shown(alloc: Global, command: Command, parse: &Parse) -> Result<String, Fault
     ensures err { IfErr result (λ fault. fault ≡ Fault.Memory) }
 {
     match command {
-        Command::Tree => parse.syntax(alloc)?.debug_tree(alloc),
+        Command::Tree => SyntaxNode::<Lang>::debug_tree_of(alloc, parse.green()),
         Command::Eval => value_lines(alloc, &parse.root(alloc)?),
-        Command::Json => json_line(alloc, &parse.syntax(alloc)?),
+        Command::Json => json_line(alloc, parse.green()),
     }
 }
 
 /// The JSON of a tree, and a newline.
-fn json_line(alloc: Global, root: &SyntaxNode<Lang>) -> Result<String, Fault>
-    ensures ok { IfOk result (λ line. string_bytes line ≡ json_line_at root.now) }
+fn json_line(alloc: Global, root: &GreenNode) -> Result<String, Fault>
+    ensures ok { IfOk result (λ line. string_bytes line ≡ json_line_at (cursor_at root.now [])) }
     ensures err { IfErr result (λ fault. fault ≡ Fault.Memory) }
 {
-    let mut line = root.to_json_string(alloc)?;
+    let mut line = SyntaxNode::<Lang>::to_json_string_of(alloc, root)?;
     line.push_str("\n")?;
     Ok(line)
 }

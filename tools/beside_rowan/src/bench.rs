@@ -22,6 +22,7 @@ usage: beside_rowan tree|json|eval
        beside_rowan depth parse|compare|show LEVELS
        beside_rowan build TOKENS
        beside_rowan parse
+       beside_rowan keep
        beside_rowan intern tokens|nodes COUNT
        beside_rowan reach shared|own CHILDREN TIMES
        beside_rowan edit shared|own CHILDREN TIMES
@@ -50,6 +51,7 @@ pub fn run(words: &[&str]) -> Result<(), Failure> {
         "depth" => nest(words),
         "build" => build(number_at(words, 1)?),
         "parse" => parse(),
+        "keep" => keep(),
         "intern" => intern(words),
         "reach" => reach(words),
         "edit" => edit(words),
@@ -106,6 +108,14 @@ fn parse() -> Result<(), Failure> {
         let tree = sexp::parse_with(&text, &mut cache);
         tell(state, start, tree.text_len());
     }
+    Ok(())
+}
+
+/// Parses a text once. The tree stays until its length was printed, and there is no cursor.
+fn keep() -> Result<(), Failure> {
+    let text = read_input()?;
+    let tree = sexp::parse(&text);
+    println!("{} bytes", u32::from(tree.text_len()));
     Ok(())
 }
 

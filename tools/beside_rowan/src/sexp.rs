@@ -74,16 +74,12 @@ pub type SyntaxElement = rowan::SyntaxElement<Lang>;
 /// The kind of a token and its text.
 type Token<'a> = (SyntaxKind, &'a str);
 
-/// Cuts a text into its tokens: a parenthesis each, and the longest runs of white space and of other characters.
-pub fn lex(text: &str) -> Vec<Token<'_>> {
-    let mut tokens = Vec::new();
-    let mut rest = text;
-    while let Some((kind, len)) = first_token(rest) {
-        let (token, others) = rest.split_at(len);
-        tokens.push((kind, token));
-        rest = others;
-    }
-    tokens
+/// Cuts the first token off a text, and gives what is behind it: a parenthesis, or the longest run of white space or of other
+/// characters. As the port's parser does, so that neither has a list of tokens beside the tree.
+fn split_token(text: &str) -> Option<(Token<'_>, &str)> {
+    let (kind, len) = first_token(text)?;
+    let (token, rest) = text.split_at(len);
+    Some(((kind, token), rest))
 }
 
 /// The kind of the first token and its length in bytes, unless the text is empty.
@@ -117,8 +113,10 @@ pub fn parse_with(text: &str, cache: &mut NodeCache) -> GreenNode {
     let mut builder = GreenNodeBuilder::with_cache(cache);
     builder.start_node(SyntaxKind::ROOT.into());
     let mut open_lists = 0;
-    for (kind, text) in lex(text) {
-        open_lists = place(&mut builder, open_lists, kind, text);
+    let mut rest = text;
+    while let Some(((kind, token), others)) = split_token(rest) {
+        open_lists = place(&mut builder, open_lists, kind, token);
+        rest = others;
     }
     for _list in 0..open_lists {
         builder.finish_node();

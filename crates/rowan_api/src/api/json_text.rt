@@ -1,35 +1,79 @@
 //! Nodes and tokens as the text of their JSON.
-ghost use Rattle.std.specs.Prelude.{◌≡◌, [], IfOk, OnOk, string_bytes};
+ghost use Rattle.std.specs.Prelude.{◌≡◌, ◌<◌, [], ◌∷◌, ◌++◌, IfOk, OnOk, string_bytes};
+ghost use Rattle.std.specs.List.{AllByRecursion};
 ghost use Rattle.json.specs.Print.{print};
 ghost use Rattle.serde_json.specs.Written.{compact_text};
-ghost use Rattle.rowan_api.specs.Printed.{called, tree_json};
-ghost use Rattle.rowan_api.specs.Spelled.{Spells, begun, ended, kind_tokens, range_tokens, tree_tokens};
+ghost use Rattle.rowan_green.specs.Term.{node_len};
+ghost use Rattle.rowan_api.specs.Opened.{open_size, IsWithin};
+ghost use Rattle.rowan_api.specs.Printed.{called, extent, node_json, token_object, tree_json};
+ghost use Rattle.rowan_api.specs.Spelled.{Spells, SpellsUpTo, begun, ended, kind_tokens, range_tokens, value_tokens, open_tokens};
 
 use crate::api::language::Language;
+use crate::api::open_node::OpenNode;
 use json::Writer;
-use rowan_cursor::cursor::{SyntaxElement, SyntaxNode, SyntaxToken};
-use rowan_green::green::SyntaxKind;
+use rowan_cursor::cursor::SyntaxToken;
+use rowan_green::green::{GreenNode, GreenToken, SyntaxKind};
 use rowan_green::text::TextRange;
-use rowan_green::utility_types::{NodeOrToken, WalkEvent};
+use rowan_green::utility_types::NodeOrToken;
 use std::alloc::{AllocError, Global};
 
-// The text of the value of a node and of all that is in it.
-pub(super) fn node_text<L: Language>(alloc: Global, node: &SyntaxNode) -> Result<String, AllocError>
-    ensures { IfOk result (λ s.
-        string_bytes s ≡ compact_text (tree_json (called L.name L.meaning) node.now)) }
+// The text of the value of a node, whose text lies at a range, and of all that is in it.
+pub(super) fn tree_text<L: Language>(
+    alloc: Global,
+    root: &GreenNode,
+    range: TextRange,
+) -> Result<String, AllocError>
+    requires { range ≡ extent range.start (node_len root.now) }
+    ensures { IfOk result (λ s. string_bytes s
+        ≡ compact_text (node_json (called L.name L.meaning) range.start root.now)) }
 {
-    let len = u32::from(node.green().text_len());
+    let len = u32::from(range.len());
     let mut out = Writer::new(Vec::with_capacity(alloc, len as usize)?);
-    for event in node.preorder_with_tokens() {
-        let Ok(event) = event else {
-            return Err(AllocError);
-        };
-        match event {
-            WalkEvent::Enter(element) => write_beginning::<L>(&mut out, &element)?,
-            WalkEvent::Leave(element) => write_end::<L>(&mut out, &element)?,
-        }
+    let mut opened = Vec::new(alloc);
+    write_beginning(&mut out)?;
+    if opened.push(OpenNode::new(root, range.start())).is_err() {
+        return Err(AllocError);
+    }
+    while let Some(parent) = opened.pop() {
+        write_child::<L>(&mut out, &mut opened, &parent)?;
     }
     Ok(text_of(out))
+}
+
+// Writes the value of the next child of a node, of a node up to those of its children. The node is open still, and so is then the
+// child, if it is a node. Where no child is left it writes the end of the node, which is open no more.
+fn write_child<'a, L: Language>(
+    out: &mut Writer,
+    opened: &mut Vec<OpenNode<'a>>,
+    parent: &OpenNode<'a>,
+) -> Result<(), AllocError>
+    requires { IsWithin parent.now }
+    ensures tokens { let left = open_tokens (called L.name L.meaning) in
+        OnOk result (SpellsUpTo out.old out.new (left (opened.old.items ++ parent.now ∷ []))
+        (left opened.new.items)) }
+    ensures within { AllByRecursion IsWithin opened.old.items
+        → OnOk result (AllByRecursion IsWithin opened.new.items) }
+    ensures smaller { OnOk result
+        (open_size opened.new.items < open_size (opened.old.items ++ parent.now ∷ [])) }
+{
+    let Some(found) = parent.next_child() else {
+        return write_end::<L>(out, parent.green().kind(), parent.range());
+    };
+    let (start, child) = found;
+    if opened.push(parent.past_child()).is_err() {
+        return Err(AllocError);
+    }
+    match child {
+        NodeOrToken::Node(node) => {
+            if opened.push(OpenNode::new(node, start)).is_err() {
+                return Err(AllocError);
+            }
+            write_beginning(out)
+        }
+        NodeOrToken::Token(token) => {
+            write_token::<L>(out, token, TextRange::at(start, token.text_len()))
+        }
+    }
 }
 
 // The text of the value of a token.
@@ -41,7 +85,7 @@ pub(super) fn token_text<L: Language>(
         string_bytes s ≡ compact_text (tree_json (called L.name L.meaning) token.now)) }
 {
     let mut out = Writer::new(Vec::new(alloc));
-    write_token::<L>(&mut out, token)?;
+    write_token::<L>(&mut out, token.green(), token.text_range())?;
     Ok(text_of(out))
 }
 
@@ -56,47 +100,43 @@ fn text_of(out: Writer) -> String
     }
 }
 
-// What stands before the values of the children of a node, and the whole value of a token.
-fn write_beginning<L: Language>(out: &mut Writer, element: &SyntaxElement) -> Result<(), AllocError>
-    ensures { OnOk result (Spells out.old out.new
-        (begun (called L.name L.meaning) element.now)) }
+// What stands before the values of the children of a node.
+fn write_beginning(out: &mut Writer) -> Result<(), AllocError>
+    ensures { OnOk result (Spells out.old out.new begun) }
 {
-    match element {
-        NodeOrToken::Node(_) => {
-            out.begin_object()?;
-            out.key("children")?;
-            out.begin_array()
-        }
-        NodeOrToken::Token(token) => write_token::<L>(out, token),
-    }
+    out.begin_object()?;
+    out.key("children")?;
+    out.begin_array()
 }
 
 // What stands behind the values of the children of a node.
-fn write_end<L: Language>(out: &mut Writer, element: &SyntaxElement) -> Result<(), AllocError>
-    ensures { OnOk result (Spells out.old out.new
-        (ended (called L.name L.meaning) element.now)) }
+fn write_end<L: Language>(
+    out: &mut Writer,
+    kind: SyntaxKind,
+    range: TextRange,
+) -> Result<(), AllocError>
+    ensures { OnOk result
+        (Spells out.old out.new (ended (called L.name L.meaning kind.0) range)) }
 {
-    match element {
-        NodeOrToken::Node(node) => {
-            out.end_array()?;
-            write_kind::<L>(out, node.green().kind())?;
-            write_range(out, node.text_range())
-        }
-        NodeOrToken::Token(_) => Ok(()),
-    }
+    out.end_array()?;
+    write_kind::<L>(out, kind)?;
+    write_range(out, range)
 }
 
-// The value of a token.
-fn write_token<L: Language>(out: &mut Writer, token: &SyntaxToken) -> Result<(), AllocError>
+// The value of a token, whose text lies at a range.
+fn write_token<L: Language>(
+    out: &mut Writer,
+    token: &GreenToken,
+    range: TextRange,
+) -> Result<(), AllocError>
     ensures { OnOk result (Spells out.old out.new
-        (tree_tokens (called L.name L.meaning) token.now)) }
+        (value_tokens (token_object (called L.name L.meaning token.now.kind) range token.now.text))) }
 {
-    let green = token.green();
     out.begin_object()?;
-    write_kind::<L>(out, green.kind())?;
+    write_kind::<L>(out, token.kind())?;
     out.key("text")?;
-    out.string(green.text())?;
-    write_range(out, token.text_range())
+    out.string(token.text())?;
+    write_range(out, range)
 }
 
 // The name of the kind.

@@ -6,6 +6,7 @@ mod walks;
 ghost use Rattle.std.specs.Prelude.{◌≡◌, [], IfOk, IfErr, Some, IsAscii, string_bytes};
 ghost use Rattle.std.specs.Option.{option_map};
 ghost use Rattle.rowan_green.specs.declared.utility_types.NodeOrToken.TheVariants.{Node};
+ghost use Rattle.rowan_green.specs.Term.{node_text};
 ghost use Rattle.serde_json.specs.View.{view};
 ghost use Rattle.serde_json.specs.Written.{compact_text};
 ghost use Rattle.rowan_cursor.specs.Cursor.{StandsAt, index, kind, text_range, text_at};
@@ -19,7 +20,7 @@ use rowan_cursor::cursor;
 use rowan_cursor::syntax_text::SyntaxText;
 use rowan_green::fault::Fault;
 use rowan_green::green::GreenNode;
-use rowan_green::text::TextRange;
+use rowan_green::text::{TextRange, TextSize};
 use serde_json::Value;
 use std::alloc::{AllocError, Global};
 use std::fmt;
@@ -156,7 +157,18 @@ impl<L: Language> SyntaxNode<L> {
             string_bytes s ≡ debug_tree (called L.name L.meaning) self.now) }
         ensures err { IfErr result (λ e. e ≡ Fault.Memory) }
     {
-        Ok(printed::tree::<L>(alloc, &self.raw)?)
+        Ok(printed::tree::<L>(alloc, self.green(), self.text_range())?)
+    }
+
+    /// The lines of a tree without a cursor: what `debug_tree` gives of a cursor at its root. `Err(Fault::Memory)` for want of
+    /// memory.
+    pub fn debug_tree_of(alloc: Global, root: &GreenNode) -> Result<String, Fault>
+        ensures ok { IsAscii (node_text root.now) → IfOk result (λ s. string_bytes s
+            ≡ debug_tree (called L.name L.meaning) (record { root = root.now; path = [] })) }
+        ensures err { IfErr result (λ e. e ≡ Fault.Memory) }
+    {
+        let range = TextRange::at(TextSize::from(0), root.text_len());
+        Ok(printed::tree::<L>(alloc, root, range)?)
     }
 
     /// The node and all that is in it as JSON. A node is a map of `children`, the list of the values of its children, tokens too;
@@ -180,7 +192,18 @@ impl<L: Language> SyntaxNode<L> {
             string_bytes s ≡ compact_text (tree_json (called L.name L.meaning) self.now)) }
         ensures err { IfErr result (λ e. e ≡ Fault.Memory) }
     {
-        Ok(json_text::node_text::<L>(alloc, &self.raw)?)
+        Ok(json_text::tree_text::<L>(alloc, self.green(), self.text_range())?)
+    }
+
+    /// The JSON of a tree as text without a cursor: what `to_json_string` gives of a cursor at its root. `Err(Fault::Memory)` for
+    /// want of memory.
+    pub fn to_json_string_of(alloc: Global, root: &GreenNode) -> Result<String, Fault>
+        ensures ok { IfOk result (λ s. string_bytes s ≡ compact_text
+            (tree_json (called L.name L.meaning) (record { root = root.now; path = [] }))) }
+        ensures err { IfErr result (λ e. e ≡ Fault.Memory) }
+    {
+        let range = TextRange::at(TextSize::from(0), root.text_len());
+        Ok(json_text::tree_text::<L>(alloc, root, range)?)
     }
 }
 

@@ -1,17 +1,20 @@
 //! Nodes and tokens as text: a line for each.
-ghost use Rattle.std.specs.Prelude.{◌≡◌, ◌++◌, ◌*◌, codes, length, replicate, string_bytes, IsAscii, IfOk, OnOk, ◌≤◌};
-ghost use Rattle.std.specs.List.{flat_map, list_all};
+ghost use Rattle.std.specs.Prelude.{◌≡◌, [], ◌∷◌, ◌++◌, ◌+◌, ◌*◌, codes, length, replicate, string_bytes, IsAscii, IfOk, OnOk, ◌<◌, ◌≤◌};
+ghost use Rattle.std.specs.List.{flat_map, list_all, AllByRecursion};
 ghost use Rattle.std.specs.Fmt.{debug_escape};
+ghost use Rattle.rowan_green.specs.Fits.{byte_limit};
+ghost use Rattle.rowan_green.specs.Term.{node_len, node_text, token_len};
 ghost use Rattle.rowan_cursor.specs.Cursor.{text_at};
-ghost use Rattle.rowan_cursor.specs.Moves.{place_of};
-ghost use Rattle.rowan_api.specs.Printed.{called, beginning, shown, quoted, is_plain, headline, debug_line, debug_tree};
+ghost use Rattle.rowan_api.specs.Opened.{open_lines, open_size, IsPlain, IsWithin};
+ghost use Rattle.rowan_api.specs.Printed.{called, beginning, shown, quoted, is_plain, extent, headline, node_line, token_line, node_lines, debug_line};
 
 use crate::api::language::Language;
+use crate::api::open_node::OpenNode;
 use itoa::Buffer;
-use rowan_cursor::cursor::{SyntaxElement, SyntaxNode, SyntaxToken};
-use rowan_green::green::SyntaxKind;
-use rowan_green::text::TextRange;
-use rowan_green::utility_types::{NodeOrToken, WalkEvent};
+use rowan_cursor::cursor::{SyntaxNode, SyntaxToken};
+use rowan_green::green::{GreenNode, GreenToken, SyntaxKind};
+use rowan_green::text::{TextRange, TextSize};
+use rowan_green::utility_types::NodeOrToken;
 use std::alloc::{AllocError, Global};
 
 // Two spaces for each of the levels that one push indents.
@@ -24,28 +27,94 @@ const LONG: usize = 25;
 
 const CUT: usize = 21;
 
-// The lines of a node and all that is in it.
-pub(super) fn tree<L: Language>(alloc: Global, node: &SyntaxNode) -> Result<String, AllocError>
-    ensures { IsAscii (text_at node.now) →
-        IfOk result (λ s. string_bytes s ≡ debug_tree (called L.name L.meaning) node.now) }
+// The lines of a node, whose text lies at a range, and of all that is in it.
+pub(super) fn tree<L: Language>(
+    alloc: Global,
+    root: &GreenNode,
+    range: TextRange,
+) -> Result<String, AllocError>
+    requires { range ≡ extent range.start (node_len root.now) }
+    ensures { IsAscii (node_text root.now) → IfOk result (λ s.
+        string_bytes s ≡ node_lines (called L.name L.meaning) range.start 0 root.now) }
 {
+    let start = range.start();
     let mut text = String::new(alloc);
-    let mut level: usize = 0;
-    for event in node.preorder_with_tokens() {
-        let Ok(event) = event else {
-            return Err(AllocError);
-        };
-        match event {
-            WalkEvent::Enter(element) => {
-                push_indent(&mut text, level)?;
-                push_element::<L>(&mut text, &element)?;
-                text.push_str("\n")?;
-                level = level.saturating_add(1);
-            }
-            WalkEvent::Leave(_) => level = level.saturating_sub(1),
-        }
+    let mut opened = Vec::new(alloc);
+    push_node::<L>(&mut text, root, start)?;
+    if opened.push(OpenNode::new(root, start)).is_err() {
+        return Err(AllocError);
+    }
+    while let Some(parent) = opened.pop() {
+        push_child::<L>(&mut text, &mut opened, &parent)?;
     }
     Ok(text)
+}
+
+// Writes the line of the next child of a node. The node is open still, and so is then the child, if it is a node. Where no child
+// is left, the node is open no more.
+fn push_child<'a, L: Language>(
+    text: &mut String,
+    opened: &mut Vec<OpenNode<'a>>,
+    parent: &OpenNode<'a>,
+) -> Result<(), AllocError>
+    requires { IsWithin parent.now }
+    ensures lines { let lines = open_lines (called L.name L.meaning) 1 in
+        IsPlain parent.now → OnOk result (string_bytes text.new ++ lines opened.new.items
+        ≡ string_bytes text.old ++ lines (opened.old.items ++ parent.now ∷ [])) }
+    ensures plain { AllByRecursion IsPlain (opened.old.items ++ parent.now ∷ [])
+        → OnOk result (AllByRecursion IsPlain opened.new.items) }
+    ensures within { AllByRecursion IsWithin opened.old.items
+        → OnOk result (AllByRecursion IsWithin opened.new.items) }
+    ensures smaller { OnOk result
+        (open_size opened.new.items < open_size (opened.old.items ++ parent.now ∷ [])) }
+{
+    let Some(found) = parent.next_child() else {
+        return Ok(());
+    };
+    let (start, child) = found;
+    if opened.push(parent.past_child()).is_err() {
+        return Err(AllocError);
+    }
+    push_indent(text, opened.len())?;
+    match child {
+        NodeOrToken::Node(node) => {
+            if opened.push(OpenNode::new(node, start)).is_err() {
+                return Err(AllocError);
+            }
+            push_node::<L>(text, node, start)
+        }
+        NodeOrToken::Token(token) => push_token::<L>(text, token, start),
+    }
+}
+
+// The line of a node whose text starts at an offset, and its newline.
+fn push_node<L: Language>(
+    text: &mut String,
+    node: &GreenNode,
+    start: TextSize,
+) -> Result<(), AllocError>
+    requires { start + node_len node.now ≤ byte_limit }
+    ensures { OnOk result (string_bytes text.new ≡ string_bytes text.old
+        ++ node_line (called L.name L.meaning) start node.now ++ codes "\n") }
+{
+    push_headline::<L>(text, node.kind(), TextRange::at(start, node.text_len()))?;
+    text.push_str("\n")
+}
+
+// The line of a token whose text starts at an offset, and its newline.
+fn push_token<L: Language>(
+    text: &mut String,
+    token: &GreenToken,
+    start: TextSize,
+) -> Result<(), AllocError>
+    requires { start + token_len token.now ≤ byte_limit }
+    ensures { IsAscii token.now.text → OnOk result (string_bytes text.new ≡ string_bytes text.old
+        ++ token_line (called L.name L.meaning) start token.now ++ codes "\n") }
+{
+    push_headline::<L>(text, token.kind(), TextRange::at(start, token.text_len()))?;
+    text.push_str(" ")?;
+    push_quoted(text, token.text())?;
+    text.push_str("\n")
 }
 
 // The line of a node.
@@ -53,7 +122,7 @@ pub(super) fn node_line<L: Language>(alloc: Global, node: &SyntaxNode) -> Result
     ensures { IfOk result (λ s. string_bytes s ≡ debug_line (called L.name L.meaning) node.now) }
 {
     let mut line = String::new(alloc);
-    push_node::<L>(&mut line, node)?;
+    push_headline::<L>(&mut line, node.green().kind(), node.text_range())?;
     Ok(line)
 }
 
@@ -66,36 +135,11 @@ pub(super) fn token_line<L: Language>(
         IfOk result (λ s. string_bytes s ≡ debug_line (called L.name L.meaning) token.now) }
 {
     let mut line = String::new(alloc);
-    push_token::<L>(&mut line, token)?;
-    Ok(line)
-}
-
-fn push_element<L: Language>(text: &mut String, element: &SyntaxElement) -> Result<(), AllocError>
-    ensures { let place = place_of element.now in IsAscii (text_at place) →
-        OnOk result (string_bytes text.new
-        ≡ string_bytes text.old ++ debug_line (called L.name L.meaning) place) }
-{
-    match element {
-        NodeOrToken::Node(node) => push_node::<L>(text, node),
-        NodeOrToken::Token(token) => push_token::<L>(text, token),
-    }
-}
-
-fn push_node<L: Language>(text: &mut String, node: &SyntaxNode) -> Result<(), AllocError>
-    ensures { OnOk result (string_bytes text.new
-        ≡ string_bytes text.old ++ debug_line (called L.name L.meaning) node.now) }
-{
-    push_headline::<L>(text, node.green().kind(), node.text_range())
-}
-
-fn push_token<L: Language>(text: &mut String, token: &SyntaxToken) -> Result<(), AllocError>
-    ensures { IsAscii (text_at token.now) → OnOk result (string_bytes text.new
-        ≡ string_bytes text.old ++ debug_line (called L.name L.meaning) token.now) }
-{
     let green = token.green();
-    push_headline::<L>(text, green.kind(), token.text_range())?;
-    text.push_str(" ")?;
-    push_quoted(text, green.text())
+    push_headline::<L>(&mut line, green.kind(), token.text_range())?;
+    line.push_str(" ")?;
+    push_quoted(&mut line, green.text())?;
+    Ok(line)
 }
 
 // The name of the kind, and the range.

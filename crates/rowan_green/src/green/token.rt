@@ -4,7 +4,7 @@ ghost use Rattle.rowan_green.specs.Term.{token_of, token_len};
 
 use crate::fault::Fault;
 use crate::green::SyntaxKind;
-use crate::green::token_text::TokenText;
+use crate::green::token_data::TokenData;
 use crate::text::TextSize;
 use std::alloc::{AllocError, Global};
 use std::fmt;
@@ -19,12 +19,6 @@ pub struct GreenToken {
     data: Rc<TokenData>,
 }
 
-#[derive(Drop)]
-struct TokenData {
-    kind: SyntaxKind,
-    text: TokenText,
-}
-
 /// Rust's rowan has a type of its own for what a token refers to. Here it is the token.
 pub type GreenTokenData = GreenToken;
 
@@ -32,12 +26,13 @@ impl Model for GreenToken {
     ghost use Rattle.std.specs.Prelude.{◌≤◌, length};
     ghost use Rattle.rowan_green.specs.Term.{TokenTerm};
     ghost use Rattle.rowan_green.specs.Fits.{byte_limit};
+    ghost use Rattle.rowan_green.specs.TokenData.{stored_text, stored_token};
 
     ghost Value = { TokenTerm };
 
-    ghost view = { λ t. record { kind = t.data.value.kind.0; text = t.data.value.text } };
+    ghost view = { λ t. stored_token t.data.value };
 
-    ghost invariant = { λ t. length t.data.value.text ≤ byte_limit };
+    ghost invariant = { λ t. length (stored_text t.data.value) ≤ byte_limit };
 }
 
 impl GreenToken {
@@ -51,8 +46,7 @@ impl GreenToken {
         if text.len() > u32::MAX as usize {
             return Err(Fault::TextTooLong);
         }
-        let text = TokenText::new(alloc, text)?;
-        let data = Rc::new(alloc, TokenData { kind, text })?;
+        let data = Rc::new(alloc, TokenData::new(alloc, kind, text)?)?;
         Ok(GreenToken { data })
     }
 
@@ -60,14 +54,14 @@ impl GreenToken {
     pub fn kind(&self) -> SyntaxKind
         ensures { result.0 ≡ self.now.kind }
     {
-        self.data.kind
+        self.data.kind()
     }
 
     /// The text of the token.
     pub fn text(&self) -> &str
         ensures { result.now ≡ self.now.text }
     {
-        self.data.text.as_str()
+        self.data.as_str()
     }
 
     /// The number of bytes of the token's text.
@@ -75,7 +69,7 @@ impl GreenToken {
         ensures len { result ≡ token_len self.now }
         ensures fits { FitsToken self.now }
     {
-        TextSize::from(self.data.text.as_str().len() as u32)
+        TextSize::from(self.data.as_str().len() as u32)
     }
 }
 

@@ -1,57 +1,53 @@
-use Rattle.std.proofs.Common.{◌≤◌, ◌+◌, ◌++◌, Some, Ok, codes, string_bytes, arith, sym, ◌∙◌, ap, subst}
-use Rattle.std.proofs.Math.Nat.{min-eq_left}
-use Rattle.rowan_cursor.specs.Moves.{place_of}
-use Rattle.rowan_cursor.specs.Yields.{YieldsOrRefuses}
-use Rattle.rowan_api.specs.Printed.{called, debug_line}
-use Rattle.rowan_api.proofs.PrintedLemmas.{writes-first, writes-enter, writes-leave, writes-all, WritesAscii, indented-behind}
+use Rattle.std.proofs.Common.{◌≡◌, ◌+◌, ◌++◌, ◌∷◌, [], codes, string_bytes, sym, ◌∙◌, ap, subst, arith, append-nil}
+use Rattle.std.specs.List.{AllByRecursion}
+use Rattle.rowan_green.specs.Span.{Span}
+use Rattle.rowan_green.specs.Term.{node_len}
+use Rattle.rowan_api.specs.Opened.{open_lines, IsPlain, IsWithin}
+use Rattle.rowan_api.specs.Printed.{called, node_line}
+use Rattle.rowan_api.proofs.PrintedLemmas.{pushed, none-open, lines-node, left_lines-entered, all-front, all-last, plain-node}
 use Rattle.rowan_api.proofs.api.printed.tree.Goals as goal
-use Rattle.rowan_api.proofs.api.printed.tree.Goals.{in-Enter+in_ok-push_indent-in-Enter+in_ok-push_element-in-Enter+in_ok-push_str-in-Enter, in-Leave}
 
-pub loop-event-init : goal.loop-event-init
-loop-event-init g c =
-    let name = called g.L.Language.name g.L.Language.meaning in (
-      tt,
-      tt,
-      writes-first name c.args.node.now c.into_iter-event-iterator.result (string_bytes c.new-text.result) c.new-text.ensures.bytes
-          (rw c.into_iter-event-iterator.ensures.into_iter_gives c.preorder_with_tokens-event-items.ensures.ok),
-    )
-
-pub loop-event-preserved : goal.loop-event-preserved
-loop-event-preserved g c =
+pub loop-parent-init : goal.loop-parent-init
+loop-parent-init g c =
     let name = called g.L.Language.name g.L.Language.meaning in
-    let root = c.args.node.now in
-    let before = c.loop-event.event-iterator in
-    let after = c.next.new.self in
-    let text = string_bytes c.loop-event.text in
-    let level = c.loop-event.level in
-    let step = subst (λ r. YieldsOrRefuses before (Some r) after) c.in-Ok.is c.in-Some.ensures.steps in
-    elim c.match-event-2.branch [
-      | in-Enter+in_ok-push_indent-in-Enter+in_ok-push_element-in-Enter+in_ok-push_str-in-Enter w ↦
-          let place = place_of w.in-Enter.element in
-          let line = debug_line name place in (
-            tt,
-            tt,
-            writes-enter name root before after w.in-Enter.element text (string_bytes c.match-event-2.text) level c.match-event-2.level c.loop-event.invariant.2
-                (subst (λ ev. YieldsOrRefuses before (Some (Ok ev)) after) w.in-Enter.is step)
-                (λ ascii. ap string_bytes w.text-is ∙ w.in_ok-push_str-in-Enter.ensures.bytes
-                ∙ ap (λ us. us ++ codes "\n") (w.in_ok-push_element-in-Enter.ensures ascii ∙ ap (λ us. us ++ line) w.in_ok-push_indent-in-Enter.ensures)
-                ∙ indented-behind text line level)
-                (λ low.
-                let small : level + 1 ≤ 18446744073709551615 = omega (arith, c.loop-event.text.bytes.small, c.loop-event.text.bytes.ok.0, c.loop-event.text.bytes.ok.1) in
-                w.level-is ∙ w.saturating_add-level.ensures ∙ min-eq_left small),
-          )
-      | in-Leave w ↦ (
-        tt,
-        tt,
-        writes-leave name root before after w.in-Leave.field-0 (string_bytes c.match-event-2.text) level c.match-event-2.level
-            (subst (λ us. WritesAscii name root us level before) (sym (ap string_bytes w.text-is)) c.loop-event.invariant.2)
-            (subst (λ ev. YieldsOrRefuses before (Some (Ok ev)) after) w.in-Leave.is step)
-            (w.level-is ∙ w.saturating_sub-level.ensures),
-      )
-    ]
+    let root = c.args.root.now in
+    let from = c.args.range.start in
+    let line = node_line name from root in
+    let begins = c.new.ensures.start ∙ c.start-start.ensures.offset in
+    let first : c.push.new.self.items ≡ c.new.result ∷ [] =
+    pushed c.is_err.result _ c.new-opened.result.items c.push.new.self.items c.new.result c.if-is_err.false c.is_err.ensures.negation c.push.ensures.items
+    ∙ ap (λ ns. ns ++ c.new.result ∷ []) c.new-opened.ensures.items in
+    record {
+      within = subst (AllByRecursion IsWithin) (sym first) (omega (arith, ap (λ (s : Span). s.end) c.requires, begins, ap node_len c.new.ensures.green), tt);
+      plain = λ ascii. subst (AllByRecursion IsPlain) (sym first) (plain-node c.new.result root c.new.ensures.green c.new.ensures.next ascii, tt);
+      lines = λ ascii.
+          ap (λ ns. string_bytes c.push_node.new.text ++ open_lines name 1 ns) first
+          ∙ ap (λ us. us ++ open_lines name 1 (c.new.result ∷ [])) (c.in_ok-push_node.ensures ∙ ap (λ us. us ++ node_line name c.start-start.result root ++ codes "\n") c.new-text.ensures.bytes)
+          ∙ ap (λ s. node_line name s root ++ codes "\n" ++ open_lines name 1 (c.new.result ∷ [])) c.start-start.ensures.offset
+          ∙ ap (λ us. line ++ codes "\n" ++ us) (left_lines-entered name from 1 c.new.result root c.new.ensures.green begins c.new.ensures.next)
+          ∙ sym (lines-node name from 0 root);
+    }
+
+pub push_child-requires : goal.push_child-requires
+push_child-requires g c =
+    all-last IsWithin c.pop.new.self.items c.in-Some.parent (subst (AllByRecursion IsWithin) c.in-Some.ensures.items c.loop-parent.invariant.within)
+
+pub loop-parent-preserved : goal.loop-parent-preserved
+loop-parent-preserved g c =
+    let name = called g.L.Language.name g.L.Language.meaning in
+    let rest = c.pop.new.self.items in
+    let items = c.in-Some.ensures.items in
+    record {
+      within = c.in_ok-push_child.ensures.within (all-front IsWithin rest c.in-Some.parent (subst (AllByRecursion IsWithin) items c.loop-parent.invariant.within));
+      plain = λ ascii. c.in_ok-push_child.ensures.plain (subst (AllByRecursion IsPlain) items (c.loop-parent.invariant.plain ascii));
+      lines = λ ascii.
+          c.in_ok-push_child.ensures.lines (all-last IsPlain rest c.in-Some.parent (subst (AllByRecursion IsPlain) items (c.loop-parent.invariant.plain ascii)))
+          ∙ ap (λ ns. string_bytes c.loop-parent.text ++ open_lines name 1 ns) (sym items) ∙ c.loop-parent.invariant.lines ascii;
+    }
 
 pub returns : goal.returns
-returns g c =
+returns g c = λ ascii.
     let name = called g.L.Language.name g.L.Language.meaning in
-    writes-all name c.args.node.now c.loop-event.event-iterator c.next.new.self (string_bytes c.loop-event.text) c.loop-event.level c.loop-event.invariant.2
-    c.in-None.ensures.steps
+    let text = string_bytes c.loop-parent.text in
+    let none : c.loop-parent.opened.items ≡ [] = none-open c.loop-parent.opened.items (omega (arith, c.in_default.ensures.cases.0, c.loop-parent.opened.ok.0)) in
+    sym (append-nil text) ∙ ap (λ ns. text ++ open_lines name 1 ns) (sym none) ∙ c.loop-parent.invariant.lines ascii
