@@ -1,6 +1,6 @@
 -- The table of the values that a cache keeps, by which it finds the number of a term: for a token from its kind and text, and
 -- for a node from its kind and the numbers of its children.
-use Rattle.std.specs.Prelude.{◌≡◌, ℕ, ◌+◌, ◌≤◌, Bool, false, bit_and, nat_eq, ◌==◌, ◌&&◌, List, [], ◌∷◌, length, map, take, drop, fold, Some}
+use Rattle.std.specs.Prelude.{◌≡◌, ℕ, ◌+◌, ◌≤◌, Bool, false, bit_and, bit_xor, nat_eq, ◌==◌, ◌&&◌, List, [], ◌∷◌, length, map, take, drop, fold, Some}
 use Rattle.std.specs.Cmp.Lexicographic.{pointwise}
 use Rattle.std.specs.Hash as fed
 use Rattle.std.specs.Hash.FoldHasher.{initial, write, finish}
@@ -15,17 +15,17 @@ use Rattle.rowan_green.specs.Cache.{first_seen, count_tokens}
 
 -- ---- what a term is found by
 
--- the last 32 bits
-abbrev pub low_bits : ℕ → ℕ
-low_bits n = bit_and n 4294967295
+-- the last 32 bits of a hash, with a kind in them
+abbrev pub with_kind : ℕ → ℕ → ℕ
+with_kind kind hash = bit_xor (bit_and hash 4294967295) kind
 
 -- the hash of a token's kind and text
 unfoldable pub token_hash : ℕ → List ℕ → ℕ
-token_hash kind text = low_bits (finish (write (fold write initial (fed.u16 kind)) text))
+token_hash kind text = with_kind kind (finish (write initial text))
 
 -- the hash of a node's kind and of the numbers of its children
 unfoldable pub node_hash : ℕ → List ℕ → ℕ
-node_hash kind numbers = low_bits (finish (fold write (fold write initial (fed.u16 kind)) (flat_map fed.u32 numbers)))
+node_hash kind numbers = with_kind kind (finish (fold write initial (flat_map fed.u32 numbers)))
 
 -- the hash by which a term is found, whose children have these numbers
 abbrev pub key_hash : Term → List ℕ → ℕ

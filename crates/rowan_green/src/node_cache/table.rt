@@ -6,7 +6,7 @@ ghost use Rattle.rowan_green.specs.Term.{Term, token_of, node_of};
 ghost use Rattle.rowan_green.specs.Same.{same_term};
 ghost use Rattle.rowan_green.specs.Cache.{is_among};
 ghost use Rattle.rowan_green.specs.Path.{term_children};
-ghost use Rattle.rowan_green.specs.Tables.{low_bits, token_hash, node_hash, key_hash, is_node_by, StandAt, KeepsLimits};
+ghost use Rattle.rowan_green.specs.Tables.{with_kind, token_hash, node_hash, key_hash, is_node_by, StandAt, KeepsLimits};
 
 use crate::green::{GreenElement, SyntaxKind};
 use crate::node_cache::chains::Chains;
@@ -176,9 +176,8 @@ pub(super) fn token_hash(kind: SyntaxKind, text: &str) -> u32
     ensures { result ≡ token_hash kind.0 text.now }
 {
     let mut state = FoldHasher::default();
-    state.write_u16(kind.0);
     state.write(text.as_bytes());
-    low_bits(state.finish())
+    with_kind(kind, state.finish())
 }
 
 // The hash of a node's kind and of the numbers of its children.
@@ -186,15 +185,15 @@ pub(super) fn node_hash(kind: SyntaxKind, numbers: &[u32]) -> u32
     ensures { result ≡ node_hash kind.0 numbers.now }
 {
     let mut state = FoldHasher::default();
-    state.write_u16(kind.0);
     for number in numbers {
         state.write_u32(*number);
     }
-    low_bits(state.finish())
+    with_kind(kind, state.finish())
 }
 
-fn low_bits(hash: u64) -> u32
-    ensures { result ≡ low_bits hash }
+// The last 32 bits of a hash, with a kind in them.
+fn with_kind(kind: SyntaxKind, hash: u64) -> u32
+    ensures { result ≡ with_kind kind.0 hash }
 {
-    (hash & u64::from(u32::MAX)) as u32
+    (hash & u64::from(u32::MAX)) as u32 ^ u32::from(kind.0)
 }

@@ -48,6 +48,7 @@ impl Waiting {
     }
 
     // Makes room for one more.
+    #[inline(always)]
     pub(crate) fn reserve(&mut self) -> Result<(), AllocError>
         ensures same { IsSame self.old self.new }
         ensures room { OnOk result (HasRoom self.new) }
@@ -57,6 +58,8 @@ impl Waiting {
         Ok(())
     }
 
+    // Inlined, so that what is pushed need not be in memory first.
+    #[inline(always)]
     pub(crate) fn push(&mut self, interned: Interned)
         requires { HasRoom self.old }
         ensures elements { elements self.new ≡ elements self.old ++ interned.element ∷ [] }

@@ -6,4 +6,4 @@ use Rattle.rowan_green.proofs.node_cache.table.node_hash.Given as goal
 
 abbrev pub invariant-loop-number : goal.invariant-loop-number
 invariant-loop-number l =
-    l.state ≡ fold write (fold write initial (fed.u16 l.fn.kind.0)) (flat_map fed.u32 (take l.number-index l.numbers))
+    l.state ≡ fold write initial (flat_map fed.u32 (take l.number-index l.numbers))
