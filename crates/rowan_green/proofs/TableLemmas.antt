@@ -15,7 +15,7 @@ use Rattle.rowan_green.specs.Same.{same_term, same_term-decides}
 use Rattle.rowan_green.specs.Path.{term_children}
 use Rattle.rowan_green.specs.Cache.{is_among}
 use Rattle.rowan_green.specs.Chains.{ChainsValue, IsUpTo, IsNewest}
-use Rattle.rowan_green.specs.Tables.{token_hash, node_hash, key_hash, child_numbers, is_node_by, hash_of, hashes, kept_terms, StandAt, KeepsLimits, IsKept, IsIndexed}
+use Rattle.rowan_green.specs.Tables.{token_hash, node_hash, key_hash, child_numbers, is_node_by, hash_of, hashes, kept_of, kept_term, first_number, kept_terms, StandAt, KeepsLimits, IsKept, IsIndexed}
 use Rattle.rowan_green.proofs.CacheLemmas.{slice_get-cases, place_from_is_among, StandsOnce-push}
 use Rattle.rowan_green.proofs.NumberLemmas.{StandAt-terms, StandAt-numbers, StandAt-grown, StandAt-length}
 use Rattle.rowan_green.proofs.Terms.{terms-forest, forest-terms}
@@ -89,8 +89,8 @@ IsAhead-none ks bs b test a n k at = false_from_ne_true (test k) (λ on. a.ahead
 
 -- ---- the tests
 
-pub token_hits : (all : List ℕ) (kind : ℕ) (text : List ℕ) (k : Kept) → same_term k.element (Token (token_of kind text)) ≡ true → hash_of all k ≡ token_hash kind text
-token_hits all kind text k on = ap (λ t. key_hash t (child_numbers all k)) ((same_term-decides k.element (Token (token_of kind text))).0 on)
+pub token_hits : (all : List ℕ) (kind : ℕ) (text : List ℕ) (k : Kept) → same_term (kept_term k) (Token (token_of kind text)) ≡ true → hash_of all k ≡ token_hash kind text
+token_hits all kind text k on = ap (λ t. key_hash t (child_numbers all k)) ((same_term-decides (kept_term k) (Token (token_of kind text))).0 on)
 
 -- what is known of a node that passes
 pub is_node_by-parts : (all : List ℕ) (kind : ℕ) (numbers : List ℕ) (k : Kept) (t : Term) → is_node_by all kind numbers k t ≡ true → (n : NodeTerm) × (t ≡ Node n) × (node_kind n ≡ kind) × (child_numbers all k ≡ numbers)
@@ -103,9 +103,9 @@ pub is_node_by-same : (all : List ℕ) (kind : ℕ) (numbers : List ℕ) (k : Ke
 is_node_by-same all kind numbers k n same_kind same_numbers =
     and_from (nat_eq (node_kind n) kind) (pointwise nat_eq (child_numbers all k) numbers) ((Decides-eqb (node_kind n) kind).1 same_kind) ((bytes_decides (child_numbers all k) numbers).1 same_numbers)
 
-pub node_hits : (all : List ℕ) (kind : ℕ) (numbers : List ℕ) (k : Kept) → is_node_by all kind numbers k k.element ≡ true → hash_of all k ≡ node_hash kind numbers
+pub node_hits : (all : List ℕ) (kind : ℕ) (numbers : List ℕ) (k : Kept) → is_node_by all kind numbers k (kept_term k) ≡ true → hash_of all k ≡ node_hash kind numbers
 node_hits all kind numbers k on =
-    let p = is_node_by-parts all kind numbers k k.element on in
+    let p = is_node_by-parts all kind numbers k (kept_term k) on in
     ap (λ t. key_hash t (child_numbers all k)) p.1 ∙ ap (λ j. node_hash j (child_numbers all k)) p.2 ∙ ap (λ ns. node_hash kind ns) p.3
 
 node_of-parts : (n : NodeTerm) → n ≡ node_of (node_kind n) (node_children n)
@@ -114,45 +114,66 @@ node_of-parts (node k f) = ap (λ g. node k g) (sym (forest-terms f))
 pub places-length : {ks : List Kept} {all : List ℕ} {chains : ChainsValue} → IsIndexed ks all chains → length chains.hashes ≡ length ks
 places-length {ks} {all} h = ap length h.hashed ∙ length-map ks (hash_of all)
 
+-- ---- a term as it is kept
+
+kept_of-term : (first : ℕ) (t : Term) → kept_term (kept_of first t) ≡ t
+kept_of-term first (Node n) = refl
+kept_of-term first (Token t) = refl
+
+kept_of-first : (first : ℕ) (t : Term) → first_number (kept_of first t) ≤ first
+kept_of-first first (Node n) = omega arith
+kept_of-first first (Token t) = omega arith
+
+no_numbers : (seen : List Term) (numbers : List ℕ) → StandAt seen numbers [] → [] ≡ numbers
+no_numbers seen [] s = refl
+no_numbers seen (n ∷ ns) s = absurd s
+
+kept_of-numbers : (seen : List Term) (all numbers : List ℕ) (t : Term) → StandAt seen numbers (term_children t)
+    → child_numbers (all ++ numbers) (kept_of (length all) t) ≡ numbers
+kept_of-numbers seen all numbers (Node n) stand =
+    let count = length (node_children n) in
+    ap (λ ns. take count ns) (drop-append_seam all numbers) ∙ take_all count numbers (omega (arith, StandAt-length seen numbers (node_children n) stand))
+kept_of-numbers seen all numbers (Token t) stand = no_numbers seen numbers stand
+
 -- ---- what a search finds
 
 module _ {ks : List Kept} {all : List ℕ} {chains : ChainsValue} (h : IsIndexed ks all chains) where
   abbrev seen : List Term
   seen = kept_terms ks
 
-  pub token_found : (t : Term) (n : ℕ) (k : Kept) → slice_get ks n ≡ Some k → same_term k.element t ≡ true → slice_get seen n ≡ Some t
-  token_found t n k at on = at_map (λ j. j.element) ks n k at ∙ ap (λ u. Some u) ((same_term-decides k.element t).0 on)
+  pub token_found : (t : Term) (n : ℕ) (k : Kept) → slice_get ks n ≡ Some k → same_term (kept_term k) t ≡ true → slice_get seen n ≡ Some t
+  token_found t n k at on = at_map kept_term ks n k at ∙ ap (λ u. Some u) ((same_term-decides (kept_term k) t).0 on)
 
-  pub token_absent : (t : Term) → ((n : ℕ) (k : Kept) → slice_get ks n ≡ Some k → same_term k.element t ≡ false) → is_among seen t ≡ false
+  pub token_absent : (t : Term) → ((n : ℕ) (k : Kept) → slice_get ks n ≡ Some k → same_term (kept_term k) t ≡ false) → is_among seen t ≡ false
   token_absent t none =
       false_from_ne_true (is_among seen t) (λ a.
       let p = place_from_is_among seen t a in
-      let q = from_map (λ j. j.element) ks p.0 t p.1 in
-      both_ways (same_term q.0.element t) (none p.0 q.0 q.1) ((same_term-decides q.0.element t).1 q.2))
+      let q = from_map kept_term ks p.0 t p.1 in
+      both_ways (same_term (kept_term q.0) t) (none p.0 q.0 q.1) ((same_term-decides (kept_term q.0) t).1 q.2))
 
   module _ (kind : ℕ) (numbers : List ℕ) (ts : List Term) (stand : StandAt seen numbers ts) where
-    pub node_found : (n : ℕ) (k : Kept) → slice_get ks n ≡ Some k → is_node_by all kind numbers k k.element ≡ true → slice_get seen n ≡ Some (Node (node_of kind ts))
+    pub node_found : (n : ℕ) (k : Kept) → slice_get ks n ≡ Some k → is_node_by all kind numbers k (kept_term k) ≡ true → slice_get seen n ≡ Some (Node (node_of kind ts))
     node_found n k at on =
-        let p = is_node_by-parts all kind numbers k k.element on in
+        let p = is_node_by-parts all kind numbers k (kept_term k) on in
         let m : NodeTerm = p.0 in
         let children : StandAt seen numbers (node_children m) =
         subst (λ ns. StandAt seen ns (node_children m)) p.3 (subst (λ t. StandAt seen (child_numbers all k) (term_children t)) p.1 (h.kept n k at).children) in
         let same : node_children m ≡ ts = StandAt-terms seen numbers (node_children m) ts children stand in
-        at_map (λ j. j.element) ks n k at ∙ ap (λ t. Some t) p.1
+        at_map kept_term ks n k at ∙ ap (λ t. Some t) p.1
         ∙ ap (λ i. Some (Node i)) (node_of-parts m ∙ ap (λ j. node_of j (node_children m)) p.2 ∙ ap (λ us. node_of kind us) same)
 
-    pub node_absent : ((n : ℕ) (k : Kept) → slice_get ks n ≡ Some k → is_node_by all kind numbers k k.element ≡ false) → is_among seen (Node (node_of kind ts)) ≡ false
+    pub node_absent : ((n : ℕ) (k : Kept) → slice_get ks n ≡ Some k → is_node_by all kind numbers k (kept_term k) ≡ false) → is_among seen (Node (node_of kind ts)) ≡ false
     node_absent none =
         let t : Term = Node (node_of kind ts) in
         false_from_ne_true (is_among seen t) (λ a.
         let p = place_from_is_among seen t a in
-        let q = from_map (λ j. j.element) ks p.0 t p.1 in
+        let q = from_map kept_term ks p.0 t p.1 in
         let k : Kept = q.0 in
         let children : StandAt seen (child_numbers all k) ts =
         subst (λ us. StandAt seen (child_numbers all k) us) (terms-forest ts) (subst (λ u. StandAt seen (child_numbers all k) (term_children u)) q.2 (h.kept p.0 k q.1).children) in
         let same : child_numbers all k ≡ numbers = StandAt-numbers seen h.once (child_numbers all k) numbers ts children stand in
-        let on : is_node_by all kind numbers k k.element ≡ true = subst (λ u. is_node_by all kind numbers k u ≡ true) (sym q.2) (is_node_by-same all kind numbers k (node_of kind ts) refl same) in
-        both_ways (is_node_by all kind numbers k k.element) (none p.0 k q.1) on)
+        let on : is_node_by all kind numbers k (kept_term k) ≡ true = subst (λ u. is_node_by all kind numbers k u ≡ true) (sym q.2) (is_node_by-same all kind numbers k (node_of kind ts) refl same) in
+        both_ways (is_node_by all kind numbers k (kept_term k)) (none p.0 k q.1) on)
 
   -- ---- one more value
 
@@ -162,24 +183,25 @@ module _ {ks : List Kept} {all : List ℕ} {chains : ChainsValue} (h : IsIndexed
   module _ (hash : ℕ) (element : Term) (numbers : List ℕ) (chains' : ChainsValue) (fresh : is_among seen element ≡ false) (fits : KeepsLimits element)
       (stand : StandAt seen numbers (term_children element)) (is_hash : hash ≡ key_hash element numbers) (pushed : chains'.hashes ≡ chains.hashes ++ hash ∷ []) where
     abbrev pub new : Kept
-    new = record { element = element; first_child = length all }
+    new = kept_of (length all) element
 
-    old_numbers : (k : Kept) → k.first_child + length (term_children k.element) ≤ length all → child_numbers (all ++ numbers) k ≡ child_numbers all k
+    is_new : kept_term new ≡ element
+    is_new = kept_of-term (length all) element
+
+    old_numbers : (k : Kept) → first_number k + length (term_children (kept_term k)) ≤ length all → child_numbers (all ++ numbers) k ≡ child_numbers all k
     old_numbers k room =
-        let count = length (term_children k.element) in
-        ap (λ ns. take count ns) (drop-append-le k.first_child all numbers (omega (arith, room)))
-        ∙ take-append-le count (drop k.first_child all) numbers (omega (arith, room, length-drop k.first_child all))
+        let count = length (term_children (kept_term k)) in
+        ap (λ ns. take count ns) (drop-append-le (first_number k) all numbers (omega (arith, room)))
+        ∙ take-append-le count (drop (first_number k) all) numbers (omega (arith, room, length-drop (first_number k) all))
 
     new_numbers : child_numbers (all ++ numbers) new ≡ numbers
-    new_numbers =
-        let count = length (term_children element) in
-        ap (λ ns. take count ns) (drop-append_seam all numbers) ∙ take_all count numbers (omega (arith, StandAt-length seen numbers (term_children element) stand))
+    new_numbers = kept_of-numbers seen all numbers element stand
 
     old_hash : (n : ℕ) (k : Kept) → slice_get ks n ≡ Some k → hash_of (all ++ numbers) k ≡ hash_of all k
-    old_hash n k at = ap (λ ns. key_hash k.element ns) (old_numbers k (h.kept n k at).room)
+    old_hash n k at = ap (λ ns. key_hash (kept_term k) ns) (old_numbers k (h.kept n k at).room)
 
     new_hash : hash_of (all ++ numbers) new ≡ hash
-    new_hash = ap (λ ns. key_hash element ns) new_numbers ∙ sym is_hash
+    new_hash = ap (λ ns. key_hash (kept_term new) ns) new_numbers ∙ ap (λ t. key_hash t numbers) is_new ∙ sym is_hash
 
     grown : hashes (all ++ numbers) (ks ++ new ∷ []) ≡ hashes all ks ++ hash ∷ []
     grown =
@@ -188,7 +210,7 @@ module _ {ks : List Kept} {all : List ℕ} {chains : ChainsValue} (h : IsIndexed
         ∙ ap (λ i. hashes all ks ++ i ∷ []) new_hash
 
     pub grown_terms : kept_terms (ks ++ new ∷ []) ≡ seen ++ element ∷ []
-    grown_terms = map-append (λ k. k.element) ks (new ∷ [])
+    grown_terms = map-append kept_term ks (new ∷ []) ∙ ap (λ t. seen ++ t ∷ []) is_new
 
     kept-push : (n : ℕ) (k : Kept) → slice_get (ks ++ new ∷ []) n ≡ Some k → IsKept (seen ++ element ∷ []) (all ++ numbers) k
     kept-push n k at =
@@ -198,15 +220,16 @@ module _ {ks : List Kept} {all : List ℕ} {chains : ChainsValue} (h : IsIndexed
               record {
                 fits = q.fits;
                 room = omega (arith, q.room, length-append all numbers);
-                children = StandAt-grown seen (element ∷ []) (child_numbers (all ++ numbers) k) (term_children k.element)
-                    (subst (λ ns. StandAt seen ns (term_children k.element)) (sym (old_numbers k q.room)) q.children);
+                children = StandAt-grown seen (element ∷ []) (child_numbers (all ++ numbers) k) (term_children (kept_term k))
+                    (subst (λ ns. StandAt seen ns (term_children (kept_term k))) (sym (old_numbers k q.room)) q.children);
               }
           | inr p ↦
               subst (λ (j : Kept). IsKept (seen ++ element ∷ []) (all ++ numbers) j) p.1 (record {
-                fits = fits;
-                room = omega (arith, StandAt-length seen numbers (term_children element) stand, length-append all numbers);
-                children = StandAt-grown seen (element ∷ []) (child_numbers (all ++ numbers) new) (term_children element)
-                    (subst (λ ns. StandAt seen ns (term_children element)) (sym new_numbers) stand);
+                fits = subst KeepsLimits (sym is_new) fits;
+                room = omega (arith, kept_of-first (length all) element, ap (λ t. length (term_children t)) is_new, StandAt-length seen numbers (term_children element) stand, length-append all numbers);
+                children = StandAt-grown seen (element ∷ []) (child_numbers (all ++ numbers) new) (term_children (kept_term new))
+                    (subst (λ ns. StandAt seen ns (term_children (kept_term new))) (sym new_numbers)
+                    (subst (λ t. StandAt seen numbers (term_children t)) (sym is_new) stand));
               })
         ]
 

@@ -6,6 +6,7 @@ use Rattle.std.specs.Hash as fed
 use Rattle.std.specs.Hash.FoldHasher.{initial, write, finish}
 use Rattle.std.specs.List.{slice_get, flat_map}
 use Rattle.rowan_green.specs.declared.node_cache.table.Kept.{Kept}
+use Rattle.rowan_green.specs.declared.node_cache.table.Kept.TheVariants as kept
 use Rattle.rowan_green.specs.declared.utility_types.NodeOrToken.TheVariants.{Node, Token}
 use Rattle.rowan_green.specs.Term.{Term, node_kind, node_children}
 use Rattle.rowan_green.specs.Path.{term_children}
@@ -45,12 +46,26 @@ KeepsLimits (Token t) = FitsToken t
 
 -- ---- what is kept
 
+abbrev pub kept_term : Kept → Term
+kept_term (kept.Token t) = Token t
+kept_term (kept.Node first n) = Node n
+
+-- where the numbers of its children begin; a token has none
+abbrev pub first_number : Kept → ℕ
+first_number (kept.Token t) = 0
+first_number (kept.Node first n) = first
+
+-- a term as it is kept
+abbrev pub kept_of : ℕ → Term → Kept
+kept_of first (Node n) = kept.Node first n
+kept_of first (Token t) = kept.Token t
+
 abbrev pub kept_terms : List Kept → List Term
-kept_terms ks = map (λ k. k.element) ks
+kept_terms ks = map kept_term ks
 
 -- the numbers of the children of a value, out of those of all
 abbrev pub child_numbers : List ℕ → Kept → List ℕ
-child_numbers all k = take (length (term_children k.element)) (drop k.first_child all)
+child_numbers all k = take (length (term_children (kept_term k))) (drop (first_number k) all)
 
 -- whether a value is a node of this kind whose children have these numbers
 abbrev pub is_node_by : List ℕ → ℕ → List ℕ → Kept → Term → Bool
@@ -59,16 +74,16 @@ is_node_by all kind numbers k (Node n) =
 is_node_by all kind numbers k (Token t) = false
 
 abbrev pub hash_of : List ℕ → Kept → ℕ
-hash_of all k = key_hash k.element (child_numbers all k)
+hash_of all k = key_hash (kept_term k) (child_numbers all k)
 
 abbrev pub hashes : List ℕ → List Kept → List ℕ
 hashes all ks = map (hash_of all) ks
 
 -- a value is within the limits, and the numbers of its children are those at which they stand
 pub record IsKept (seen : List Term) (all : List ℕ) (k : Kept) : Type 0 where
-  pub fits : KeepsLimits k.element
-  pub room : k.first_child + length (term_children k.element) ≤ length all
-  pub children : StandAt seen (child_numbers all k) (term_children k.element)
+  pub fits : KeepsLimits (kept_term k)
+  pub room : first_number k + length (term_children (kept_term k)) ≤ length all
+  pub children : StandAt seen (child_numbers all k) (term_children (kept_term k))
 
 -- what the fields of a table keep: no term stands twice, and the chains have the hash of each value
 pub record IsIndexed (ks : List Kept) (all : List ℕ) (chains : ChainsValue) : Type 0 where

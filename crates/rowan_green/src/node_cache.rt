@@ -36,7 +36,8 @@ pub(crate) struct Interned {
 ///
 /// A contract sees a cache as its limit and the list of the terms that it keeps, in the order in which it was first asked for
 /// them. The place of a term in that list is its number. No call of a cache is refused; a builder that asks it may be, with
-/// `Memory` where there is none, and also where the cache keeps 4,294,967,295 values and would keep one more.
+/// `Memory` where there is none, and also where the cache keeps 4,294,967,295 values and would keep one more, or where the
+/// nodes that it keeps have more children than that and it would keep one more.
 #[derive(Drop)]
 pub struct NodeCache {
     alloc: Global,
@@ -194,7 +195,7 @@ fn interned_at(table: &ValueTable, number: u32) -> Result<Interned, AllocError>
         × (slice_get table.now number ≡ Some i.element)) }
     ensures fits { (t : Term) → slice_get table.now number ≡ Some t → KeepsLimits t }
 {
-    let element = table.value(number).as_ref().share()?;
+    let element = table.value(number).share()?;
     Ok(Interned {
         number: Some(number),
         element,

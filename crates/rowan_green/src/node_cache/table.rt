@@ -2,26 +2,30 @@
 ghost use Rattle.std.specs.Prelude.{◌≡◌, ◌+◌, ◌<◌, ◌≤◌, List, [], ◌++◌, ◌∷◌, length, IfOk, OnOk, OnErr, IfSome, IsNone, Some, false};
 ghost use Rattle.std.specs.List.{slice_get};
 ghost use Rattle.rowan_green.specs.declared.utility_types.NodeOrToken.TheVariants.{Node, Token};
+ghost use Rattle.rowan_green.specs.Lent.{pointee};
 ghost use Rattle.rowan_green.specs.Term.{Term, token_of, node_of};
 ghost use Rattle.rowan_green.specs.Same.{same_term};
 ghost use Rattle.rowan_green.specs.Cache.{is_among};
 ghost use Rattle.rowan_green.specs.Path.{term_children};
-ghost use Rattle.rowan_green.specs.Tables.{with_kind, token_hash, node_hash, key_hash, is_node_by, StandAt, KeepsLimits};
+ghost use Rattle.rowan_green.specs.Tables.{with_kind, token_hash, node_hash, key_hash, kept_of, kept_term, first_number, is_node_by, StandAt, KeepsLimits};
 
-use crate::green::{GreenElement, SyntaxKind};
+use crate::green::{GreenElement, GreenElementRef, GreenNode, GreenToken, SyntaxKind};
 use crate::node_cache::chains::Chains;
 use crate::utility_types::NodeOrToken;
 use std::alloc::{AllocError, Global};
 use std::hash::{FoldHasher, Hasher};
 use std::marker::Model;
+use std::mem;
 
-// A value that a cache keeps.
+// A value that a cache keeps: a token, or a node and where the numbers of its children begin in the table's list of these.
 #[derive(Drop)]
-struct Kept {
-    element: GreenElement,
-    // Where the numbers of its children begin in the table's list of these.
-    first_child: usize,
+enum Kept {
+    Token(GreenToken),
+    Node { first_child: u32, node: GreenNode },
 }
+
+// A cache has many values, so each takes little memory.
+const _: () = prove!(mem::size_of::<Kept>() == 16);
 
 // Values, no two of which are equal. The place of a value is its number. The children of a node that is kept are kept too.
 #[derive(Drop)]
@@ -68,12 +72,12 @@ impl ValueTable {
     }
 
     // The value that stands at a number.
-    pub(super) fn value(&self, number: u32) -> &GreenElement
+    pub(super) fn value(&self, number: u32) -> GreenElementRef<'_>
         requires { number < length self.now }
-        ensures stands { slice_get self.now number ≡ Some result.now }
-        ensures fits { KeepsLimits result.now }
+        ensures stands { slice_get self.now number ≡ Some (pointee result) }
+        ensures fits { KeepsLimits (pointee result) }
     {
-        &self.values[number as usize].element
+        self.values[number as usize].as_ref()
     }
 
     // The number of the token of a kind and a text, whose hash this is.
@@ -87,7 +91,7 @@ impl ValueTable {
         let mut next = self.chains.newest(hash);
         while let Some(number) = next {
             let kept = &self.values[number as usize];
-            if is_token(&kept.element, kind, text) {
+            if kept.is_token(kind, text) {
                 return Some(number);
             }
             next = self.chains.older(number);
@@ -131,43 +135,61 @@ impl ValueTable {
         ensures number { IfOk result (λ n. n ≡ length self.old) }
         ensures unchanged { OnErr result (self.new ≡ self.old) }
     {
+        let Ok(first_child) = u32::try_from(self.child_numbers.len()) else {
+            return Err(AllocError);
+        };
         self.values.reserve(1)?;
         self.child_numbers.reserve(numbers.len())?;
         let number = self.chains.push(hash)?;
-        let first_child = self.child_numbers.len();
         self.child_numbers.extend_from_slice(numbers)?;
-        self.values.push(Kept {
-            element,
-            first_child,
-        })?;
+        self.values.push(Kept::new(first_child, element))?;
         Ok(number)
     }
 }
 
 impl Kept {
+    fn new(first_child: u32, element: GreenElement) -> Kept
+        ensures { result ≡ kept_of first_child element }
+    {
+        match element {
+            NodeOrToken::Node(node) => Kept::Node { first_child, node },
+            NodeOrToken::Token(token) => Kept::Token(token),
+        }
+    }
+
+    fn as_ref(&self) -> GreenElementRef<'_>
+        ensures { pointee result ≡ kept_term self.now }
+    {
+        match self {
+            Kept::Node { node, .. } => NodeOrToken::Node(node),
+            Kept::Token(token) => NodeOrToken::Token(token),
+        }
+    }
+
+    fn is_token(&self, kind: SyntaxKind, text: &str) -> bool
+        ensures { result ≡ same_term (kept_term self.now) (Token (token_of kind.0 text.now)) }
+    {
+        match self {
+            Kept::Node { .. } => false,
+            Kept::Token(token) => token.kind() == kind && token.text() == text,
+        }
+    }
+
     // Whether this is a node of a kind, whose children have these numbers.
     fn is_node(&self, all: &[u32], kind: SyntaxKind, numbers: &[u32]) -> bool
-        requires { self.now.first_child + length (term_children self.now.element) ≤ length all.now }
-        ensures { result ≡ is_node_by all.now kind.0 numbers.now self.now self.now.element }
+        requires { first_number self.now + length (term_children (kept_term self.now))
+            ≤ length all.now }
+        ensures { result ≡ is_node_by all.now kind.0 numbers.now self.now (kept_term self.now) }
     {
-        let NodeOrToken::Node(node) = &self.element else {
+        let Kept::Node { first_child, node } = self else {
             return false;
         };
         if node.kind() != kind {
             return false;
         }
-        let (_, rest) = all.split_at(self.first_child);
+        let (_, rest) = all.split_at(*first_child as usize);
         let (own, _) = rest.split_at(node.children().len());
         own == numbers
-    }
-}
-
-fn is_token(element: &GreenElement, kind: SyntaxKind, text: &str) -> bool
-    ensures { result ≡ same_term element.now (Token (token_of kind.0 text.now)) }
-{
-    match element {
-        NodeOrToken::Node(_) => false,
-        NodeOrToken::Token(token) => token.kind() == kind && token.text() == text,
     }
 }
 

@@ -1,8 +1,8 @@
-use Rattle.std.proofs.Common.{◌≡◌, ℕ, [], ◌∷◌, ◌++◌, length, sym, ◌∙◌, ap, subst, false}
+use Rattle.std.proofs.Common.{◌≡◌, [], ◌∷◌, ◌++◌, length, sym, ◌∙◌, ap, subst, false, arith}
 use Rattle.rowan_green.specs.declared.node_cache.table.Kept.{Kept}
 use Rattle.rowan_green.specs.Cache.{is_among}
 use Rattle.rowan_green.specs.Path.{term_children}
-use Rattle.rowan_green.specs.Tables.{StandAt, IsIndexed}
+use Rattle.rowan_green.specs.Tables.{kept_of, StandAt, IsIndexed}
 use Rattle.rowan_green.proofs.TableLemmas.{IsIndexed-push, IsIndexed-unchanged}
 use Rattle.rowan_green.proofs.node_cache.table.ValueTable.keep.Goals as goal
 
@@ -16,11 +16,10 @@ invariant_of-self-2 c =
     let ks = s.values.items in
     let fresh = subst (λ ts. is_among ts c.args.element ≡ false) (sym c.self.view_is) c.requires.fresh in
     let stand = subst (λ ts. StandAt ts c.args.numbers.now (term_children c.args.element)) (sym c.self.view_is) c.requires.children in
-    let first_child : c.len-first_child.result ≡ length s.child_numbers.items = c.len-first_child.ensures ∙ c.reserve-2.new.self.ok.0 ∙ ap length c.in_ok-reserve-2.ensures.items in
-    let kept : record { element = c.args.element; first_child = c.len-first_child.result } ≡ record { element = c.args.element; first_child = length s.child_numbers.items } =
-    ap (λ (n : ℕ). record { element = c.args.element; first_child = n }) first_child in
-    let grown = c.in_ok-push.ensures.items ∙ ap (λ vs. vs ++ record { element = c.args.element; first_child = c.len-first_child.result } ∷ []) c.in_ok-reserve.ensures.items ∙ ap (λ (k : Kept). ks ++ k ∷ []) kept in
+    let first : c.in-Ok.first_child ≡ length s.child_numbers.items = omega (arith, c.in-Ok.ensures.1, c.len.ensures, s.child_numbers.ok.0) in
+    let kept : c.new.result ≡ kept_of (length s.child_numbers.items) c.args.element = c.new.ensures ∙ ap (λ n. kept_of n c.args.element) first in
+    let grown = c.in_ok-push.ensures.items ∙ ap (λ vs. vs ++ c.new.result ∷ []) c.in_ok-reserve.ensures.items ∙ ap (λ (k : Kept). ks ++ k ∷ []) kept in
     let listed = c.in_ok-extend_from_slice.ensures.items ∙ ap (λ ns. ns ++ c.args.numbers.now) c.in_ok-reserve-2.ensures.items in
     subst (λ vs. IsIndexed vs c.extend_from_slice.new.self.items c.push.new.self) (sym grown)
-    (subst (λ ns. IsIndexed (ks ++ record { element = c.args.element; first_child = length s.child_numbers.items } ∷ []) ns c.push.new.self) (sym listed)
+    (subst (λ ns. IsIndexed (ks ++ kept_of (length s.child_numbers.items) c.args.element ∷ []) ns c.push.new.self) (sym listed)
     (IsIndexed-push c.self.invariant c.args.hash c.args.element c.args.numbers.now c.push.new.self fresh c.requires.fits stand c.requires.hash c.in_ok-number.ensures.ok))

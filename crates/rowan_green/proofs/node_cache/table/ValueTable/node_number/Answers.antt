@@ -5,7 +5,7 @@ use Rattle.rowan_green.specs.declared.node_cache.table.Kept.{Kept}
 use Rattle.rowan_green.specs.declared.utility_types.NodeOrToken.TheVariants.{Node}
 use Rattle.rowan_green.specs.Term.{node_of}
 use Rattle.rowan_green.specs.Cache.{is_among}
-use Rattle.rowan_green.specs.Tables.{is_node_by, StandAt}
+use Rattle.rowan_green.specs.Tables.{kept_term, is_node_by, StandAt}
 use Rattle.rowan_green.proofs.TableLemmas.{IsAhead, IsAhead-first, IsAhead-older, IsAhead-none, places-length, older_left, left_before, node_hits, node_found, node_absent}
 use Rattle.rowan_green.proofs.node_cache.table.ValueTable.node_number.Goals as goal
 
@@ -15,7 +15,7 @@ loop-next-init c =
     let all = s.child_numbers.items in
     let kind = c.args.kind.0 in
     let numbers = c.args.numbers.now in
-    IsAhead-first c.self.invariant c.args.hash (λ k. is_node_by all kind numbers k k.element) (λ k on. node_hits all kind numbers k on ∙ sym c.requires) c.newest-next.result c.newest-next.ensures
+    IsAhead-first c.self.invariant c.args.hash (λ k. is_node_by all kind numbers k (kept_term k)) (λ k on. node_hits all kind numbers k on ∙ sym c.requires) c.newest-next.result c.newest-next.ensures
 
 pub index-kept-requires : goal.index-kept-requires
 index-kept-requires c = omega (arith, (c.loop-next.invariant.stands c.in-Some.number c.in-Some.is).0, c.self.inside.values.ok.0)
@@ -37,7 +37,7 @@ returns-then-is_node-clause-some c = λ ts stand.
     let ks = c.self.inside.values.items in
     let k : Kept = c.index-kept.result.now in
     let at : slice_get ks c.in-Some.number ≡ Some k = slice_get_read ks (length ks) c.in-Some.number k refl (c.loop-next.invariant.stands c.in-Some.number c.in-Some.is).0 c.index-kept.ensures in
-    let on = ap (λ all. is_node_by all kind numbers k k.element) (sym c.as_slice-all.ensures.value) ∙ sym c.is_node.ensures ∙ c.if-is_node.true in
+    let on = ap (λ all. is_node_by all kind numbers k (kept_term k)) (sym c.as_slice-all.ensures.value) ∙ sym c.is_node.ensures ∙ c.if-is_node.true in
     ap (λ us. slice_get us c.in-Some.number) (sym c.self.view_is)
     ∙ node_found c.self.invariant kind numbers ts (subst (λ us. StandAt us numbers ts) (sym c.self.view_is) stand) c.in-Some.number k at on
 
@@ -55,10 +55,10 @@ loop-next-preserved c =
     let numbers = c.args.numbers.now in
     let k : Kept = c.index-kept.result.now in
     let at : slice_get s.values.items c.in-Some.number ≡ Some k = slice_get_read s.values.items (length s.values.items) c.in-Some.number k refl (c.loop-next.invariant.stands c.in-Some.number c.in-Some.is).0 c.index-kept.ensures in
-    let ahead = subst (λ o. IsAhead s.values.items s.chains.hashes c.args.hash o (λ k. is_node_by all kind numbers k k.element)) c.in-Some.is c.loop-next.invariant in
+    let ahead = subst (λ o. IsAhead s.values.items s.chains.hashes c.args.hash o (λ k. is_node_by all kind numbers k (kept_term k))) c.in-Some.is c.loop-next.invariant in
     let newer = c.older-next.ensures c.args.hash (c.loop-next.invariant.stands c.in-Some.number c.in-Some.is).1 in
-    IsAhead-older c.self.invariant c.args.hash (λ k. is_node_by all kind numbers k k.element) (λ k on. node_hits all kind numbers k on ∙ sym c.requires) c.in-Some.number k at ahead
-    (ap (λ (a : List ℕ). is_node_by a kind numbers k k.element) (sym c.as_slice-all.ensures.value) ∙ sym c.is_node.ensures ∙ c.if-is_node.false) c.older-next.result newer
+    IsAhead-older c.self.invariant c.args.hash (λ k. is_node_by all kind numbers k (kept_term k)) (λ k on. node_hits all kind numbers k on ∙ sym c.requires) c.in-Some.number k at ahead
+    (ap (λ (a : List ℕ). is_node_by a kind numbers k (kept_term k)) (sym c.as_slice-all.ensures.value) ∙ sym c.is_node.ensures ∙ c.if-is_node.false) c.older-next.result newer
 
 pub returns-clause-none : goal.returns-clause-none
 returns-clause-none c = λ ts stand none.
@@ -66,6 +66,6 @@ returns-clause-none c = λ ts stand none.
     let all = s.child_numbers.items in
     let kind = c.args.kind.0 in
     let numbers = c.args.numbers.now in
-    let ahead = subst (λ o. IsAhead s.values.items s.chains.hashes c.args.hash o (λ k. is_node_by all kind numbers k k.element)) c.in_default.is c.loop-next.invariant in
+    let ahead = subst (λ o. IsAhead s.values.items s.chains.hashes c.args.hash o (λ k. is_node_by all kind numbers k (kept_term k))) c.in_default.is c.loop-next.invariant in
     ap (λ us. is_among us (Node (node_of kind ts))) (sym c.self.view_is)
-    ∙ node_absent c.self.invariant kind numbers ts (subst (λ us. StandAt us numbers ts) (sym c.self.view_is) stand) (IsAhead-none s.values.items s.chains.hashes c.args.hash (λ k. is_node_by all kind numbers k k.element) ahead)
+    ∙ node_absent c.self.invariant kind numbers ts (subst (λ us. StandAt us numbers ts) (sym c.self.view_is) stand) (IsAhead-none s.values.items s.chains.hashes c.args.hash (λ k. is_node_by all kind numbers k (kept_term k)) ahead)
