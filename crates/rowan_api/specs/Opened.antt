@@ -1,4 +1,5 @@
--- A printed tree in the making: the nodes that are open, from the root on, each with the place of the child that comes next.
+-- A printed tree or the JSON of a tree in the making: the nodes that are open, from the root on, each with the place of the child
+-- that comes next.
 use Rattle.std.specs.Prelude.{◌≡◌, ℕ, ◌+◌, ◌<◌, ◌≤◌, List, [], ◌∷◌, ◌++◌, drop, slice_get, Some, IsAscii}
 use Rattle.rowan_green.specs.declared.utility_types.NodeOrToken.TheVariants.{Node, Token}
 use Rattle.rowan_green.specs.Term.{Term, node_children, node_len, term_len, joined_text}

@@ -160,8 +160,8 @@ impl<L: Language> SyntaxNode<L> {
         Ok(printed::tree::<L>(alloc, self.green(), self.text_range())?)
     }
 
-    /// The lines of a tree without a cursor: what `debug_tree` gives of a cursor at its root. `Err(Fault::Memory)` for want of
-    /// memory.
+    /// The lines of a tree without a cursor: what `debug_tree` gives of a cursor at its root, and the contract says it of ASCII
+    /// text, too. `Err(Fault::Memory)` for want of memory.
     pub fn debug_tree_of(alloc: Global, root: &GreenNode) -> Result<String, Fault>
         ensures ok { IsAscii (node_text root.now) → IfOk result (λ s. string_bytes s
             ≡ debug_tree (called L.name L.meaning) (record { root = root.now; path = [] })) }
