@@ -8,10 +8,10 @@ use Rattle.std.proofs.lemmas.Str.{IsAscii-take, IsAscii-drop}
 use Rattle.std.proofs.Math.Seq.{take-append_seam, drop-append_seam}
 use Rattle.rowan_green.specs.declared.utility_types.NodeOrToken.TheVariants.{Node, Token}
 use Rattle.rowan_green.specs.Fits.{byte_limit}
-use Rattle.rowan_green.specs.Term.{TokenTerm, NodeTerm, node, Forest, empty, node_then, token_then, Term, terms, node_children, node_text, forest_text, node_len, term_len, term_text, joined_text, sum_of_lens}
+use Rattle.rowan_green.specs.Term.{TokenTerm, NodeTerm, node, Forest, empty, node_then, token_then, Term, terms, node_children, node_text, node_len, term_len, term_text, joined_text}
 use Rattle.rowan_green.specs.Path.{len_of}
 use Rattle.rowan_green.specs.Search.{child_start}
-use Rattle.rowan_green.specs.Sizes.{terms_size, term_size}
+use Rattle.rowan_green.specs.Sizes.{terms_size}
 use Rattle.rowan_green.proofs.Drops.{terms_size-node_children}
 use Rattle.rowan_green.proofs.SearchLemmas.{child_start-le_all}
 use Rattle.rowan_green.proofs.Terms.{node_len-children}

@@ -1,5 +1,5 @@
 -- Texts in quotes: where a long one is cut, and what stands for itself.
-use Rattle.std.proofs.Common.{◌≡◌, ℕ, zero, suc, ◌+◌, ◌-◌, ◌*◌, ◌/◌, ◌%◌, ◌<◌, ◌≤◌, Bool, true, false, List, [], ◌∷◌, ◌++◌, length, take, drop, get_or, replicate, codes, IsAscii, Option, Result, Ok, Err, is_ok, OnOk, if◌then◌else◌, refl, sym, ◌∙◌, ap, subst, arith, zero-add, length-append, append_assoc, IsCharBoundary}
+use Rattle.std.proofs.Common.{◌≡◌, ℕ, zero, suc, ◌+◌, ◌-◌, ◌*◌, ◌/◌, ◌%◌, ◌<◌, ◌≤◌, Bool, true, false, List, [], ◌∷◌, ◌++◌, length, take, drop, get_or, replicate, codes, IsAscii, Option, Result, Ok, Err, is_ok, OnOk, if◌then◌else◌, refl, sym, ◌∙◌, ap, arith, zero-add, length-append, append_assoc, IsCharBoundary}
 use Rattle.std.specs.List.{flat_map, list_all, prefix_len, take_while}
 use Rattle.std.specs.Char.{is_ascii}
 use Rattle.std.specs.Fmt.{debug_escape}

@@ -1,5 +1,5 @@
 -- JSON as it is written: what is still to be written of open nodes, when one of them has written its next child.
-use Rattle.std.proofs.Common.{◌≡◌, ℕ, suc, ◌+◌, ◌<◌, List, [], ◌∷◌, ◌++◌, decimal, drop, Some, Result, Ok, Err, refl, sym, ◌∙◌, ap, subst, arith, append_assoc, append-nil}
+use Rattle.std.proofs.Common.{◌≡◌, ℕ, ◌+◌, List, [], ◌∷◌, ◌++◌, decimal, Result, Ok, Err, refl, sym, ◌∙◌, ap, subst, append_assoc, append-nil}
 use Rattle.std.specs.Prelude.{OnOk}
 use Rattle.json.specs.Token.{Token as JsonToken, end_array, number}
 use Rattle.json.specs.Print.{print}
@@ -11,7 +11,7 @@ use Rattle.serde_json.specs.Written.{outline, items_outline, compact_text}
 use Rattle.serde_json.proofs.Texts.{print-outline}
 use Rattle.rowan_green.specs.declared.utility_types.NodeOrToken.TheVariants.{Node, Token}
 use Rattle.rowan_green.specs.Span.{Span}
-use Rattle.rowan_green.specs.Term.{TokenTerm, NodeTerm, node, Forest, empty, node_then, token_then, Term, terms, node_children, node_kind, node_len, token_len, term_len}
+use Rattle.rowan_green.specs.Term.{TokenTerm, NodeTerm, node, Forest, empty, node_then, token_then, Term, terms, node_children, node_kind, node_len, token_len}
 use Rattle.rowan_green.specs.Path.{offset, len_of}
 use Rattle.rowan_cursor.specs.Cursor.{Cursor, StandsAtToken, text_range}
 use Rattle.rowan_api.specs.declared.api.open_node.OpenNode.{OpenNode}

@@ -6,7 +6,7 @@ use Rattle.json.specs.Written.{Written}
 use Rattle.serde_json.specs.Data.{Data}
 use Rattle.serde_json.specs.Written.{outline}
 use Rattle.rowan_green.specs.Span.{Span}
-use Rattle.rowan_green.specs.Term.{NodeTerm, Term, node_kind, node_len, term_len}
+use Rattle.rowan_green.specs.Term.{Term, node_kind, node_len, term_len}
 use Rattle.rowan_api.specs.Opened.{left, next_start}
 use Rattle.rowan_api.specs.Printed.{extent, term_json}
 use Rattle.rowan_api.specs.declared.api.open_node.OpenNode.{OpenNode}
