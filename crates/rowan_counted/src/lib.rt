@@ -1,0 +1,120 @@
+//! A value on the heap with several owners in one thread, behind a count of 32 bits.
+//!
+//! As the kit's `Rc`, but with no second count for owners that are weak, and for a block that somebody else made: so more may lie
+//! behind the value in the same block. A function here has a proof by hand, since the borrow checker follows no raw pointer.
+ghost use Rattle.std.specs.Prelude.{◌≡◌, ⊤, IfSome};
+ghost use Rattle.rowan_counted.specs.Ownership.{room_owns, counted_owns, counted_shares};
+
+use std::alloc::AllocError;
+use std::marker::Model;
+
+/// What a block begins with: how many owners it has, and the value.
+pub struct CountBox<T> {
+    count: u32,
+    value: T,
+}
+
+/// Where a block lies. It owns nothing.
+pub struct At<T> {
+    pub ptr: *const CountBox<T>,
+}
+
+impl<T> Clone for At<T> {
+    ghost is_clone = { λ at copy. copy ≡ at };
+
+    ghost is_infallible = { λ _. ⊤ };
+
+    fn clone(&self) -> Result<At<T>, AllocError> {
+        Ok(*self)
+    }
+}
+
+impl<T> Copy for At<T> {}
+
+/// The room for a count and a value.
+pub struct Room<T> {
+    pub ptr: *mut CountBox<T>,
+}
+
+impl<T> Model for Room<T> {
+    ghost also_owns = { λ r. room_owns T.row r.ptr };
+}
+
+/// An owner of a value, one word wide. It does not free the block: the last owner gets the value and the room, by `release`, and
+/// an owner that is merely dropped would keep both for good, so its type has no `Drop`.
+pub struct Counted<T> {
+    pub ptr: *const CountBox<T>,
+    pub ghost value: { T },
+}
+
+impl<T> Model for Counted<T> {
+    ghost also_owns = { λ r. counted_owns T.row r.ptr r.value };
+
+    ghost also_shares = { λ r _ κ. counted_shares T.row r.ptr r.value κ };
+}
+
+impl<T> Room<T> {
+    pub fn at(self) -> (Room<T>, At<T>)
+        ensures { (result.0.ptr ≡ self.ptr) × (result.1.ptr ≡ self.ptr) }
+    {
+        let Room { ptr } = self;
+        (Room { ptr }, At { ptr })
+    }
+}
+
+impl<T> Counted<T> {
+    pub fn at(&self) -> At<T>
+        ensures { result.ptr ≡ self.now.ptr }
+    {
+        At { ptr: self.ptr }
+    }
+
+    /// The first owner, which writes the value into the room.
+    pub fn from_room(room: Room<T>, value: T) -> Counted<T>
+        ensures { (result.value ≡ value) × (result.ptr ≡ room.ptr) }
+    {
+        let Room { ptr } = room;
+        unsafe {
+            ptr.write(CountBox { count: 1, value });
+        }
+        Counted { ptr }
+    }
+
+    pub fn value(&self) -> &T
+        ensures { result.now ≡ self.now.value }
+    {
+        unsafe { &(*self.ptr).value }
+    }
+
+    /// One more owner, or `None` where there are 4,294,967,295 of them.
+    pub fn try_clone(&self) -> Option<Counted<T>>
+        ensures { IfSome result (λ c. (c.value ≡ self.now.value) × (c.ptr ≡ self.now.ptr)) }
+    {
+        let ptr = self.ptr.cast_mut();
+        unsafe {
+            let n = (*ptr).count;
+            if n == u32::MAX {
+                return None;
+            }
+            (*ptr).count = n + 1;
+        }
+        Some(Counted { ptr })
+    }
+
+    /// Gives this owner up. The last one gets the value and the room that it had.
+    pub fn release(self) -> Option<(T, Room<T>)>
+        ensures { IfSome result (λ p. (p.0 ≡ self.value) × (p.1.ptr ≡ self.ptr)) }
+    {
+        let Counted { ptr } = self;
+        let ptr = ptr.cast_mut();
+        unsafe {
+            let n = (*ptr).count;
+            if n != 1 {
+                (*ptr).count = n - 1;
+                return None;
+            }
+            let value = (&raw const (*ptr).value).read();
+            Some((value, Room { ptr }))
+        }
+    }
+}

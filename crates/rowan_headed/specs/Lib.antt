@@ -1,0 +1,4 @@
+pub mod Ownership
+pub mod Recursive
+pub mod Shape
+pub mod formers

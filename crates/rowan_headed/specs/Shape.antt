@@ -1,0 +1,37 @@
+-- Where the parts of a counted block lie.
+use Rattle.std.specs.Prelude.{◌≡◌, ℕ, ◌+◌, ◌*◌, ◌^◌, ◌<◌, length, max, List}
+use prog.Memory.{align}
+use denote.RattleType.{RattleType}
+use denote.Memory.{lone}
+use denote.RawPtr.{◌+ₚ◌}
+use Rattle.std.specs.Mem.{type_size}
+use Rattle.rowan_counted.specs.Ownership.{count_box_type}
+use Rattle.rowan_counted.specs.declared.Counted.{Counted}
+use Rattle.rowan_headed.specs.declared.front.Front.{Front}
+use Rattle.rowan_headed.specs.Ownership.{front_size}
+
+-- a `CountBox<F>` is f words, aligned as a `u32`, and an R is s words, aligned as a `u64`
+abbrev pub Fits : RattleType → RattleType → ℕ → ℕ → Type 0
+Fits F R f s = (align (count_box_type F) ≡ 4) × (align (lone R.mir) ≡ 8) × (front_size F ≡ f * 8) × (type_size R ≡ s * 8) × (f < 2 ^ 16) × (s < 2 ^ 16)
+
+-- for how many items there is room
+abbrev pub room_of : ℕ → ℕ
+room_of n = max 1 n
+
+module _ {X Y Z : Type 0} where
+  abbrev pub head_of : Counted (Front X Y Z) → X
+  head_of c = c.value.head
+
+  abbrev pub items_of : Counted (Front X Y Z) → List Y
+  items_of c = c.value.tail.items
+
+  -- the parts belong together, where a front is f words and an item is s
+  pub record IsHeaded (f s : ℕ) (c : Counted (Front X Y Z)) : Type 0 where
+    pub len : c.value.len ≡ length c.value.tail.items
+    pub small : c.value.len < 2 ^ 32
+    pub tail : c.value.tail.ptr ≡ c.ptr +ₚ f * 8
+    pub cap : c.value.tail.cap ≡ room_of c.value.len
+    pub right : c.value.right.ptr ≡ c.ptr
+    pub front : c.value.right.front ≡ f
+    pub count : c.value.right.count ≡ f + room_of c.value.len * s
+    pub alloc : c.value.right.alloc ≡ c.value.alloc

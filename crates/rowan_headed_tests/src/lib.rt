@@ -1,0 +1,135 @@
+//! A tree whose nodes are one block each: a type that holds itself through a block of `rowan_headed`.
+ghost use Rattle.std.specs.Prelude.{◌≡◌, ◌≤◌, drop, IfOk, OnOk, OnErr, take};
+ghost use Rattle.std.specs.Vec.{vec_len};
+ghost use Rattle.rowan_headed_tests.specs.View.{children_view};
+
+use rowan_counted::{CountBox, Counted};
+use rowan_headed::front::Front;
+use std::alloc::{AllocError, Global};
+use std::marker::Model;
+use std::mem::{ManuallyDrop, size_of};
+
+#[derive(Clone, Copy)]
+pub struct Head {
+    pub kind: u16,
+    pub text_len: u32,
+}
+
+#[cycle(tree)]
+pub struct Node {
+    data: Counted<Front<Head, Child, Global>>,
+}
+
+#[cycle(tree)]
+#[derive(Drop)]
+pub enum Child {
+    Node(Node),
+    Leaf(u32),
+}
+
+impl Model for Node {
+    ghost use Rattle.std.specs.Prelude.{ℕ, List};
+    ghost use Rattle.std.specs.Coded.{coded×, coded_ℕ, coded_list};
+
+    ghost Value = { ℕ × List ℕ };
+
+    ghost coded = { coded× coded_ℕ (coded_list coded_ℕ) };
+
+    ghost use Rattle.rowan_headed_tests.specs.View.{node_view};
+    ghost use Rattle.rowan_headed.specs.Shape.{IsHeaded};
+
+    ghost view = { λ n. node_view n.data.value };
+
+    ghost invariant = { λ n. IsHeaded 2 2 n.data };
+
+    ghost size = { λ v. v.0 };
+
+    ghost use Rattle.rowan_headed_tests.specs.Falls.{falls};
+    ghost use Rattle.std.proofs.Common.{arith};
+
+    ghost size_decreases = { λ n h. Prim.grind (arith, falls n.data.value) };
+}
+
+impl Node {
+    // A node with the children of a list from `first` on. A refused call leaves the list as it was.
+    pub fn from_last(
+        alloc: Global,
+        head: Head,
+        children: &mut Vec<Child>,
+        first: usize,
+    ) -> Result<Node, AllocError>
+        requires { first ≤ vec_len children.old }
+        ensures ok { IfOk result (λ n. n ≡ children_view (drop first children.old.items)) }
+        ensures left { OnOk result (children.new.items ≡ take first children.old.items) }
+        ensures err { OnErr result (children.new ≡ children.old) }
+    {
+        match Front::from_last(alloc, head, children, first, 2, 2) {
+            Ok(data) => Ok(Node { data }),
+            Err(_head) => Err(AllocError),
+        }
+    }
+
+    pub fn head(&self) -> Head {
+        self.data.value().head
+    }
+
+    pub fn children(&self) -> &[Child]
+        ensures { children_view result.now ≡ self.now }
+    {
+        Front::items(&self.data, 2, 2)
+    }
+}
+
+impl Clone for Node {
+    ghost is_clone = { λ node copy. copy ≡ node };
+
+    fn clone(&self) -> Result<Node, AllocError> {
+        match self.data.try_clone() {
+            Some(data) => Ok(Node { data }),
+            None => Err(AllocError),
+        }
+    }
+}
+
+// A loop over a list of what is still to be dropped, so that a deep tree does not run out of stack.
+impl Drop for Node {
+    #[cycle(drop)]
+    fn drop(self) {
+        let mut rest = Vec::new(self.data.value().alloc);
+        self.drop_into(&mut rest);
+        while let Some(child) = rest.pop() {
+            match ManuallyDrop::into_inner(child) {
+                Child::Node(node) => node.drop_into(&mut rest),
+                Child::Leaf(_) => {}
+            }
+        }
+    }
+}
+
+impl Node {
+    ghost use Rattle.std.specs.Prelude.{◌<◌, ◌+◌};
+    ghost use Rattle.rowan_headed_tests.specs.View.{kept_size};
+
+    // Drops the node, but for its children, which go to the end of the list. Where the memory for that is refused, it drops them
+    // too.
+    #[cycle(drop)]
+    fn drop_into(self, rest: &mut Vec<ManuallyDrop<Child>>)
+        ensures { kept_size rest.new.items < kept_size rest.old.items + self.0 }
+    {
+        let Node { data } = self;
+        let n = Front::items(&data, 2, 2).len();
+        let _head = match rest.try_reserve(n) {
+            Ok(()) => Front::into_kept(data, rest, 2, 2),
+            Err(_) => Front::end(data, 2, 2),
+        };
+    }
+}
+
+const _: () = prove!(size_of::<Node>() == 8);
+
+const _: () = prove!(size_of::<Child>() == 16);
+
+const _: () = prove!(size_of::<CountBox<Front<Head, Child, Global>>>() == 16);
+
+#[cfg(test)]
+mod tests;

@@ -1,0 +1,69 @@
+use super::*;
+
+fn leaf_sum(node: &Node) -> u64 {
+    let mut sum = 0u64;
+    for child in node.children() {
+        if let Child::Leaf(k) = child {
+            sum = sum.wrapping_add(*k as u64);
+        }
+    }
+    sum
+}
+
+#[test]
+fn leaves_come_back(rt: HostRuntime) -> Result<(), AllocError> {
+    let alloc = rt.alloc();
+    let mut list = Vec::new(alloc);
+    for k in 0..10u32 {
+        list.push(Child::Leaf(k))?;
+    }
+    let head = Head {
+        kind: 7,
+        text_len: 9,
+    };
+    let first = list.len().min(3);
+    let node = Node::from_last(alloc, head, &mut list, first)?;
+    assert!(rt; list.len() == 3);
+    assert!(rt; node.children().len() == 7);
+    assert!(rt; leaf_sum(&node) == 42);
+    assert!(rt; node.head().kind == 7);
+    assert!(rt; node.head().text_len == 9);
+    let copy = node.clone()?;
+    drop(node);
+    assert!(rt; leaf_sum(&copy) == 42);
+    drop(list);
+    Ok(())
+}
+
+#[test]
+fn empty_nodes_are_nodes(rt: HostRuntime) -> Result<(), AllocError> {
+    let alloc = rt.alloc();
+    let mut list = Vec::new(alloc);
+    let head = Head {
+        kind: 1,
+        text_len: 0,
+    };
+    let node = Node::from_last(alloc, head, &mut list, 0)?;
+    assert!(rt; node.children().len() == 0);
+    drop(node);
+    drop(list);
+    Ok(())
+}
+
+#[test]
+fn deep_trees_are_dropped(rt: HostRuntime) -> Result<(), AllocError> {
+    let alloc = rt.alloc();
+    let mut list = Vec::new(alloc);
+    let head = Head {
+        kind: 1,
+        text_len: 0,
+    };
+    for k in 0..300_000u32 {
+        list.push(Child::Leaf(k))?;
+        let node = Node::from_last(alloc, head, &mut list, 0)?;
+        list.push(Child::Node(node))?;
+    }
+    assert!(rt; list.len() == 1);
+    drop(list);
+    Ok(())
+}
