@@ -1,5 +1,9 @@
 -- Where the parts of a counted block lie.
-use Rattle.std.specs.Prelude.{◌≡◌, ℕ, ◌+◌, ◌*◌, ◌^◌, ◌<◌, length, max, List}
+use Rattle.std.specs.Prelude.{◌≡◌, ℕ, ◌+◌, ◌*◌, ◌^◌, ◌<◌, length, max, List, map, ◌≤◌}
+use Rattle.std.specs.Vec.{vec_len, vec_capacity, vec_ptr}
+use Rattle.std.specs.Mem.{manually_drop_value}
+use Rattle.std.specs.declared.mem.ManuallyDrop.{ManuallyDrop}
+use Rattle.std_alloc.specs.declared.vec.Vec.{Vec}
 use prog.Memory.{align}
 use denote.RattleType.{RattleType}
 use denote.Memory.{lone}
@@ -13,6 +17,18 @@ use Rattle.rowan_headed.specs.Ownership.{front_size}
 -- a `CountBox<F>` is f words, aligned as a `u32`, and an R is s words, aligned as a `u64`
 abbrev pub Fits : RattleType → RattleType → ℕ → ℕ → Type 0
 Fits F R f s = (align (count_box_type F) ≡ 4) × (align (lone R.mir) ≡ 8) × (front_size F ≡ f * 8) × (type_size R ≡ s * 8) × (f < 2 ^ 16) × (s < 2 ^ 16)
+
+-- the list lies where it lay, with the room that it had
+abbrev pub IsInPlace : {X H : Type 0} → Vec X H → Vec X H → Type 0
+IsInPlace old new = (vec_capacity new ≡ vec_capacity old) × (vec_ptr new ≡ vec_ptr old)
+
+-- the list has room for so many more
+abbrev pub HasRoomFor : {X H : Type 0} → ℕ → Vec X H → Type 0
+HasRoomFor n v = vec_len v + n ≤ vec_capacity v
+
+-- the values of what is not dropped
+abbrev pub kept_items : {X : Type 0} → List (ManuallyDrop X) → List X
+kept_items xs = map manually_drop_value xs
 
 -- for how many items there is room
 abbrev pub room_of : ℕ → ℕ

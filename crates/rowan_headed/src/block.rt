@@ -82,7 +82,8 @@ pub fn split<F, T, A: Allocator>(chunk: Chunk<A>, cap: usize) -> (Room<F>, Tail<
     requires { Cut F.row T.row cap chunk.count }
     ensures { (result.0.ptr ≡ chunk.ptr) × (result.1.ptr ≡ chunk.ptr +ₚ front_size F.row)
         × (result.1.cap ≡ cap) × (result.1.items ≡ []) × (result.2.alloc ≡ chunk.alloc)
-        × (result.2.ptr ≡ chunk.ptr) × (result.2.count ≡ chunk.count) × (result.2.front ≡ front_words F.row) }
+        × (result.2.ptr ≡ chunk.ptr) × (result.2.count ≡ chunk.count)
+        × (result.2.front ≡ front_words F.row) }
 {
     let Chunk {
         ptr,
@@ -102,8 +103,9 @@ pub fn join<F, T, A: Allocator>(
     right: Right<A>,
     count: usize,
 ) -> Chunk<A>
-    requires { (tail.items ≡ []) × (tail.ptr ≡ room.ptr +ₚ front_size F.row) × (right.ptr ≡ room.ptr)
-        × (right.count ≡ count) × (right.front ≡ front_words F.row) × Cut F.row T.row tail.cap count }
+    requires { (tail.items ≡ []) × (tail.ptr ≡ room.ptr +ₚ front_size F.row)
+        × (right.ptr ≡ room.ptr) × (right.count ≡ count) × (right.front ≡ front_words F.row)
+        × Cut F.row T.row tail.cap count }
     ensures { (result.alloc ≡ right.alloc) × (result.count ≡ count) }
 {
     let Room { ptr } = room;
@@ -118,8 +120,8 @@ pub fn join<F, T, A: Allocator>(
 
 /// A `Vec` over the items and the room behind them, which neither grows nor frees that room.
 pub fn house<F, T>(tail: Tail<T>, base: At<F>, len: usize, cap: usize) -> Vec<T, Lodged>
-    requires { (tail.ptr ≡ base.ptr +ₚ front_size F.row) × (length tail.items ≡ len) × (tail.cap ≡ cap)
-        × (len ≤ cap) × (0 < cap) × (cap < 2 ^ 63) × (front_size F.row < 2 ^ 63) }
+    requires { (tail.ptr ≡ base.ptr +ₚ front_size F.row) × (length tail.items ≡ len)
+        × (tail.cap ≡ cap) × (len ≤ cap) × (0 < cap) × (cap < 2 ^ 63) × (front_size F.row < 2 ^ 63) }
     ensures { (result.items ≡ tail.items) × (vec_len result ≡ len) × (vec_capacity result ≡ cap)
         × (vec_ptr result ≡ tail.ptr) }
 {
@@ -131,7 +133,8 @@ pub fn house<F, T>(tail: Tail<T>, base: At<F>, len: usize, cap: usize) -> Vec<T,
 /// The items of such a `Vec`, in place.
 pub fn vacate<T>(vec: Vec<T, Lodged>) -> Tail<T>
     requires { 0 < vec_capacity vec }
-    ensures { (result.ptr ≡ vec_ptr vec) × (result.cap ≡ vec_capacity vec) × (result.items ≡ vec.items) }
+    ensures { (result.ptr ≡ vec_ptr vec) × (result.cap ≡ vec_capacity vec)
+        × (result.items ≡ vec.items) }
 {
     let _len = vec.dislodge();
     Tail { mark: PhantomData }

@@ -1,10 +1,9 @@
 //! What a block begins with, behind its count, and what is done with a whole block.
 ghost use Rattle.std.specs.Prelude.{◌≡◌, ◌+◌, ◌*◌, ◌-◌, ◌^◌, ◌<◌, ◌≤◌, ◌++◌, [], length, take, drop, reverse, map, IfOk, IfErr, IfSome, IfNone, OnErr, OnOk, max};
 ghost use Rattle.std.specs.Vec.{vec_len, vec_capacity, vec_ptr};
-ghost use Rattle.std.specs.Mem.{manually_drop_value};
 ghost use denote.RawPtr.{◌+ₚ◌};
 ghost use Rattle.rowan_headed.specs.Ownership.{front_size, front_words, Cut};
-ghost use Rattle.rowan_headed.specs.Shape.{Fits, IsHeaded, head_of, items_of, room_of};
+ghost use Rattle.rowan_headed.specs.Shape.{Fits, IsHeaded, IsInPlace, HasRoomFor, head_of, items_of, kept_items, room_of};
 ghost use Rattle.rowan_headed.specs.contracts.front.Front.{the_row as front_row};
 
 use crate::block::{Chunk, Right, Tail, house, join, split, vacate};
@@ -33,11 +32,11 @@ fn words(front: usize, item: usize, cap: usize) -> usize
 
 // Moves the elements from `first` on to the end of `to`, which has room for them.
 fn fill<T: Drop, A: Allocator>(to: &mut Vec<T, Lodged>, from: &mut Vec<T, A>, first: usize)
-    requires { (first ≤ vec_len from.old) × (vec_len to.old + (vec_len from.old - first) ≤ vec_capacity to.old) }
+    requires { (first ≤ vec_len from.old) × HasRoomFor (vec_len from.old - first) to.old }
     ensures to { to.new.items ≡ to.old.items ++ drop first from.old.items }
     ensures from { from.new.items ≡ take first from.old.items }
     ensures room { vec_capacity from.new ≡ vec_capacity from.old }
-    ensures in_place { (vec_capacity to.new ≡ vec_capacity to.old) × (vec_ptr to.new ≡ vec_ptr to.old) }
+    ensures in_place { IsInPlace to.old to.new }
 {
     for x in from.drain(first..) {
         to.push_reserved(x);
@@ -132,9 +131,9 @@ impl<H, T, A: Allocator> Front<H, T, A> {
     ) -> Option<H>
         requires fits { Fits (front_row H.row T.row A.row A.Allocator) T.row front item }
         requires headed { IsHeaded front item rc }
-        requires room { vec_len out.old + length (items_of rc) ≤ vec_capacity out.old }
+        requires room { HasRoomFor (length (items_of rc)) out.old }
         ensures some { IfSome result (λ h. (h ≡ head_of rc)
-            × (map manually_drop_value out.new.items ≡ map manually_drop_value out.old.items ++ reverse (items_of rc))) }
+            × (kept_items out.new.items ≡ kept_items out.old.items ++ reverse (items_of rc))) }
         ensures none { IfNone result (out.new ≡ out.old) }
     {
         let Some((value, room)) = rc.release() else {
@@ -191,7 +190,7 @@ impl<H, T, A: Allocator> Front<H, T, A> {
 // Drops all elements, the last one first.
 fn drop_all<T: Drop>(list: &mut Vec<T, Lodged>)
     ensures items { list.new.items ≡ [] }
-    ensures in_place { (vec_capacity list.new ≡ vec_capacity list.old) × (vec_ptr list.new ≡ vec_ptr list.old) }
+    ensures in_place { IsInPlace list.old list.new }
 {
     while list.len() > 0 {
         drop(list.take_last());
@@ -200,10 +199,10 @@ fn drop_all<T: Drop>(list: &mut Vec<T, Lodged>)
 
 // Moves all elements to the end of `to`, the last one first.
 fn keep<T, A: Allocator>(from: &mut Vec<T, Lodged>, to: &mut Vec<ManuallyDrop<T>, A>)
-    requires { vec_len to.old + vec_len from.old ≤ vec_capacity to.old }
-    ensures to { map manually_drop_value to.new.items ≡ map manually_drop_value to.old.items ++ reverse from.old.items }
+    requires { HasRoomFor (vec_len from.old) to.old }
+    ensures to { kept_items to.new.items ≡ kept_items to.old.items ++ reverse from.old.items }
     ensures from { from.new.items ≡ [] }
-    ensures in_place { (vec_capacity from.new ≡ vec_capacity from.old) × (vec_ptr from.new ≡ vec_ptr from.old) }
+    ensures in_place { IsInPlace from.old from.new }
 {
     while from.len() > 0 {
         let x = from.take_last();
