@@ -1,18 +1,14 @@
 -- The children in a node's memory are those of its term, and each lies at its offset.
 use Rattle.std.proofs.Common.{◌≡◌, ℕ, zero, suc, ◌+◌, ◌<◌, List, [], ◌∷◌, map, length, take, drop, get_or, Some, sym, ◌∙◌, ap, arith}
-use Rattle.std.proofs.lemmas.List.{length-map, take-map, drop-map}
+use Rattle.std.proofs.lemmas.List.{take-map, drop-map}
 use Rattle.std.specs.Prelude.{slice_get}
-use Rattle.rowan_green.specs.declared.green.node.NodeData.{NodeData}
 use Rattle.rowan_green.specs.declared.green.node.GreenChild.{GreenChild}
 use Rattle.rowan_green.specs.Term.{NodeTerm, Term, node_children, sum_of_lens, term_len}
-use Rattle.rowan_green.specs.View.{child_term, child_offset, node_view, HasOffsetsFrom}
+use Rattle.rowan_green.specs.View.{Stored, child_term, child_offset, node_view, HasOffsetsFrom}
 use Rattle.rowan_green.proofs.Terms.{terms-forest}
 
-pub children-view : (d : NodeData) (n : NodeTerm) → node_view d ≡ n → map child_term d.children.items ≡ node_children n
-children-view d n e = sym (terms-forest (map child_term d.children.items)) ∙ ap node_children e
-
-pub length-children : (d : NodeData) (n : NodeTerm) → node_view d ≡ n → length (node_children n) ≡ length d.children.items
-length-children d n e = ap length (sym (children-view d n e)) ∙ length-map d.children.items child_term
+pub children-view : (f : Stored) (n : NodeTerm) → node_view f ≡ n → map child_term f.tail.items ≡ node_children n
+children-view f n e = sym (terms-forest (map child_term f.tail.items)) ∙ ap node_children e
 
 -- the child at an index, in memory and in the term
 pub record StandsAt (at : ℕ) (ts : List Term) (i : ℕ) (c : GreenChild) : Type 0 where

@@ -1,14 +1,15 @@
 -- A node is larger than its children together, and a list of children than each of them.
-use Rattle.std.proofs.Common.{◌≡◌, ℕ, ◌+◌, ◌*◌, ◌≤◌, ◌<◌, zero, suc, List, [], ◌∷◌, ◌++◌, length, get_or, refl, ap, arith}
+use Rattle.std.proofs.Common.{◌≡◌, ℕ, ◌+◌, ◌*◌, ◌≤◌, ◌<◌, zero, suc, List, [], ◌∷◌, ◌++◌, length, get_or, map, refl, ap, arith}
 use Rattle.rowan_green.specs.declared.green.node.GreenChild.{GreenChild}
 use Rattle.rowan_green.specs.declared.green.node.GreenChild.TheVariants.{Node, Token}
 use Rattle.rowan_green.specs.Term.{NodeTerm, node, Forest, empty, node_then, token_then, node_children, node_size, forest_size, terms}
 use denote.Param.Weighed.{most, w_this}
+use Rattle.rowan_green.specs.declared.green.node.GreenNode.TheView.{size}
 use Rattle.rowan_green.specs.declared.green.node.GreenNode.TheDeep.{size-GreenChild}
-use Rattle.rowan_green.specs.declared.green.node.NodeData.{NodeData}
-use Rattle.rowan_green.specs.View.{child_term, node_view}
-use Rattle.rowan_green.proofs.ChildList.{children-view}
-use Rattle.rowan_green.specs.Sizes.{term_size, terms_size, children_size}
+use Rattle.rowan_green.specs.View.{child_term}
+use Rattle.rowan_green.specs.Sizes.{term_size, terms_size, children_size, kept_size}
+use Rattle.std.specs.Mem.{manually_drop_value}
+use Rattle.std.specs.declared.mem.ManuallyDrop.{ManuallyDrop}
 
 terms_size-terms : (f : Forest) → terms_size (terms f) ≡ forest_size f
 terms_size-terms empty = refl
@@ -21,6 +22,20 @@ terms_size-node_children (node k f) = omega (arith, terms_size-terms f)
 pub children_size-append : (cs ds : List GreenChild) → children_size (cs ++ ds) ≡ children_size cs + children_size ds
 children_size-append [] ds = omega arith
 children_size-append (c ∷ cs) ds = omega (arith, children_size-append cs ds)
+
+kept_size-append : (ms ns : List (ManuallyDrop NodeTerm)) → kept_size (ms ++ ns) ≡ kept_size ms + kept_size ns
+kept_size-append [] ns = omega arith
+kept_size-append (m ∷ ms) ns = omega (arith, kept_size-append ms ns)
+
+-- the last of a list left it, or came to it
+pub kept-last : (short long : List (ManuallyDrop NodeTerm)) (m : ManuallyDrop NodeTerm) → long ≡ short ++ m ∷ [] → kept_size long ≡ kept_size short + node_size (manually_drop_value m)
+kept-last short long m e = omega (arith, ap kept_size e, kept_size-append short (m ∷ []))
+
+pub children_size-last : (short long : List GreenChild) (c : GreenChild) → long ≡ short ++ c ∷ [] → children_size long ≡ children_size short + term_size (child_term c)
+children_size-last short long c e = omega (arith, ap children_size e, children_size-append short (c ∷ []))
+
+pub size_is : (n : NodeTerm) → size n ≡ node_size n
+size_is n = refl
 
 size_le-term : (c : GreenChild) → size-GreenChild c ≤ 3 * term_size (child_term c) + 1
 size_le-term (Node at n) = omega arith
@@ -36,5 +51,6 @@ term_size_le-children_size [] i d h = absurd (omega arith)
 term_size_le-children_size (c ∷ cs) zero d h = omega arith
 term_size_le-children_size (c ∷ cs) (suc i) d h = omega (arith, term_size_le-children_size cs i d (omega arith))
 
-pub children_size-node : (d : NodeData) (n : NodeTerm) → node_view d ≡ n → children_size d.children.items + 1 ≡ node_size n
-children_size-node d n e = omega (arith, ap terms_size (children-view d n e), terms_size-node_children n)
+-- the children of a node are smaller than it by 1
+pub children_size-node : (cs : List GreenChild) (n : NodeTerm) → map child_term cs ≡ node_children n → children_size cs + 1 ≡ node_size n
+children_size-node cs n e = omega (arith, ap terms_size e, terms_size-node_children n)

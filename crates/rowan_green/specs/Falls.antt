@@ -1,12 +1,12 @@
 -- A node's children are smaller than the node.
-use Rattle.std.specs.Prelude.{◌≤◌, ◌+◌, List, [], ◌∷◌, max, map}
+use Rattle.std.specs.Prelude.{◌≤◌, ◌+◌, List, [], ◌∷◌, map}
 use Rattle.std.proofs.Common.{arith}
 use denote.Param.Weighed.{most}
 use Rattle.rowan_green.specs.declared.utility_types.NodeOrToken.TheVariants as element
-use Rattle.rowan_green.specs.declared.green.node.NodeData.{NodeData}
+use Rattle.rowan_green.specs.declared.green.node.GreenNode.TheInside.{Inside}
 use Rattle.rowan_green.specs.declared.green.node.GreenChild.{GreenChild}
 use Rattle.rowan_green.specs.declared.green.node.GreenChild.TheVariants.{Node, Token}
-use Rattle.rowan_green.specs.declared.green.node.GreenNode.TheDeep.{deep-NodeData, deep-GreenChild}
+use Rattle.rowan_green.specs.declared.green.node.GreenNode.TheDeep.{deep-GreenNode, deep-GreenChild}
 use Rattle.rowan_green.specs.Term.{Term, node_size, forest_size, forest, put_first, empty}
 use Rattle.rowan_green.specs.View.{node_view, child_term}
 
@@ -26,5 +26,5 @@ most_le-forest_size [] = omega arith
 most_le-forest_size (c ∷ cs) =
     omega (arith, deep_le-term c, most_le-forest_size cs, forest_size-put_first (child_term c) cs)
 
-pub deep_le-node_size : (d : NodeData) → max (deep-NodeData d) 0 ≤ node_size (node_view d)
-deep_le-node_size d = omega (arith, most_le-forest_size d.children.items)
+pub deep_le-node_size : (n : Inside) → deep-GreenNode n ≤ node_size (node_view n.data.value)
+deep_le-node_size n = omega (arith, most_le-forest_size n.data.value.tail.items)

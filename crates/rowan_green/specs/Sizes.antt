@@ -2,7 +2,9 @@
 use Rattle.std.specs.Prelude.{ℕ, ◌+◌, List, [], ◌∷◌, map}
 use Rattle.rowan_green.specs.declared.utility_types.NodeOrToken.TheVariants.{Node, Token}
 use Rattle.rowan_green.specs.declared.green.node.GreenChild.{GreenChild}
-use Rattle.rowan_green.specs.Term.{Term, node_size}
+use Rattle.std.specs.Mem.{manually_drop_value}
+use Rattle.std.specs.declared.mem.ManuallyDrop.{ManuallyDrop}
+use Rattle.rowan_green.specs.Term.{NodeTerm, Term, node_size}
 use Rattle.rowan_green.specs.View.{child_term}
 
 abbrev pub term_size : Term → ℕ
@@ -15,3 +17,8 @@ terms_size (t ∷ ts) = term_size t + terms_size ts
 
 abbrev pub children_size : List GreenChild → ℕ
 children_size cs = terms_size (map child_term cs)
+
+-- how large the nodes of a list are together
+abbrev pub kept_size : List (ManuallyDrop NodeTerm) → ℕ
+kept_size [] = 0
+kept_size (n ∷ ns) = node_size (manually_drop_value n) + kept_size ns

@@ -1,6 +1,10 @@
 -- What the memory of a node says: its term, and what is stored beside it.
 use Rattle.std.specs.Prelude.{◌≡◌, ℕ, ◌+◌, List, [], ◌∷◌, map}
-use Rattle.rowan_green.specs.declared.green.node.NodeData.{NodeData}
+use Rattle.std.specs.Global.{Global}
+use Rattle.rowan_counted.specs.declared.Counted.{Counted}
+use Rattle.rowan_headed.specs.declared.front.Front.{Front}
+use Rattle.rowan_headed.specs.Shape.{IsHeaded}
+use Rattle.rowan_green.specs.declared.green.node.GreenNodeHead.{GreenNodeHead}
 use Rattle.rowan_green.specs.declared.green.node.GreenChild.{GreenChild}
 use Rattle.rowan_green.specs.declared.green.node.GreenChild.TheVariants.{Node, Token}
 use Rattle.rowan_green.specs.declared.utility_types.NodeOrToken.TheVariants as element
@@ -24,8 +28,12 @@ abbrev pub span_at : List GreenChild → ℕ → Span
 span_at cs index =
     let ts = map child_term cs in record { start = child_start ts index; end = child_end ts index }
 
-abbrev pub node_view : NodeData → NodeTerm
-node_view d = node_of d.kind.0 (map child_term d.children.items)
+-- what a node's block begins with, and its children
+abbrev pub Stored : Type 0
+Stored = Front GreenNodeHead GreenChild Global
+
+abbrev pub node_view : Stored → NodeTerm
+node_view f = node_of f.head.kind.0 (map child_term f.tail.items)
 
 -- each child's offset is the sum of the lengths before it
 abbrev pub HasOffsetsFrom : ℕ → List GreenChild → Type 0
@@ -40,5 +48,7 @@ pub record AreSound (len : ℕ) (cs : List GreenChild) : Type 0 where
   pub within : AreWithin (map child_term cs)
   pub fit : AllFit (map child_term cs)
 
-abbrev pub IsSound : NodeData → Type 0
-IsSound d = AreSound d.text_len d.children.items
+-- the parts of a node's block belong together: a head is two words with its counts, and a child is two
+pub record IsSound (c : Counted Stored) : Type 0 where
+  pub headed : IsHeaded 2 2 c
+  pub sound : AreSound c.value.head.text_len c.value.tail.items

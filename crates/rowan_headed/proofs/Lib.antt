@@ -2,3 +2,4 @@ pub mod Walks
 pub mod Rooms
 pub mod Lodging
 pub mod Fitting
+pub mod Keeping

@@ -1,8 +1,6 @@
 -- Where the parts of a counted block lie.
-use Rattle.std.specs.Prelude.{◌≡◌, ℕ, ◌+◌, ◌*◌, ◌^◌, ◌<◌, length, max, List, map, ◌≤◌}
+use Rattle.std.specs.Prelude.{◌≡◌, ℕ, ◌+◌, ◌*◌, ◌^◌, ◌<◌, length, max, List, ◌≤◌}
 use Rattle.std.specs.Vec.{vec_len, vec_capacity, vec_ptr}
-use Rattle.std.specs.Mem.{manually_drop_value}
-use Rattle.std.specs.declared.mem.ManuallyDrop.{ManuallyDrop}
 use Rattle.std_alloc.specs.declared.vec.Vec.{Vec}
 use prog.Memory.{align}
 use denote.RattleType.{RattleType}
@@ -12,6 +10,7 @@ use Rattle.std.specs.Mem.{type_size}
 use Rattle.rowan_counted.specs.Ownership.{count_box_type}
 use Rattle.rowan_counted.specs.declared.Counted.{Counted}
 use Rattle.rowan_headed.specs.declared.front.Front.{Front}
+use Rattle.rowan_headed.specs.declared.front.Open.{Open}
 use Rattle.rowan_headed.specs.Ownership.{front_size}
 
 -- a `CountBox<F>` is f words, aligned as a `u32`, and an R is s words, aligned as a `u64`
@@ -25,10 +24,6 @@ IsInPlace old new = (vec_capacity new ≡ vec_capacity old) × (vec_ptr new ≡ 
 -- the list has room for so many more
 abbrev pub HasRoomFor : {X H : Type 0} → ℕ → Vec X H → Type 0
 HasRoomFor n v = vec_len v + n ≤ vec_capacity v
-
--- the values of what is not dropped
-abbrev pub kept_items : {X : Type 0} → List (ManuallyDrop X) → List X
-kept_items xs = map manually_drop_value xs
 
 -- for how many items there is room
 abbrev pub room_of : ℕ → ℕ
@@ -51,3 +46,13 @@ module _ {X Y Z : Type 0} where
     pub front : c.value.right.front ≡ f
     pub count : c.value.right.count ≡ f + room_of c.value.len * s
     pub alloc : c.value.right.alloc ≡ c.value.alloc
+
+  -- the parts of a block with no head belong together, where a front is f words and an item is s
+  pub record IsOpen (f s : ℕ) (b : Open X Y Z) : Type 0 where
+    pub list : vec_ptr b.list ≡ b.room.ptr +ₚ f * 8
+    pub right : b.right.ptr ≡ b.room.ptr
+    pub front : b.right.front ≡ f
+    pub count : b.right.count ≡ f + vec_capacity b.list * s
+    pub alloc : b.right.alloc ≡ b.alloc
+    pub some_room : 0 < vec_capacity b.list
+    pub small : vec_capacity b.list < 2 ^ 32

@@ -1,15 +1,15 @@
 //! What a block begins with, behind its count, and what is done with a whole block.
-ghost use Rattle.std.specs.Prelude.{◌≡◌, ◌+◌, ◌*◌, ◌-◌, ◌^◌, ◌<◌, ◌≤◌, ◌++◌, [], length, take, drop, reverse, map, IfOk, IfErr, IfSome, IfNone, OnErr, OnOk, max};
+ghost use Rattle.std.specs.Prelude.{◌≡◌, ◌+◌, ◌*◌, ◌-◌, ◌^◌, ◌<◌, ◌≤◌, [], length, take, drop, IfOk, IfErr, IfSome, OnErr, OnOk};
 ghost use Rattle.std.specs.Vec.{vec_len, vec_capacity, vec_ptr};
 ghost use denote.RawPtr.{◌+ₚ◌};
-ghost use Rattle.rowan_headed.specs.Ownership.{front_size, front_words, Cut};
-ghost use Rattle.rowan_headed.specs.Shape.{Fits, IsHeaded, IsInPlace, HasRoomFor, head_of, items_of, kept_items, room_of};
+ghost use Rattle.rowan_headed.specs.Ownership.{front_size};
+ghost use Rattle.rowan_headed.specs.Shape.{Fits, IsHeaded, IsOpen, IsInPlace, HasRoomFor, head_of, items_of, room_of};
 ghost use Rattle.rowan_headed.specs.contracts.front.Front.{the_row as front_row};
 
 use crate::block::{Chunk, Right, Tail, house, join, split, vacate};
 use rowan_counted::{Counted, Room};
-use std::alloc::Allocator;
-use std::mem::ManuallyDrop;
+use std::alloc::{AllocError, Allocator};
+use std::mem::swap;
 use std_alloc::vec::Lodged;
 
 /// What stands before the items: how many there are, and the head. `right` and `tail` take no memory, and neither does `alloc`
@@ -22,6 +22,15 @@ pub struct Front<H, T, A: Allocator> {
     pub tail: Tail<T>,
 }
 
+/// A block with no head: one that is being filled, or that its last owner gave up. It has no drop, so it has to be closed or freed.
+pub struct Open<H, T, A: Allocator> {
+    pub room: Room<Front<H, T, A>>,
+    /// The items, in place.
+    pub list: Vec<T, Lodged>,
+    pub right: Right<A>,
+    pub alloc: A,
+}
+
 // How many words a block has.
 fn words(front: usize, item: usize, cap: usize) -> usize
     requires { (front < 2 ^ 16) × (item < 2 ^ 16) × (cap < 2 ^ 32) }
@@ -30,32 +39,38 @@ fn words(front: usize, item: usize, cap: usize) -> usize
     front + cap * item
 }
 
-// Moves the elements from `first` on to the end of `to`, which has room for them.
-fn fill<T: Drop, A: Allocator>(to: &mut Vec<T, Lodged>, from: &mut Vec<T, A>, first: usize)
-    requires { (first ≤ vec_len from.old) × HasRoomFor (vec_len from.old - first) to.old }
-    ensures to { to.new.items ≡ to.old.items ++ drop first from.old.items }
+// Moves the elements from `first` on to `to`, which is empty and has room for them.
+fn fill<T, A: Allocator>(to: &mut Vec<T, Lodged>, from: &mut Vec<T, A>, first: usize)
+    requires { (first ≤ vec_len from.old) × HasRoomFor (vec_len from.old - first) to.old
+        × (to.old.items ≡ []) }
+    ensures to { to.new.items ≡ drop first from.old.items }
     ensures from { from.new.items ≡ take first from.old.items }
     ensures room { vec_capacity from.new ≡ vec_capacity from.old }
     ensures in_place { IsInPlace to.old to.new }
 {
-    for x in from.drain(first..) {
-        to.push_reserved(x);
+    while from.len() > first {
+        to.push_reserved(from.take_last());
     }
+    to.as_mut_slice().reverse();
 }
 
-// An empty block for a front and `cap` items.
+// Memory for a front and `cap` items, or for one item where that is none.
 fn take<F, T, A: Allocator>(
     alloc: &A,
+    cap: usize,
     front: usize,
     item: usize,
-    cap: usize,
 ) -> Option<(Room<F>, Vec<T, Lodged>, Right<A>)>
-    requires fits { Fits F.row T.row front item }
-    requires cap { (0 < cap) × (cap < 2 ^ 32) }
-    ensures { IfSome result (λ r. (r.1.items ≡ []) × (vec_capacity r.1 ≡ cap)
+    requires { Fits F.row T.row front item }
+    ensures { IfSome result (λ r. (r.1.items ≡ []) × (vec_capacity r.1 ≡ room_of cap)
         × (vec_ptr r.1 ≡ r.0.ptr +ₚ front * 8) × (r.2.ptr ≡ r.0.ptr) × (r.2.front ≡ front)
-        × (r.2.count ≡ front + cap * item) × (r.2.alloc ≡ alloc.now)) }
+        × (r.2.count ≡ front + room_of cap * item) × (r.2.alloc ≡ alloc.now)
+        × (room_of cap < 2 ^ 32)) }
 {
+    if cap > 0xffff_ffff {
+        return None;
+    }
+    let cap = cap.max(1);
     let count = words(front, item, cap);
     let chunk = Chunk::new(alloc, count)?;
     let (room, tail, right) = split::<F, T, A>(chunk, cap);
@@ -64,9 +79,96 @@ fn take<F, T, A: Allocator>(
     Some((room, list, right))
 }
 
+impl<H, T, A: Allocator> Open<H, T, A> {
+    /// A block with room for `cap` items, or for one where that is none. `None` for want of memory, and for more than 4,294,967,295
+    /// items.
+    pub fn with_capacity(alloc: A, cap: usize, front: usize, item: usize) -> Option<Open<H, T, A>>
+        requires fits { Fits (front_row H.row T.row A.row A.Allocator) T.row front item }
+        ensures { IfSome result (λ b. IsOpen front item b × (b.list.items ≡ [])
+            × (b.alloc ≡ alloc) × (vec_capacity b.list ≡ room_of cap)) }
+    {
+        let (room, list, right) = take::<Front<H, T, A>, T, A>(&alloc, cap, front, item)?;
+        Some(Open {
+            room,
+            list,
+            right,
+            alloc,
+        })
+    }
+
+    /// The owner of the block with this head, where the block has room for just its items.
+    pub fn close(self, head: H, front: usize, item: usize) -> Counted<Front<H, T, A>>
+        requires fits { Fits (front_row H.row T.row A.row A.Allocator) T.row front item }
+        requires parts { IsOpen front item self }
+        requires exact { vec_capacity self.list ≡ room_of (vec_len self.list) }
+        ensures { IsHeaded front item result × (head_of result ≡ head)
+            × (items_of result ≡ self.list.items) }
+    {
+        let Open {
+            room,
+            list,
+            right,
+            alloc,
+        } = self;
+        let len = list.len() as u32;
+        let tail = vacate(list);
+        Counted::from_room(
+            room,
+            Front {
+                len,
+                head,
+                alloc,
+                right,
+                tail,
+            },
+        )
+    }
+
+    /// Frees a block with no items.
+    pub fn free(self, front: usize, item: usize)
+        requires fits { Fits (front_row H.row T.row A.row A.Allocator) T.row front item }
+        requires parts { IsOpen front item self }
+        requires empty { self.list.items ≡ [] }
+    {
+        let Open {
+            room,
+            list,
+            right,
+            alloc,
+        } = self;
+        let count = words(front, item, list.capacity());
+        let tail = vacate(list);
+        join::<Front<H, T, A>, T, A>(room, tail, right, count).free(&alloc);
+    }
+}
+
+impl<H, T, A: Allocator + Copy> Open<H, T, A> {
+    /// Moves the items, as one run of memory, to a block with room for `cap` items, or for one where that is none, and frees the block
+    /// that they were in. Refused as `with_capacity` is, and then nothing has changed.
+    pub fn resize(&mut self, cap: usize, front: usize, item: usize) -> Result<(), AllocError>
+        requires fits { Fits (front_row H.row T.row A.row A.Allocator) T.row front item }
+        requires parts { IsOpen front item self.old }
+        requires room { vec_len self.old.list ≤ cap }
+        ensures parts { IsOpen front item self.new }
+        ensures items { self.new.list.items ≡ self.old.list.items }
+        ensures ok { OnOk result (vec_capacity self.new.list ≡ room_of cap) }
+        ensures err { OnErr result (self.new ≡ self.old) }
+    {
+        let Some(mut block) = Open::with_capacity(self.alloc, cap, front, item) else {
+            return Err(AllocError);
+        };
+        if self.list.len() > 0 {
+            block.list.append_tail(&mut self.list, 0);
+        }
+        swap(self, &mut block);
+        block.free(front, item);
+        Ok(())
+    }
+}
+
 impl<H, T, A: Allocator> Front<H, T, A> {
     /// The first owner of a block with the head and with the elements of `items` from `first` on, which leave the list. Refused for
-    /// want of memory, and for more than 4,294,967,280 items; the list is then as it was, and the head comes back. The block has
+    /// want of memory, and for more than 4,294,967,295 items; the list is then as it was, and the head comes back. The block has
     /// room for one item where it has none.
     pub fn from_last<B: Allocator>(
         alloc: A,
@@ -76,8 +178,6 @@ impl<H, T, A: Allocator> Front<H, T, A> {
         front: usize,
         item: usize,
     ) -> Result<Counted<Front<H, T, A>>, H>
-    where
-        T: Drop,
         requires fits { Fits (front_row H.row T.row A.row A.Allocator) T.row front item }
         requires first { first ≤ vec_len items.old }
         ensures ok { IfOk result (λ c. IsHeaded front item c × (head_of c ≡ head)
@@ -88,27 +188,12 @@ impl<H, T, A: Allocator> Front<H, T, A> {
         ensures value_returned { IfErr result (λ h. h ≡ head) }
     {
         let n = items.len() - first;
-        if n > 0xffff_fff0 {
-            return Err(head);
-        }
-        let cap = if n == 0 { 1 } else { n };
-        let Some((room, list, right)) = take::<Front<H, T, A>, T, A>(&alloc, front, item, cap)
-        else {
+        let Some(block) = Open::with_capacity(alloc, n, front, item) else {
             return Err(head);
         };
-        let mut list = list;
-        fill(&mut list, items, first);
-        let tail = vacate(list);
-        Ok(Counted::from_room(
-            room,
-            Front {
-                len: n as u32,
-                head,
-                alloc,
-                right,
-                tail,
-            },
-        ))
+        let mut block = block;
+        fill(&mut block.list, items, first);
+        Ok(block.close(head, front, item))
     }
 
     /// The items, lent as long as the owner is.
@@ -121,24 +206,18 @@ impl<H, T, A: Allocator> Front<H, T, A> {
         value.tail.items(rc.at(), value.len as usize)
     }
 
-    /// Gives this owner up. The last one gets the head, and its items go to the end of `out`, which has room for them and does not
-    /// drop them, the last one first. The block is freed.
-    pub fn into_kept<B: Allocator>(
+    /// Gives this owner up. The last one gets the head and the block, with its items.
+    pub fn release(
         rc: Counted<Front<H, T, A>>,
-        out: &mut Vec<ManuallyDrop<T>, B>,
         front: usize,
         item: usize,
-    ) -> Option<H>
+    ) -> Option<(H, Open<H, T, A>)>
         requires fits { Fits (front_row H.row T.row A.row A.Allocator) T.row front item }
         requires headed { IsHeaded front item rc }
-        requires room { HasRoomFor (length (items_of rc)) out.old }
-        ensures some { IfSome result (λ h. (h ≡ head_of rc)
-            × (kept_items out.new.items ≡ kept_items out.old.items ++ reverse (items_of rc))) }
-        ensures none { IfNone result (out.new ≡ out.old) }
+        ensures { IfSome result (λ p. (p.0 ≡ head_of rc) × IsOpen front item p.1
+            × (p.1.list.items ≡ items_of rc)) }
     {
-        let Some((value, room)) = rc.release() else {
-            return None;
-        };
+        let (value, room) = rc.release()?;
         let Front {
             len,
             head,
@@ -147,65 +226,16 @@ impl<H, T, A: Allocator> Front<H, T, A> {
             tail,
         } = value;
         let n = len as usize;
-        let cap = if n == 0 { 1 } else { n };
         let (room, at) = room.at();
-        let mut list = house::<Front<H, T, A>, T>(tail, at, n, cap);
-        keep(&mut list, out);
-        let tail = vacate(list);
-        let count = words(front, item, cap);
-        join::<Front<H, T, A>, T, A>(room, tail, right, count).free(&alloc);
-        Some(head)
-    }
-
-    /// Gives this owner up. The last one gets the head, drops its items, the last one first, and frees the block. Takes no memory.
-    pub fn end(rc: Counted<Front<H, T, A>>, front: usize, item: usize) -> Option<H>
-    where
-        T: Drop,
-        requires fits { Fits (front_row H.row T.row A.row A.Allocator) T.row front item }
-        requires headed { IsHeaded front item rc }
-        ensures { IfSome result (λ h. h ≡ head_of rc) }
-    {
-        let Some((value, room)) = rc.release() else {
-            return None;
-        };
-        let Front {
-            len,
+        let list = house::<Front<H, T, A>, T>(tail, at, n, n.max(1));
+        Some((
             head,
-            alloc,
-            right,
-            tail,
-        } = value;
-        let n = len as usize;
-        let cap = if n == 0 { 1 } else { n };
-        let (room, at) = room.at();
-        let mut list = house::<Front<H, T, A>, T>(tail, at, n, cap);
-        drop_all(&mut list);
-        let tail = vacate(list);
-        let count = words(front, item, cap);
-        join::<Front<H, T, A>, T, A>(room, tail, right, count).free(&alloc);
-        Some(head)
-    }
-}
-
-// Drops all elements, the last one first.
-fn drop_all<T: Drop>(list: &mut Vec<T, Lodged>)
-    ensures items { list.new.items ≡ [] }
-    ensures in_place { IsInPlace list.old list.new }
-{
-    while list.len() > 0 {
-        drop(list.take_last());
-    }
-}
-
-// Moves all elements to the end of `to`, the last one first.
-fn keep<T, A: Allocator>(from: &mut Vec<T, Lodged>, to: &mut Vec<ManuallyDrop<T>, A>)
-    requires { HasRoomFor (vec_len from.old) to.old }
-    ensures to { kept_items to.new.items ≡ kept_items to.old.items ++ reverse from.old.items }
-    ensures from { from.new.items ≡ [] }
-    ensures in_place { IsInPlace from.old from.new }
-{
-    while from.len() > 0 {
-        let x = from.take_last();
-        to.push_reserved(unsafe { ManuallyDrop::new_unchecked(x) });
+            Open {
+                room,
+                list,
+                right,
+                alloc,
+            },
+        ))
     }
 }

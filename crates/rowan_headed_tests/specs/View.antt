@@ -1,5 +1,5 @@
 -- What a node says: how large its tree is, and the leaves.
-use Rattle.std.specs.Prelude.{ℕ, ◌+◌, List, [], ◌∷◌, ◌++◌, map}
+use Rattle.std.specs.Prelude.{ℕ, ◌+◌, List, [], ◌∷◌, ◌++◌}
 use Rattle.std.specs.Mem.{manually_drop_value}
 use Rattle.std.specs.declared.mem.ManuallyDrop.{ManuallyDrop}
 use Rattle.rowan_headed.specs.declared.front.Front.{Front}
@@ -25,5 +25,6 @@ abbrev pub leaves_of : ℕ × List ℕ → List ℕ
 leaves_of v = v.1
 
 -- how large the trees in a list are
-abbrev pub kept_size : List (ManuallyDrop Child) → ℕ
-kept_size xs = (children_view (map manually_drop_value xs)).0
+abbrev pub kept_size : List (ManuallyDrop (ℕ × List ℕ)) → ℕ
+kept_size [] = 0
+kept_size (m ∷ ms) = (manually_drop_value m).0 + kept_size ms

@@ -1,11 +1,13 @@
 //! A tree whose nodes are one block each: a type that holds itself through a block of `rowan_headed`.
+#![tactic(auto)]
+
 ghost use Rattle.std.specs.Prelude.{◌≡◌, ◌≤◌, drop, IfOk, OnOk, OnErr, take};
 ghost use Rattle.std.specs.Vec.{vec_len};
 ghost use Rattle.rowan_headed_tests.specs.View.{children_view};
 
 use rowan_counted::{CountBox, Counted};
 use rowan_headed::front::Front;
-use std::alloc::{AllocError, Global};
+use std::alloc::{AllocError, AllocFailed, Global};
 use std::marker::Model;
 use std::mem::{ManuallyDrop, size_of};
 
@@ -95,13 +97,10 @@ impl Clone for Node {
 impl Drop for Node {
     #[cycle(drop)]
     fn drop(self) {
-        let mut rest = Vec::new(self.data.value().alloc);
+        let mut rest: Vec<ManuallyDrop<Node>> = Vec::new(self.data.value().alloc);
         self.drop_into(&mut rest);
-        while let Some(child) = rest.pop() {
-            match ManuallyDrop::into_inner(child) {
-                Child::Node(node) => node.drop_into(&mut rest),
-                Child::Leaf(_) => {}
-            }
+        while let Some(node) = rest.pop() {
+            ManuallyDrop::into_inner(node).drop_into(&mut rest);
         }
     }
 }
@@ -110,18 +109,30 @@ impl Node {
     ghost use Rattle.std.specs.Prelude.{◌<◌, ◌+◌};
     ghost use Rattle.rowan_headed_tests.specs.View.{kept_size};
 
-    // Drops the node, but for its children, which go to the end of the list. Where the memory for that is refused, it drops them
-    // too.
+    // Drops the node, but for the nodes among its children, which go to the end of the list; where the memory for that is refused,
+    // they are dropped at once. Leaves are dropped where they lie, so a node of leaves alone asks for no memory.
     #[cycle(drop)]
-    fn drop_into(self, rest: &mut Vec<ManuallyDrop<Child>>)
+    fn drop_into(self, rest: &mut Vec<ManuallyDrop<Node>>)
         ensures { kept_size rest.new.items < kept_size rest.old.items + self.0 }
     {
         let Node { data } = self;
-        let n = Front::items(&data, 2, 2).len();
-        let _head = match rest.try_reserve(n) {
-            Ok(()) => Front::into_kept(data, rest, 2, 2),
-            Err(_) => Front::end(data, 2, 2),
+        let Some((_head, block)) = Front::release(data, 2, 2) else {
+            return;
         };
+        let mut block = block;
+        while block.list.len() > 0 {
+            match block.list.take_last() {
+                Child::Node(node) => match rest.push(unsafe { ManuallyDrop::new_unchecked(node) }) {
+                    Ok(()) => {}
+                    Err(refused) => {
+                        let AllocFailed { value } = refused;
+                        drop(ManuallyDrop::into_inner(value));
+                    }
+                },
+                Child::Leaf(_) => {}
+            }
+        }
+        block.free(2, 2);
     }
 }
 

@@ -1,4 +1,5 @@
 use super::*;
+use rowan_headed::front::Open;
 
 fn leaf_sum(node: &Node) -> u64 {
     let mut sum = 0u64;
@@ -66,4 +67,42 @@ fn deep_trees_are_dropped(rt: HostRuntime) -> Result<(), AllocError> {
     assert!(rt; list.len() == 1);
     drop(list);
     Ok(())
+}
+
+#[test]
+fn a_block_grows_and_is_closed(rt: HostRuntime) -> Result<(), AllocError> {
+    let head = Head {
+        kind: 3,
+        text_len: 18,
+    };
+    let Some(block) = Open::with_capacity(rt.alloc(), 2, 2, 2) else {
+        return Err(AllocError);
+    };
+    let mut block = block;
+    block.list.push_reserved(Child::Leaf(5));
+    block.list.push_reserved(Child::Leaf(6));
+    if block.resize(3, 2, 2).is_err() {
+        let data = block.close(head, 2, 2);
+        drop(Node { data });
+        return Err(AllocError);
+    }
+    block.list.push_reserved(Child::Leaf(7));
+    let data = block.close(head, 2, 2);
+    let node = Node { data };
+    assert!(rt; node.children().len() == 3);
+    assert!(rt; leaf_sum(&node) == 18);
+    assert!(rt; node.head().kind == 3);
+    drop(node);
+    Ok(())
+}
+
+#[test]
+fn no_block_is_too_large(rt: HostRuntime) -> Result<(), AllocError> {
+    match Open::<Head, Child, Global>::with_capacity(rt.alloc(), 0x1_0000_0000, 2, 2) {
+        None => Ok(()),
+        Some(block) => {
+            block.free(2, 2);
+            Err(AllocError)
+        }
+    }
 }

@@ -2,7 +2,7 @@
 
 use crate::calls::{Call, Way};
 use crate::shape::Shape;
-use crate::transcript::{Phase, Stop, Transcript};
+use crate::transcript::{Stop, Transcript};
 use rowan::builder::CacheHome;
 use rowan::{Checkpoint, Fault, GreenNode, GreenNodeBuilder, NodeCache};
 
@@ -44,9 +44,7 @@ fn tell_finished(log: &Transcript<'_>, finished: Result<GreenNode, Fault>) -> Re
         Ok(tree) => {
             log.answered("finish", Ok(()))?;
             log.tell("tree", &Shape(&tree))?;
-            log.phase(Phase::Dropping)?;
-            drop(tree);
-            log.phase(Phase::Making)
+            log.drop_apart(tree)
         }
         Err(fault) => log.answered("finish", Err(fault)),
     }

@@ -116,7 +116,7 @@ fn counts(cache: &NodeCache) -> (usize, usize) {
     (cache.token_count(), cache.node_count())
 }
 
-/// Says what a session answers. Where a request is refused in it, it is made once more.
+/// Says what a session answers, and drops it. Where a request is refused in it, it is made once more.
 pub fn tell_session(
     log: &Transcript<'_>,
     playing: Playing,
@@ -141,8 +141,8 @@ pub fn tell_session(
     log.answered(playing.name(), Ok(()))?;
     log.tell("outcomes", &session.outcomes)?;
     log.tell("end", &session.end)?;
-    match &session.end {
-        Ok((root, _)) => log.tell("tree", &Shape(root.green())),
-        Err(_) => Ok(()),
+    if let Ok((root, _)) = &session.end {
+        log.tell("tree", &Shape(root.green()))?;
     }
+    log.drop_apart(session)
 }

@@ -40,7 +40,7 @@ impl Stride {
     }
 }
 
-/// Says what a trace from a node reports. Where a request is refused in it, it is made once more.
+/// Says what a trace from a node reports, and drops the reports. Where a request is refused in it, it is made once more.
 pub fn tell_trace(
     log: &Transcript<'_>,
     start: &SyntaxNode,
@@ -57,7 +57,8 @@ pub fn tell_trace(
     let reports = answer?;
     log.answered("trace", Ok(()))?;
     log.tell("reports", &reports)?;
-    tell_trees(log, reports.as_slice())
+    tell_trees(log, reports.as_slice())?;
+    log.drop_apart(reports)
 }
 
 /// Says what the trees are that came about.

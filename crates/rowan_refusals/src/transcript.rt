@@ -120,6 +120,13 @@ impl<'a> Transcript<'a> {
         Ok(println!(self.rt; "{name}: {value}")?)
     }
 
+    /// Drops a value apart from what is made: the requests of its drop need no answer.
+    pub fn drop_apart<T: Drop>(&self, value: T) -> Result<(), Stop> {
+        self.phase(Phase::Dropping)?;
+        drop(value);
+        self.phase(Phase::Making)
+    }
+
     /// Says that a part of a call was refused for memory.
     pub fn refused(&self, call: &str, part: Part) -> Result<(), Stop> {
         Ok(println!(self.rt; "{call}{part}: {:?}", Fault::Memory)?)

@@ -1,3 +1,4 @@
+mod block;
 mod edits;
 mod finished;
 
@@ -15,26 +16,27 @@ use crate::green::{Children, GreenElement, GreenElementRef, GreenToken, SyntaxKi
 use crate::steps::Steps;
 use crate::text::{TextRange, TextSize};
 use crate::utility_types::NodeOrToken;
-use std::alloc::{AllocError, Global};
+use block::ChildBlock;
+use rowan_counted::{CountBox, Counted};
+use rowan_headed::front::Front;
+use std::alloc::{AllocError, AllocFailed, Global};
 use std::fmt::{self, Display};
 use std::hash::{Hash, Hasher};
 use std::marker::Model;
-use std::mem;
-use std::rc::Rc;
+use std::mem::{ManuallyDrop, size_of};
 
 /// An inner part of a tree: a kind and a list of children. A clone shares them, and is an `Err` where the node cannot be shared
 /// once more, since the count of its owners is full.
 #[cycle(green)]
 pub struct GreenNode {
-    data: Rc<NodeData>,
+    data: Counted<Front<GreenNodeHead, GreenChild, Global>>,
 }
 
-#[cycle(green)]
-#[derive(Drop)]
-struct NodeData {
+/// What stands before the children in a node's block, behind the count of its owners and the number of the children.
+#[derive(Clone, Copy)]
+pub(crate) struct GreenNodeHead {
     kind: SyntaxKind,
     text_len: TextSize,
-    children: Vec<GreenChild>,
 }
 
 /// A child, and where its text starts in that of its parent.
@@ -52,7 +54,12 @@ pub(crate) enum GreenChild {
 }
 
 // A search reads the list of children, so each takes little room in it.
-const _: () = prove!(mem::size_of::<GreenChild>() == 16);
+const _: () = prove!(size_of::<GreenChild>() == 16);
+
+// A node is one word, and its block has 16 bytes before the children.
+const _: () = prove!(size_of::<GreenNode>() == 8);
+
+const _: () = prove!(size_of::<CountBox<Front<GreenNodeHead, GreenChild, Global>>>() == 16);
 
 impl GreenChild {
     ghost use Rattle.rowan_green.specs.View.{child_term, child_offset};
@@ -108,7 +115,7 @@ impl Clone for GreenChild {
 #[derive(Drop)]
 struct NodeDraft {
     text_len: TextSize,
-    children: Vec<GreenChild>,
+    children: ChildBlock,
 }
 
 impl Model for NodeDraft {
@@ -123,14 +130,14 @@ impl Model for NodeDraft {
 
     ghost use Rattle.rowan_green.specs.View.{child_term, AreSound};
 
-    ghost view = { λ d. map child_term d.children.items };
+    ghost view = { λ d. map child_term d.children.block.list.items };
 
-    ghost invariant = { λ d. AreSound d.text_len d.children.items };
+    ghost invariant = { λ d. AreSound d.text_len d.children.block.list.items };
 }
 
 impl NodeDraft {
-    fn new(children: Vec<GreenChild>) -> NodeDraft
-        requires { children.items ≡ [] }
+    fn new(children: ChildBlock) -> NodeDraft
+        requires { children.block.list.items ≡ [] }
         ensures { result ≡ [] }
     {
         NodeDraft {
@@ -161,20 +168,13 @@ impl NodeDraft {
         Ok(())
     }
 
-    fn finish(self, alloc: Global, kind: SyntaxKind) -> Result<GreenNode, AllocError>
+    fn finish(self, kind: SyntaxKind) -> Result<GreenNode, AllocError>
         ensures ok { IfOk result (λ n. n ≡ node_of kind.0 self) }
         ensures within { AreWithin self }
         ensures fit { AllFit self }
     {
         let NodeDraft { text_len, children } = self;
-        let data = Rc::new(
-            alloc,
-            NodeData {
-                kind,
-                text_len,
-                children,
-            },
-        )?;
+        let data = children.close(GreenNodeHead { kind, text_len })?;
         Ok(GreenNode { data })
     }
 }
@@ -194,13 +194,13 @@ impl Model for GreenNode {
 
     ghost view = { λ n. node_view n.data.value };
 
-    ghost invariant = { λ n. IsSound n.data.value };
+    ghost invariant = { λ n. IsSound n.data };
 
     ghost size = { node_size };
 
     ghost use Rattle.rowan_green.specs.Falls.{deep_le-node_size};
 
-    ghost size_decreases = { λ n h. deep_le-node_size n.data.value };
+    ghost size_decreases = { λ n h. deep_le-node_size n };
 }
 
 impl GreenNode {
@@ -222,11 +222,13 @@ impl GreenNode {
             IteratesSome I.into_iter_gives I.IntoIter.next_gives children
             (λ p. PassesLimit p.items e)) }
     {
-        let mut draft = NodeDraft::new(Vec::new(alloc));
+        let children = children.into_iter();
+        let room = children.size_hint().0.min(u32::MAX as usize);
+        let mut draft = NodeDraft::new(ChildBlock::with_capacity(alloc, room)?);
         for element in children {
             draft.push(element)?;
         }
-        Ok(draft.finish(alloc, kind)?)
+        Ok(draft.finish(kind)?)
     }
 
     /// The kind of the node.
@@ -234,7 +236,7 @@ impl GreenNode {
         ensures kind { result.0 ≡ node_kind self.now }
         ensures fits { FitsNode self.now }
     {
-        self.data.kind
+        self.data.value().head.kind
     }
 
     /// The number of bytes of the node's text.
@@ -242,7 +244,7 @@ impl GreenNode {
         ensures len { result ≡ node_len self.now }
         ensures fits { FitsNode self.now }
     {
-        self.data.text_len
+        self.data.value().head.text_len
     }
 
     /// The children, in their order. Takes no memory.
@@ -251,7 +253,7 @@ impl GreenNode {
         ensures within { AreWithin (node_children self.now) }
         ensures fits { FitsNode self.now }
     {
-        Children::new(self.data.children.as_slice())
+        Children::new(self.child_slice())
     }
 
     /// The child at an index with its offset in bytes, which counts from the node's own start. `None` past the last child.
@@ -261,7 +263,7 @@ impl GreenNode {
         ensures none { IsNone result ↔ length (node_children self.now) ≤ index }
         ensures within { AreWithin (node_children self.now) }
     {
-        let child = self.data.children.get(index)?;
+        let child = self.child_slice().get(index)?;
         Some((child.rel_offset(), child.as_ref()))
     }
 
@@ -289,8 +291,8 @@ impl GreenNode {
         ensures grows { steps.old.comparisons ≤ steps.new.comparisons }
         ensures visits { steps.new.visits ≡ steps.old.visits }
     {
-        let text_len = self.data.text_len;
-        let children = self.data.children.as_slice();
+        let text_len = self.text_len();
+        let children = self.child_slice();
         let index = GreenChild::search(children, text_len, range, steps);
         let child = children.get(index)?;
         if !GreenChild::rel_range(children, text_len, index).contains_range(range) {
@@ -301,74 +303,71 @@ impl GreenNode {
 }
 
 impl GreenNode {
-    ghost use Rattle.rowan_green.specs.View.{child_term};
+    ghost use Rattle.rowan_green.specs.View.{child_term, AreSound};
 
-    // The children, where this was the last owner of them.
-    fn into_children(self) -> Option<Vec<GreenChild>>
-        ensures { IfSome result (λ v. map child_term v.items ≡ node_children self) }
+    // The children as they lie in the node's block.
+    fn child_slice(&self) -> &[GreenChild]
+        ensures terms { map child_term result.now ≡ node_children self.now }
+        ensures sound { AreSound (node_len self.now) result.now }
+        ensures fits { FitsNode self.now }
     {
-        let GreenNode { data } = self;
-        match Rc::into_inner(data) {
-            Some(data) => {
-                let NodeData {
-                    kind: _,
-                    text_len: _,
-                    children,
-                } = data;
-                Some(children)
-            }
-            None => None,
-        }
+        Front::items(&self.data, 2, 2)
+    }
+
+    fn allocator(&self) -> Global {
+        self.data.value().alloc
     }
 }
 
-// A loop over a list of what is still to be dropped, so that a deep tree does not run out of stack. The list is that of the
-// node's own children, and grows by the children of each node in it.
+// A loop over a list of the nodes that are still to be dropped, so that a deep tree does not run out of stack. A node of tokens
+// alone asks for no memory.
 impl Drop for GreenNode {
     #[cycle(drop)]
     fn drop(self) {
-        let Some(mut rest) = self.into_children() else {
-            return;
-        };
-        while let Some(node) = GreenChild::pop_node(&mut rest) {
-            node.drop_into(&mut rest);
+        let mut rest = Vec::new(self.allocator());
+        self.drop_into(&mut rest);
+        while let Some(node) = rest.pop() {
+            ManuallyDrop::into_inner(node).drop_into(&mut rest);
         }
-    }
-}
-
-impl GreenChild {
-    ghost use Rattle.rowan_green.specs.Sizes.{children_size};
-
-    // Takes the last node off the list, and drops the tokens behind it. Most children are tokens, so these have a loop of
-    // their own.
-    fn pop_node(rest: &mut Vec<GreenChild>) -> Option<GreenNode>
-        ensures node { IfSome result (λ node. children_size rest.new.items + node_size node + 1
-            ≤ children_size rest.old.items) }
-        ensures none { IsNone result → rest.new.items ≡ [] }
-    {
-        while let Some(child) = rest.pop() {
-            match child {
-                GreenChild::Node { node, .. } => return Some(node),
-                GreenChild::Token { token, .. } => drop(token),
-            }
-        }
-        None
     }
 }
 
 impl GreenNode {
-    ghost use Rattle.rowan_green.specs.Sizes.{children_size};
+    ghost use Rattle.rowan_green.specs.Sizes.{kept_size};
 
-    // Drops the node, but for its children, which go to the end of the list. Where the memory for that is refused, it drops
-    // them too.
+    // Drops the node, but for the nodes among its children, which go to the end of the list. Where the memory for that is refused,
+    // they are dropped, too.
     #[cycle(drop)]
-    fn drop_into(self, rest: &mut Vec<GreenChild>)
-        ensures { children_size rest.new.items < children_size rest.old.items + node_size self }
+    fn drop_into(self, rest: &mut Vec<ManuallyDrop<GreenNode>>)
+        ensures { kept_size rest.new.items < kept_size rest.old.items + node_size self }
     {
-        let Some(mut children) = self.into_children() else {
+        let GreenNode { data } = self;
+        let Some((_head, mut block)) = Front::release(data, 2, 2) else {
             return;
         };
-        let _ = rest.append(&mut children);
+        while block.list.len() > 0 {
+            match block.list.take_last() {
+                GreenChild::Node { node, .. } => GreenNode::put_off(node, rest),
+                GreenChild::Token { token, .. } => drop(token),
+            }
+        }
+        block.free(2, 2);
+    }
+
+    // Puts the node to the end of the list, or drops it where the memory for that is refused.
+    #[cycle(drop)]
+    fn put_off(self, rest: &mut Vec<ManuallyDrop<GreenNode>>)
+        ensures { kept_size rest.new.items ≤ kept_size rest.old.items + node_size self }
+    {
+        // What is put off is dropped when its turn comes.
+        let node = unsafe { ManuallyDrop::new_unchecked(self) };
+        match rest.push(node) {
+            Ok(()) => {}
+            Err(refused) => {
+                let AllocFailed { value } = refused;
+                drop(ManuallyDrop::into_inner(value));
+            }
+        }
     }
 }
 
@@ -376,9 +375,10 @@ impl Clone for GreenNode {
     ghost is_clone = { λ node copy. copy ≡ node };
 
     fn clone(&self) -> Result<GreenNode, AllocError> {
-        Ok(GreenNode {
-            data: self.data.clone()?,
-        })
+        match self.data.try_clone() {
+            Some(data) => Ok(GreenNode { data }),
+            None => Err(AllocError),
+        }
     }
 }
 
@@ -397,7 +397,7 @@ impl PartialEq for GreenNode {
     // The list has the pairs of nodes that are still to be compared.
     #[cycle(eq)]
     fn eq(&self, other: &GreenNode) -> bool {
-        let mut rest = Vec::new(*self.data.children.allocator());
+        let mut rest = Vec::new(self.allocator());
         if !self.is_same_but_for(other, MAX_RECURSION, &mut rest) {
             return false;
         }
@@ -433,9 +433,7 @@ impl GreenNode {
         if self.text_len() != other.text_len() {
             return false;
         }
-        let children = self.data.children.as_slice();
-        let others = other.data.children.as_slice();
-        GreenChild::are_same_but_for(children, others, levels, rest)
+        GreenChild::are_same_but_for(self.child_slice(), other.child_slice(), levels, rest)
     }
 }
 
@@ -525,12 +523,6 @@ impl GreenNode {
     ghost use Rattle.rowan_green.specs.View.{child_term};
     ghost use Rattle.rowan_green.specs.Feeds.{fed_head, fed_node};
 
-    fn child_slice(&self) -> &[GreenChild]
-        ensures { map child_term result.now ≡ node_children self.now }
-    {
-        self.data.children.as_slice()
-    }
-
     // Hashes the kind and the number of children.
     fn hash_head<H: Hasher>(&self, state: &mut H)
         ensures { state.new ≡ fold H.write state.old (fed_head self.now) }
@@ -545,7 +537,7 @@ impl GreenNode {
         ensures { state.new ≡ fold H.write state.old (fed_node self.now) }
     {
         self.hash_head(state);
-        let mut rest = Vec::new(*self.data.children.allocator());
+        let mut rest = Vec::new(self.allocator());
         let mut next = Some(self.child_slice());
         while let Some(children) = next {
             next = GreenChild::hash_first(children, levels, state, &mut rest);
@@ -624,7 +616,7 @@ impl GreenNode {
     fn fmt_within<W: fmt::Write>(&self, levels: u32, f: &mut fmt::Formatter<W>) -> fmt::Result
         ensures { DisplaysOnOk W.write_str_gives f.old result (Some (node_text self.now)) f.new }
     {
-        let mut rest = Vec::new(*self.data.children.allocator());
+        let mut rest = Vec::new(self.allocator());
         let mut next = Some(self.child_slice());
         while let Some(children) = next {
             next = GreenChild::display_first(children, levels, f, &mut rest)?;
@@ -682,7 +674,7 @@ impl fmt::Debug for GreenNode {
         f.debug_struct("GreenNode")
             .field("kind", &self.kind())
             .field("text_len", &self.text_len())
-            .field("n_children", &self.data.children.len())
+            .field("n_children", &self.child_slice().len())
             .finish()
     }
 }

@@ -76,7 +76,11 @@ impl Waiting {
     pub(super) fn truncate(&mut self, place: usize)
         ensures { IsCutAt place self.old self.new }
     {
-        self.elements.truncate(place);
-        self.numbers.truncate(place);
+        while self.elements.len() > place {
+            drop(self.elements.take_last());
+        }
+        while self.numbers.len() > place {
+            self.numbers.take_last();
+        }
     }
 }

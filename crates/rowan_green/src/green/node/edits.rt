@@ -6,6 +6,7 @@ ghost use Rattle.rowan_green.specs.Fits.{FitsNode, AreWithin, PassesLimit, WhyNo
 ghost use Rattle.rowan_green.specs.Runs.{IteratesAll, IteratesSome};
 ghost use Rattle.rowan_green.specs.Term.{node_children};
 
+use super::block::ChildBlock;
 use super::{GreenChild, GreenNode, NodeDraft};
 use crate::fault::Fault;
 use crate::green::GreenElement;
@@ -103,7 +104,7 @@ impl GreenNode {
         ensures within { AreWithin (node_children self.now) }
         ensures fits { FitsNode self.now }
     {
-        self.data.children.len()
+        self.child_slice().len()
     }
 
     // A draft of the children before an index, with room for this many children.
@@ -111,14 +112,14 @@ impl GreenNode {
         requires { index ≤ length (node_children self.now) }
         ensures { IfOk result (λ d. d ≡ take index (node_children self.now)) }
     {
-        let shared = self.data.children.as_slice();
-        let mut children = Vec::with_capacity(*self.data.children.allocator(), room)?;
+        let shared = self.child_slice();
+        let mut children = ChildBlock::with_capacity(self.allocator(), room)?;
         for child in shared.split_at(index).0 {
             children.push(child.clone()?)?;
         }
         let text_len = match shared.get(index) {
             Some(next) => next.rel_offset(),
-            None => self.data.text_len,
+            None => self.text_len(),
         };
         Ok(NodeDraft { text_len, children })
     }
@@ -130,8 +131,8 @@ impl GreenNode {
         ensures fits { IfOk result FitsNode }
         ensures err { IfErr result (WhyNoNode (draft ++ drop index (node_children self.now))) }
     {
-        let (_, behind) = self.data.children.split_at(index);
+        let (_, behind) = self.child_slice().split_at(index);
         draft.push_shared(behind)?;
-        Ok(draft.finish(*self.data.children.allocator(), self.kind())?)
+        Ok(draft.finish(self.kind())?)
     }
 }

@@ -6,10 +6,11 @@ ghost use Rattle.rowan_green.specs.View.{child_term, child_offset, AreSound};
 
 use crate::fault::Fault;
 use crate::green::SyntaxKind;
-use crate::green::node::{GreenChild, GreenNode, NodeData, NodeDraft};
+use crate::green::node::block::ChildBlock;
+use crate::green::node::{GreenChild, GreenNode, GreenNodeHead, NodeDraft};
 use crate::text::TextSize;
-use std::alloc::{AllocFailed, Global};
-use std::rc::Rc;
+use rowan_headed::front::Front;
+use std::alloc::Global;
 
 impl GreenNode {
     // The node of a kind and these elements, which stay with the caller too.
@@ -22,9 +23,9 @@ impl GreenNode {
         ensures within { OnOk result (AreWithin (map child_term elements.now)) }
         ensures err { IfErr result (WhyNoNode (map child_term elements.now)) }
     {
-        let mut draft = NodeDraft::new(Vec::with_capacity(alloc, elements.len())?);
+        let mut draft = NodeDraft::new(ChildBlock::with_capacity(alloc, elements.len())?);
         draft.push_shared(elements)?;
-        Ok(draft.finish(alloc, kind)?)
+        Ok(draft.finish(kind)?)
     }
 
     // The node of a kind and the elements of a list from a place on, which move into it as one block. A refused call leaves
@@ -52,25 +53,10 @@ impl GreenNode {
             → vec_len elements.new < vec_capacity elements.new }
     {
         let text_len = GreenChild::place(elements, first)?;
-        let children = elements.split_off(first)?;
-        let data = NodeData {
-            kind,
-            text_len,
-            children,
-        };
-        match Rc::new(alloc, data) {
+        let head = GreenNodeHead { kind, text_len };
+        match Front::from_last(alloc, head, elements, first, 2, 2) {
             Ok(data) => Ok(GreenNode { data }),
-            Err(refused) => {
-                let AllocFailed { value } = refused;
-                let NodeData {
-                    kind: _,
-                    text_len: _,
-                    mut children,
-                } = value;
-                // The list has still the room that they had.
-                let _ = elements.append(&mut children);
-                Err(Fault::Memory)
-            }
+            Err(_head) => Err(Fault::Memory),
         }
     }
 }

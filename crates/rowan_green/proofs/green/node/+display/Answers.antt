@@ -33,7 +33,7 @@ GreenChild::display_first-returns-else-is_err-clause-writes g t c =
     let behind = map child_term c.in-Some.behind.now ++ unread_terms c.args.rest.now.items in
     let text = ap (λ cs. joined_text (map child_term cs ++ unread_terms c.args.rest.now.items)) c.in-Some.ensures.cases.0
     ∙ ap (λ u. joined_text (u ∷ behind)) node
-    ∙ joined_text-entered c.in-Node.node.now (map child_term c.child_slice.result.now) behind c.child_slice.ensures
+    ∙ joined_text-entered c.in-Node.node.now (map child_term c.child_slice.result.now) behind c.child_slice.ensures.terms
     ∙ ap (λ ts. joined_text (map child_term c.child_slice.result.now ++ ts)) (sym above) in
     λ p. ([], (search rules, text))
 
@@ -41,7 +41,7 @@ pub GreenChild::display_first-returns-else-is_err-clause-smaller : goal.GreenChi
 GreenChild::display_first-returns-else-is_err-clause-smaller g t c =
     let list = pushed c.is_err.result _ c.args.rest.now.items c.push.new.self.items c.in-Some.behind c.if-is_err.false c.is_err.ensures.negation c.push.ensures.items in
     let node : child_term c.in-Some.child.now ≡ Node c.in-Node.node.now = search rules in
-    omega (arith, ap unread_size list, unread_size-push c.args.rest.now.items c.in-Some.behind, ap term_size node, ap terms_size c.child_slice.ensures, terms_size-node_children c.in-Node.node.now, ap children_size c.in-Some.ensures.cases.0)
+    omega (arith, ap unread_size list, unread_size-push c.args.rest.now.items c.in-Some.behind, ap term_size node, ap terms_size c.child_slice.ensures.terms, terms_size-node_children c.in-Node.node.now, ap children_size c.in-Some.ensures.cases.0)
 
 pub GreenNode::fmt_within-loop-next-init : goal.GreenNode::fmt_within-loop-next-init
 GreenNode::fmt_within-loop-next-init g t c = record {
@@ -50,10 +50,10 @@ GreenNode::fmt_within-loop-next-init g t c = record {
     (
       search rules,
       node_text-children c.args.self.now ∙ ap joined_text
-          (sym c.child_slice.ensures ∙ sym (append-nil (map child_term c.child_slice.result.now)) ∙ ap (λ rest. map child_term c.child_slice.result.now ++ unread_terms rest) (sym c.new-rest.ensures.items)),
+          (sym c.child_slice.ensures.terms ∙ sym (append-nil (map child_term c.child_slice.result.now)) ∙ ap (λ rest. map child_term c.child_slice.result.now ++ unread_terms rest) (sym c.new-rest.ensures.items)),
     ),
   ));
-  smaller = omega (arith, ap terms_size c.child_slice.ensures, terms_size-node_children c.args.self.now, ap unread_size c.new-rest.ensures.items);
+  smaller = omega (arith, ap terms_size c.child_slice.ensures.terms, terms_size-node_children c.args.self.now, ap unread_size c.new-rest.ensures.items);
 }
 
 pub GreenNode::fmt_within-loop-next-preserved : goal.GreenNode::fmt_within-loop-next-preserved

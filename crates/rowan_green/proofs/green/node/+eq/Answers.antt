@@ -9,7 +9,6 @@ use Rattle.rowan_green.specs.View.{child_term}
 use Rattle.rowan_green.specs.Same.{same_node, same_term, same_forest, same_forest-pointwise, same_node-decides}
 use Rattle.rowan_green.specs.Unread.{same_pairs, pairs_size}
 use Rattle.std.proofs.lemmas.Bool.Decides.{Decides-eqb}
-use Rattle.rowan_green.proofs.ChildList.{children-view}
 use Rattle.rowan_green.proofs.Drops.{term_size_le-children_size, children_size-node}
 use Rattle.rowan_green.proofs.Unread.{same_pairs-push, pairs_size-push, drop-child}
 use Rattle.rowan_green.proofs.green.node.+eq.Goals as goal
@@ -111,23 +110,17 @@ GreenNode::is_same_but_for-returns-then-ne-2-clause-same t c =
 
 pub GreenNode::is_same_but_for-are_same_but_for-requires : goal.GreenNode::is_same_but_for-are_same_but_for-requires
 GreenNode::is_same_but_for-are_same_but_for-requires t c =
-    let items = c.as_slice-children.ensures.value ∙ ap (λ d. d.children.items) c.deref.ensures in
-    (omega (arith, c.decreases, ap children_size items, children_size-node c.self.inside.data.value c.args.self.now c.self.view_is), tt)
+    (omega (arith, c.decreases, children_size-node c.child_slice.result.now c.args.self.now c.child_slice.ensures.terms), tt)
 
 pub GreenNode::is_same_but_for-returns-clause-same : goal.GreenNode::is_same_but_for-returns-clause-same
 GreenNode::is_same_but_for-returns-clause-same t c =
-    let items = c.as_slice-children.ensures.value ∙ ap (λ d. d.children.items) c.deref.ensures in
-    let others = c.as_slice-others.ensures.value ∙ ap (λ d. d.children.items) c.deref-2.ensures in
-    let x = ap (map child_term) items ∙ children-view c.self.inside.data.value c.args.self.now c.self.view_is in
-    let y = ap (map child_term) others ∙ children-view c.other.inside.data.value c.args.other.now c.other.view_is in
     let kinds = sym c.kind.ensures.kind ∙ tested_same c.kind.result.0 c.kind-2.result.0 c.if-ne.ensures ∙ c.kind-2.ensures.kind in
     c.are_same_but_for.ensures.same
-    ∙ ap (λ r. r && same_pairs c.args.rest.now.items) (same_node-lists c.args.self.now c.args.other.now (map child_term c.as_slice-children.result.now) (map child_term c.as_slice-others.result.now) kinds x y)
+    ∙ ap (λ r. r && same_pairs c.args.rest.now.items) (same_node-lists c.args.self.now c.args.other.now (map child_term c.child_slice.result.now) (map child_term c.child_slice-2.result.now) kinds c.child_slice.ensures.terms c.child_slice-2.ensures.terms)
 
 pub GreenNode::is_same_but_for-returns-clause-smaller : goal.GreenNode::is_same_but_for-returns-clause-smaller
 GreenNode::is_same_but_for-returns-clause-smaller t c =
-    let items = c.as_slice-children.ensures.value ∙ ap (λ d. d.children.items) c.deref.ensures in
-    omega (arith, c.are_same_but_for.ensures.smaller, ap children_size items, children_size-node c.self.inside.data.value c.args.self.now c.self.view_is)
+    omega (arith, c.are_same_but_for.ensures.smaller, children_size-node c.child_slice.result.now c.args.self.now c.child_slice.ensures.terms)
 
 pub GreenNodePartialEq::eq-is_same_but_for-requires-in-Some : goal.GreenNodePartialEq::eq-is_same_but_for-requires-in-Some
 GreenNodePartialEq::eq-is_same_but_for-requires-in-Some t c =

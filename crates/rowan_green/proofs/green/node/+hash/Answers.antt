@@ -29,7 +29,7 @@ GreenChild::hash_first-returns-else-is_err-clause-fed g t c =
     let above = ap unread_terms list ∙ unread_terms-push c.args.rest.now.items c.in-Some.behind in
     let behind = map child_term c.in-Some.behind.now ++ unread_terms c.args.rest.now.items in
     ap (λ ts. fold g.H.Hasher.write c.hash_head.new.state (fed_terms (map child_term c.child_slice.result.now ++ ts))) above
-    ∙ fold-entered g.H.Hasher.write c.args.state.now c.write_u8.new.self c.hash_head.new.state c.in-Node.node.now (map child_term c.child_slice.result.now) behind c.write_u8.ensures c.hash_head.ensures c.child_slice.ensures
+    ∙ fold-entered g.H.Hasher.write c.args.state.now c.write_u8.new.self c.hash_head.new.state c.in-Node.node.now (map child_term c.child_slice.result.now) behind c.write_u8.ensures c.hash_head.ensures c.child_slice.ensures.terms
     ∙ ap (λ u. fold g.H.Hasher.write c.args.state.now (fed_terms (u ∷ behind))) (sym node)
     ∙ ap (λ cs. fold g.H.Hasher.write c.args.state.now (fed_terms (map child_term cs ++ unread_terms c.args.rest.now.items))) (sym c.in-Some.ensures.cases.0)
 
@@ -37,12 +37,12 @@ pub GreenChild::hash_first-returns-else-is_err-clause-smaller : goal.GreenChild:
 GreenChild::hash_first-returns-else-is_err-clause-smaller g t c =
     let list = pushed c.is_err.result _ c.args.rest.now.items c.push.new.self.items c.in-Some.behind c.if-is_err.false c.is_err.ensures.negation c.push.ensures.items in
     let node : child_term c.in-Some.child.now ≡ Node c.in-Node.node.now = search rules in
-    omega (arith, ap unread_size list, unread_size-push c.args.rest.now.items c.in-Some.behind, ap term_size node, ap terms_size c.child_slice.ensures, terms_size-node_children c.in-Node.node.now, ap children_size c.in-Some.ensures.cases.0)
+    omega (arith, ap unread_size list, unread_size-push c.args.rest.now.items c.in-Some.behind, ap term_size node, ap terms_size c.child_slice.ensures.terms, terms_size-node_children c.in-Node.node.now, ap children_size c.in-Some.ensures.cases.0)
 
 pub GreenNode::hash_within-loop-next-init : goal.GreenNode::hash_within-loop-next-init
 GreenNode::hash_within-loop-next-init g t c = record {
-  fed = fold-node g.H.Hasher.write c.args.state.now c.hash_head.new.state c.args.self.now (map child_term c.child_slice.result.now) c.hash_head.ensures c.child_slice.ensures
+  fed = fold-node g.H.Hasher.write c.args.state.now c.hash_head.new.state c.args.self.now (map child_term c.child_slice.result.now) c.hash_head.ensures c.child_slice.ensures.terms
       ∙ ap (λ ts. fold g.H.Hasher.write c.hash_head.new.state (fed_terms ts))
       (sym (append-nil (map child_term c.child_slice.result.now)) ∙ ap (λ rest. map child_term c.child_slice.result.now ++ unread_terms rest) (sym c.new-rest.ensures.items));
-  smaller = omega (arith, ap terms_size c.child_slice.ensures, terms_size-node_children c.args.self.now, ap unread_size c.new-rest.ensures.items);
+  smaller = omega (arith, ap terms_size c.child_slice.ensures.terms, terms_size-node_children c.args.self.now, ap unread_size c.new-rest.ensures.items);
 }

@@ -4,29 +4,26 @@ use Rattle.std.proofs.lemmas.Result.{err_from_is_err_and}
 use Rattle.rowan_green.specs.Fits.{FitsNode, AreWithin, PassesLimit}
 use Rattle.rowan_green.specs.Term.{node_of, node_kind, node_children}
 use Rattle.rowan_green.specs.View.{child_term}
-use Rattle.rowan_green.proofs.ChildList.{children-view, drop-children}
+use Rattle.rowan_green.proofs.ChildList.{drop-children}
 use Rattle.rowan_green.proofs.Terms.{FitsNode-node_of}
 use Rattle.rowan_green.proofs.green.node.GreenNode.finish_after.Goals as goal
 
 pub split_at-requires : goal.split_at-requires
 split_at-requires c =
-    let items = c.deref-2.ensures.value ∙ ap (λ d. d.children.items) c.deref.ensures in
-    let terms = ap (map child_term) items ∙ children-view c.self.inside.data.value c.args.self.now c.self.view_is in
-    omega (arith, c.requires, ap length terms, length-map c.deref-2.result.now child_term)
+    let terms = c.child_slice.ensures.terms in
+    omega (arith, c.requires, ap length terms, length-map c.child_slice.result.now child_term)
 
 pub returns-in_err-push_shared-clause-err : goal.returns-in_err-push_shared-clause-err
 returns-in_err-push_shared-clause-err c =
     let p = err_from_is_err_and c.from_residual.result c.from_residual.ensures.1 in
-    let items = c.deref-2.ensures.value ∙ ap (λ d. d.children.items) c.deref.ensures in
-    let terms = ap (map child_term) items ∙ children-view c.self.inside.data.value c.args.self.now c.self.view_is in
-    let back = ap (map child_term) c.split_at.ensures.back ∙ drop-children c.args.index c.deref-2.result.now (node_children c.args.self.now) terms in
+    let terms = c.child_slice.ensures.terms in
+    let back = ap (map child_term) c.split_at.ensures.back ∙ drop-children c.args.index c.child_slice.result.now (node_children c.args.self.now) terms in
     rw (p.1, p.2) (λ not_memory. subst (λ ts. PassesLimit (c.args.draft ++ ts) c.in_err-push_shared.field-0.0) back (c.in_err-push_shared.ensures.err not_memory))
 
 pub returns-clause-ok : goal.returns-clause-ok
 returns-clause-ok c =
-    let items = c.deref-2.ensures.value ∙ ap (λ d. d.children.items) c.deref.ensures in
-    let terms = ap (map child_term) items ∙ children-view c.self.inside.data.value c.args.self.now c.self.view_is in
-    let back = ap (map child_term) c.split_at.ensures.back ∙ drop-children c.args.index c.deref-2.result.now (node_children c.args.self.now) terms in
+    let terms = c.child_slice.ensures.terms in
+    let back = ap (map child_term) c.split_at.ensures.back ∙ drop-children c.args.index c.child_slice.result.now (node_children c.args.self.now) terms in
     let whole = c.in_ok-push_shared.ensures.ok ∙ ap (λ ts. c.args.draft ++ ts) back in (
       c.in_ok-finish.ensures.ok ∙ ap (λ k. node_of k c.push_shared.new.self) c.kind.ensures.kind ∙ ap (node_of (node_kind c.args.self.now)) whole,
       subst AreWithin whole c.in_ok-finish.ensures.within,

@@ -1,4 +1,4 @@
-use Rattle.std.proofs.Common.{◌++◌, ◌∷◌, [], refl, subst, ◌∙◌, ap, true, false}
+use Rattle.std.proofs.Common.{◌++◌, ◌∷◌, [], refl, sym, subst, ◌∙◌, ap, true, false}
 use Rattle.std.proofs.lemmas.Result.{err_from_is_err_and}
 use Rattle.std.proofs.iter.runs.Made.{run, to_end, to_item}
 use Rattle.rowan_green.specs.Fits.{AreWithin, ChildPasses}
@@ -11,7 +11,7 @@ returns-clause-ok g c =
     let steps = g.I.IntoIter.Iterator.next_gives in
     let xs = c.loop-element.yielded in (
       it,
-      c.into_iter-element-iterator.ensures.into_iter_gives,
+      subst (λ t. g.I.IntoIterator.into_iter_gives c.args.children t) (sym c.into_iter-element-iterator.ensures.into_iter_gives) c.into_iter-children.ensures.into_iter_gives,
       (
         run steps it xs true (to_end steps it xs (_, (_, c.loop-element.yielded_by, c.in-None.ensures.steps))),
         refl,
@@ -26,10 +26,10 @@ returns-in_err-push-clause-err g c =
     let steps = g.I.IntoIter.Iterator.next_gives in
     let xs = c.loop-element.yielded in
     let x = c.in-Some.element in
-    let p = err_from_is_err_and c.from_residual.result c.from_residual.ensures.1 in
+    let p = err_from_is_err_and c.from_residual-in_err-push.result c.from_residual-in_err-push.ensures.1 in
     rw (p.1, p.2) (λ not_memory. (
       it,
-      c.into_iter-element-iterator.ensures.into_iter_gives,
+      subst (λ t. g.I.IntoIterator.into_iter_gives c.args.children t) (sym c.into_iter-element-iterator.ensures.into_iter_gives) c.into_iter-children.ensures.into_iter_gives,
       (
         run steps it (xs ++ x ∷ []) false (to_item steps it _ xs x (_, c.loop-element.yielded_by, c.in-Some.ensures.steps)),
         refl,

@@ -1,4 +1,4 @@
-use Rattle.std.proofs.Common.{◌≡◌, subst}
+use Rattle.std.proofs.Common.{ap, ◌∙◌, subst}
 use Rattle.rowan_green.specs.Fits.{FitsNode}
 use Rattle.rowan_green.specs.Term.{node_len}
 use Rattle.rowan_green.proofs.Sound.{AreSound-len, AreSound-fits}
@@ -6,7 +6,7 @@ use Rattle.rowan_green.proofs.green.node.GreenNode.text_len.Goals as goal
 
 pub returns-clause-len : goal.returns-clause-len
 returns-clause-len c =
-    rw c.deref.ensures (subst (λ n. c.self.inside.data.value.text_len ≡ node_len n) c.self.view_is (AreSound-len (c.self.inside.data.value.kind.0) _ _ c.self.invariant))
+    ap (λ f. f.head.text_len) c.value.ensures ∙ AreSound-len c.self.inside.data.value.head.kind.0 _ _ c.self.invariant.sound ∙ ap node_len c.self.view_is
 
 pub returns-clause-fits : goal.returns-clause-fits
-returns-clause-fits c = subst (λ n. FitsNode n) c.self.view_is (AreSound-fits (c.self.inside.data.value.kind.0) _ _ c.self.invariant)
+returns-clause-fits c = subst (λ n. FitsNode n) c.self.view_is (AreSound-fits c.self.inside.data.value.head.kind.0 _ _ c.self.invariant.sound)
