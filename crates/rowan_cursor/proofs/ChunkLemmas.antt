@@ -18,7 +18,7 @@ use Rattle.rowan_cursor.specs.Chunks.{texts_at, remaining_leaves, remaining_text
 use Rattle.rowan_cursor.specs.Moves.{children_of, is_node, is_node_at, first_at}
 use Rattle.rowan_cursor.specs.Pass.{of_some, after, since, since_child, leaf_list, first_inside}
 use Rattle.rowan_cursor.specs.SyntaxText.{slice_text, token_texts, meets, common_part, cut_chunks}
-use Rattle.rowan_cursor.specs.TableView.{root_of, path_at}
+use Rattle.rowan_cursor.specs.TableView.{root_of, path_at, entries_of}
 use Rattle.rowan_cursor.proofs.LeafLemmas.{find-first, since_child-none}
 use Rattle.rowan_cursor.proofs.SliceLemmas.{slice_text-len}
 use Rattle.rowan_cursor.proofs.TableLemmas.{slice_get-some, is_entry}
@@ -112,9 +112,9 @@ remaining_texts-start table top next left =
 -- a slice has no more bytes than an offset counts
 pub slice_fits : (table : Table) (n : ℕ) (range : Span) → IsSliceOf table n range → length (slice_text (slice_of table n range)) ≤ byte_limit
 slice_fits table n range is =
-    let there = stands_at table.entries.items table.complete n is.node.within in
-    let e = slice_get-some table.entries.items n is.node.within in
-    let entry = is_entry table.entries.items table.complete n e.0 e.1 in
+    let there = stands_at (entries_of table) table.complete n is.node.within in
+    let e = slice_get-some (entries_of table) n is.node.within in
+    let entry = is_entry (entries_of table) table.complete n e.0 e.1 in
     omega (arith, slice_text-len (slice_of table n range) there.0 there.1 is.slice, is.slice.from, is.slice.to, len-text (subterm (Node (root_of table)) (path_at table n)), entry.start, entry.end)
 
 -- A step of a walk.

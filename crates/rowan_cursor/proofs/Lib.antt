@@ -6,7 +6,9 @@ pub mod EndLemmas
 pub mod EventLemmas
 pub mod FillLemmas
 pub mod FoldLemmas
+pub mod InnerLemmas
 pub mod LeafLemmas
+pub mod NodeLemmas
 pub mod OffsetLemmas
 pub mod PathLemmas
 pub mod PreorderLaws

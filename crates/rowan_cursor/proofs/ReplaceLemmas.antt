@@ -10,13 +10,13 @@ use Rattle.rowan_green.specs.Term.{NodeTerm, Term, node_of, node_kind, node_chil
 use Rattle.rowan_green.proofs.PutLemmas.{put-child, subterm-apart, put-commute, put-itself}
 use Rattle.rowan_green.proofs.PutLimits.{unfit-put}
 use Rattle.rowan_green.proofs.PutRanges.{range-apart}
-use Rattle.rowan_cursor.specs.declared.table.Entry.{Entry}
+use Rattle.rowan_cursor.specs.declared.table.entry.Entry.{Entry}
 use Rattle.rowan_cursor.specs.declared.table.Table.{Table}
 use Rattle.rowan_cursor.specs.Cursor.{Cursor, StandsAt, kind, last_index, index, term_at}
 use Rattle.rowan_cursor.specs.Moves.{parent_path}
 use Rattle.rowan_cursor.specs.Replacement.{with_replacement, KeepsTheRest}
-use Rattle.rowan_cursor.specs.Table.{entry_index}
-use Rattle.rowan_cursor.specs.TableView.{root_of, path_at, cursor_of, IsEntryAt, IsTokenIn}
+use Rattle.rowan_cursor.specs.Table.{entry_index, facts_of}
+use Rattle.rowan_cursor.specs.TableView.{root_of, path_at, cursor_of, IsEntryAt, IsTokenIn, entries_of}
 use Rattle.rowan_cursor.proofs.EndLemmas.{token_behind}
 use Rattle.rowan_cursor.proofs.PathLemmas.{last_index-child, parent_path-child}
 use Rattle.rowan_cursor.proofs.TokenLemmas.{split-parent}
@@ -47,7 +47,7 @@ unfit-above root p q i n u e h passes =
 -- a token is a child of its parent
 pub token-place : (s : Table) (n i : ℕ) (e : Entry) (above : NodeTerm) → IsTokenIn s n → IsEntryAt s n e → i ≡ index (cursor_of s n) → StandsAt (cursor_of s e.parent) above → IsChildPath (root_of s) (path_at s n) (path_at s e.parent) i above
 token-place s n i e above token entry at node = record {
-  parent = sym (ap parent_path (entry.below (token_behind s n token)).path ∙ parent_path-child (path_at s e.parent) (entry_index s.entries.items n e));
+  parent = sym (ap parent_path (entry.below (token_behind s n token)).path ∙ parent_path-child (path_at s e.parent) (entry_index (entries_of s) n (facts_of s.nodes.items e)));
   index = at;
   node = node;
 }

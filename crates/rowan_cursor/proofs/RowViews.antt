@@ -11,7 +11,7 @@ use Rattle.rowan_cursor.specs.Cursor.{Cursor}
 use Rattle.rowan_cursor.specs.Moves.{numbers, cursor_at, element_at, Element, nodes_at, following, preceding, sibling_paths}
 use Rattle.rowan_cursor.specs.Walks.{numbers_between}
 use Rattle.rowan_cursor.specs.Table.{IsRow, IsRowBack}
-use Rattle.rowan_cursor.specs.TableView.{root_of, path_at, cursor_of, element_of, stands_for_node}
+use Rattle.rowan_cursor.specs.TableView.{root_of, path_at, cursor_of, element_of, stands_for_node, entries_of}
 use Rattle.rowan_cursor.specs.Yields.{Rest}
 use Rattle.rowan_cursor.proofs.RowLemmas.{numbers-last, map-reverse, first_split, last_split}
 
@@ -48,11 +48,11 @@ reverse-numbers a b h =
 pub row-from-back : (direction : Direction) (a b : ℕ) → direction ≡ Prev → a < b → numbers_between a b direction ≡ (b - 1) ∷ numbers_between a (b - 1) direction
 row-from-back direction a b e h = rw e (reverse-numbers a b h)
 
-pub siblings-next : (t : Table) (n a b : ℕ) (d : Direction) → d ≡ Next → a ≡ n + 1 → IsRow t.entries.items a b (following (root_of t) (path_at t n)) → map (path_at t) (numbers_between n b d) ≡ sibling_paths d (root_of t) (path_at t n)
+pub siblings-next : (t : Table) (n a b : ℕ) (d : Direction) → d ≡ Next → a ≡ n + 1 → IsRow (entries_of t) a b (following (root_of t) (path_at t n)) → map (path_at t) (numbers_between n b d) ≡ sibling_paths d (root_of t) (path_at t n)
 siblings-next t n a b d e from row =
     rw e (first_split (path_at t) n b (omega (arith, row.order)) ∙ ap (λ ps. path_at t n ∷ ps) (rw from at row.row))
 
-pub siblings-prev : (t : Table) (n a b : ℕ) (d : Direction) → d ≡ Prev → b ≡ n → IsRowBack t.entries.items a b (preceding (root_of t) (path_at t n)) → map (path_at t) (numbers_between a (n + 1) d) ≡ sibling_paths d (root_of t) (path_at t n)
+pub siblings-prev : (t : Table) (n a b : ℕ) (d : Direction) → d ≡ Prev → b ≡ n → IsRowBack (entries_of t) a b (preceding (root_of t) (path_at t n)) → map (path_at t) (numbers_between a (n + 1) d) ≡ sibling_paths d (root_of t) (path_at t n)
 siblings-prev t n a b d e to row =
     rw e (map-reverse (path_at t) (numbers a (n + 1 - a))
     ∙ last_split (path_at t) a (n + 1) n (omega (arith, row.order)) refl ∙ ap (λ ps. path_at t n ∷ ps) (rw to at row.row))

@@ -12,7 +12,7 @@ use Rattle.rowan_green.proofs.SearchLemmas.{bounds}
 use Rattle.rowan_cursor.specs.declared.table.Table.{Table}
 use Rattle.rowan_cursor.specs.declared.table.search.Place.{Place}
 use Rattle.rowan_cursor.specs.Table.{Describes}
-use Rattle.rowan_cursor.specs.TableView.{root_of, path_at, cursor_of, element_of, paths_below, IsWithin, IsPlace, IsChildUpTo, StretchShows}
+use Rattle.rowan_cursor.specs.TableView.{root_of, path_at, cursor_of, element_of, paths_below, IsWithin, IsPlace, IsChildUpTo, StretchShows, entries_of}
 use Rattle.rowan_cursor.specs.Moves.{Element, children_of, child_count}
 use Rattle.rowan_cursor.specs.Search.{IsRangeChild, IsOnlyRangeChild, Covers, Finds}
 use Rattle.rowan_cursor.specs.Cursor.{text_range}
@@ -38,7 +38,7 @@ child_span root p q k path within =
 -- the last child ends where its parent does, and another one where the next begins
 pub end_of_last : (t : Table) (stop limit n : ℕ) → IsChildUpTo t stop limit n → n + 1 ≡ stop → limit ≡ (text_range (cursor_of t n)).end
 end_of_last t stop limit n c last =
-    let es = t.entries.items in
+    let es = entries_of t in
     let root = root_of t in
     let p = path_at t c.parent in
     let here = child_path es root p c.first stop n c.row c.from c.to in
@@ -48,7 +48,7 @@ end_of_last t stop limit n c last =
 
 pub end_of_other : (t : Table) (stop limit n : ℕ) → IsChildUpTo t stop limit n → (n + 1 ≡ stop → ⊥) → start_of (cursor_of t (n + 1)) ≡ (text_range (cursor_of t n)).end
 end_of_other t stop limit n c other =
-    let es = t.entries.items in
+    let es = entries_of t in
     let root = root_of t in
     let p = path_at t c.parent in
     let less : n + 1 < stop = omega (arith, c.to, other) in
@@ -71,7 +71,7 @@ pub record IsAtPlace (t : Table) (parent : Place) (first stop k : ℕ) : Type 0 
 pub at_place : {t : Table} {parent : Place} {first stop : ℕ} (k : ℕ) → IsPlace t parent → StretchShows t first stop (paths_below t parent.number) → k < child_count (root_of t) (path_at t parent.number)
     → IsAtPlace t parent first stop k
 at_place {t} {parent} {first} {stop} k here row count =
-    let es = t.entries.items in
+    let es = entries_of t in
     let n = parent.number in
     let root = root_of t in
     let p = path_at t n in
@@ -99,7 +99,7 @@ place_lies {t} {parent} {first} {stop} {k} {own} here is =
 -- a place ends within the limit of a text
 pub place_limit : {t : Table} {place : Place} → IsPlace t place → place.range.end ≤ byte_limit
 place_limit {t} {place} here =
-    let es = t.entries.items in
+    let es = entries_of t in
     let e = slice_get-some es place.number here.within in
     let is : Describes es place.number e.0 = is_entry es t.complete place.number e.0 e.1 in
     omega (arith, is.end, is.start, ap (λ (r : Span). r.end) here.lies)

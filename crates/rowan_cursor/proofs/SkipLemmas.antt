@@ -17,7 +17,6 @@ use Rattle.rowan_green.specs.Term.{NodeTerm, Term, node_children, node_len, sum_
 use Rattle.rowan_green.specs.Path.{Path, subterm_of, subterm, offset, len_of, text_of, begins}
 use Rattle.rowan_green.proofs.SearchLemmas.{child_start-le}
 use Rattle.rowan_green.proofs.Terms.{terms-forest}
-use Rattle.rowan_cursor.specs.declared.table.Entry.{Entry}
 use Rattle.rowan_cursor.specs.declared.table.Table.{Table}
 use Rattle.rowan_cursor.specs.declared.table.chunks.ChunkWalk.{ChunkWalk}
 use Rattle.rowan_cursor.specs.Chunks.{texts_at, remaining_leaves, remaining_texts, IsTokenInside, MayCut, IsWalk, SkipsTo, slice_of}
@@ -26,8 +25,8 @@ use Rattle.rowan_cursor.specs.Moves.{children_of, child_count, child_paths, is_n
 use Rattle.rowan_cursor.specs.Pass.{Lists, below_children, after, since, leaf_list}
 use Rattle.rowan_cursor.specs.Search.{IsChildBefore}
 use Rattle.rowan_cursor.specs.SyntaxText.{chunks, meets, cut_chunks, IsBorder, IsTextSlice}
-use Rattle.rowan_cursor.specs.Table.{IsTable, IsRow, entry_path}
-use Rattle.rowan_cursor.specs.TableView.{IsWithin, root_of, path_at, cursor_of}
+use Rattle.rowan_cursor.specs.Table.{IsTable, IsRow, entry_path, Facts}
+use Rattle.rowan_cursor.specs.TableView.{IsWithin, root_of, path_at, cursor_of, entries_of}
 use Rattle.rowan_cursor.proofs.ChunkLemmas.{remaining_texts-start, chunks-skip, cut-back, len-text}
 use Rattle.rowan_cursor.proofs.LeafLemmas.{since_child-child, leaf_list-node}
 use Rattle.rowan_cursor.proofs.OffsetLemmas.{Fill, row-fills, leaves-fill}
@@ -38,12 +37,12 @@ use Rattle.rowan_cursor.proofs.TextLemmas.{map_same, text-tokens}
 use Rattle.rowan_cursor.proofs.TokenLemmas.{begins-longer, inside-child, since-node, apart_paths}
 
 -- Children by their numbers.
-pub row_count : (es : List Entry) (root : NodeTerm) (p : Path) (a b : ℕ) → IsRow es a b (child_paths root p) → b - a ≡ child_count root p
+pub row_count : (es : List Facts) (root : NodeTerm) (p : Path) (a b : ℕ) → IsRow es a b (child_paths root p) → b - a ≡ child_count root p
 row_count es root p a b row =
     omega (arith, length-map-range_with_len (entry_path es) a (b - a), ap length row.row, length-map-range_with_len (λ k. p ++ k ∷ []) 0 (child_count root p))
 
 -- the path of the child with a number, by the number of the first child
-pub child_path : (es : List Entry) (root : NodeTerm) (p : Path) (a b m : ℕ) → IsRow es a b (child_paths root p) → a ≤ m → m < b → (entry_path es m ≡ p ++ (m - a) ∷ []) × (m - a < child_count root p)
+pub child_path : (es : List Facts) (root : NodeTerm) (p : Path) (a b m : ℕ) → IsRow es a b (child_paths root p) → a ≤ m → m < b → (entry_path es m ≡ p ++ (m - a) ∷ []) × (m - a < child_count root p)
 child_path es root p a b m row from to =
     let i = m - a in
     let count = child_count root p in
@@ -61,7 +60,7 @@ no_root [] i e = cc
 no_root (j ∷ p) i e = cc
 
 -- a child has a later number
-pub child_later : (es : List Entry) → IsTable es → (n m i : ℕ) → n < length es → m < length es → entry_path es m ≡ entry_path es n ++ i ∷ [] → n < m
+pub child_later : (es : List Facts) → IsTable es → (n m i : ℕ) → n < length es → m < length es → entry_path es m ≡ entry_path es n ++ i ∷ [] → n < m
 child_later es t n zero i h k e = absurd (no_root (entry_path es n) i e)
 child_later es t n (suc m) i h k e =
     let d = slice_get-some es (suc m) k in
@@ -217,8 +216,8 @@ pub walk_from : (table : Table) (walk : ChunkWalk) (n : ℕ) → SkipsTo table w
 walk_from table walk n s slice token left at =
     let root = root_of table in
     let top = walk.node in
-    let e = slice_get-some table.entries.items top s.place.top_within in
-    let entry = is_entry table.entries.items table.complete top e.0 e.1 in
+    let e = slice_get-some (entries_of table) top s.place.top_within in
+    let entry = is_entry (entries_of table) table.complete top e.0 e.1 in
     let u = subterm (Node root) (path_at table top) in
     let rest = remaining_texts table top walk.next in
     let same : rest ≡ remaining_texts table top (Some n) = ap (texts_at root) left in

@@ -2,7 +2,7 @@
 use Rattle.std.proofs.Common.{◌≡◌, true, false, ℕ, zero, suc, ◌+◌, ◌-◌, ◌<◌, ◌≤◌, List, [], ◌∷◌, ◌++◌, map, reverse, length, take, Option, Some, None, refl, sym, ◌∙◌, ap, subst, arith}
 use Rattle.std.specs.Prelude.{slice_get}
 use Rattle.std.specs.Option.{option_map, option_map_or}
-use Rattle.std.proofs.lemmas.List.{take_all, take-take}
+use Rattle.std.proofs.lemmas.List.{take-take}
 use Rattle.std.proofs.lemmas.List.Sums.{sum_by_more, sum_by-take-le}
 use Rattle.std.proofs.lemmas.Option.{slice_get_within, get_or_from_slice_get, none-some, same_Some}
 use Rattle.rowan_green.specs.declared.utility_types.NodeOrToken.TheVariants.{Node, Token}
@@ -15,8 +15,7 @@ use Rattle.rowan_green.proofs.Paths.{offset-empty}
 use Rattle.rowan_green.proofs.SearchLemmas.{child_start-le_all}
 use Rattle.rowan_cursor.specs.Cursor.{last_index}
 use Rattle.rowan_cursor.specs.Moves.{is_node_at, numbers, below, child_count, children_of, is_node, child_paths, first_at, following, preceding}
-use Rattle.rowan_cursor.specs.Table.{root_node, green_of, offset_of, entry_index, children_in, len_in, counts, path_within, entry_path, IsTop, IsChildOf, IsDraft, IsTable, IsRow, IsRowBack, Describes}
-use Rattle.rowan_cursor.specs.declared.table.Entry.{Entry}
+use Rattle.rowan_cursor.specs.Table.{root_node, green_of, entry_index, children_in, len_in, counts, first_after, path_within, entry_path, IsTop, IsChildOf, IsDraft, IsTable, IsRow, IsRowBack, Describes, Facts}
 use Rattle.rowan_cursor.proofs.RowLemmas.{map-reverse, first_split, last_split, empty_row}
 use Rattle.rowan_cursor.proofs.PathLemmas.{subterm-child, offset-child, last_index-child, following-child, preceding-child, child_start-next, node_len-children}
 
@@ -27,18 +26,18 @@ slice_get-some [] i h = absurd (omega arith)
 slice_get-some (x ∷ xs) zero h = (x, refl)
 slice_get-some (x ∷ xs) (suc i) h = slice_get-some xs i (omega arith)
 
-pub counts-more : (es : List Entry) (n : ℕ) (e : Entry) → slice_get es n ≡ Some e → counts (take (n + 1) es) ≡ counts (take n es) + length (children_in (green_of e))
+pub counts-more : (es : List Facts) (n : ℕ) (e : Facts) → slice_get es n ≡ Some e → counts (take (n + 1) es) ≡ counts (take n es) + length (children_in (green_of e))
 counts-more es n e at =
-    sum_by_more (λ (x : Entry). length (children_in (green_of x))) es n e (slice_get_within es n e at)
-    ∙ ap (λ (x : Entry). counts (take n es) + length (children_in (green_of x))) (get_or_from_slice_get es n e e at)
+    sum_by_more (λ (x : Facts). length (children_in (green_of x))) es n e (slice_get_within es n e at)
+    ∙ ap (λ (x : Facts). counts (take n es) + length (children_in (green_of x))) (get_or_from_slice_get es n e e at)
 
-pub counts-within : (es : List Entry) (n : ℕ) (e : Entry) → slice_get es n ≡ Some e → counts (take n es) + length (children_in (green_of e)) ≤ counts es
+pub counts-within : (es : List Facts) (n : ℕ) (e : Facts) → slice_get es n ≡ Some e → counts (take n es) + length (children_in (green_of e)) ≤ counts es
 counts-within es n e at =
-    omega (arith, counts-more es n e at, sum_by-take-le (λ (x : Entry). length (children_in (green_of x))) es (n + 1))
+    omega (arith, counts-more es n e at, sum_by-take-le (λ (x : Facts). length (children_in (green_of x))) es (n + 1))
 
-counts-take-less : (es : List Entry) (m n : ℕ) (d : Entry) → slice_get es m ≡ Some d → m < n → counts (take m es) + length (children_in (green_of d)) ≤ counts (take n es)
+counts-take-less : (es : List Facts) (m n : ℕ) (d : Facts) → slice_get es m ≡ Some d → m < n → counts (take m es) + length (children_in (green_of d)) ≤ counts (take n es)
 counts-take-less es m n d at h =
-    omega (arith, counts-more es m d at, sum_by-take-le (λ (x : Entry). length (children_in (green_of x))) (take n es) (m + 1), ap counts (take-take (m + 1) n es (omega arith)))
+    omega (arith, counts-more es m d at, sum_by-take-le (λ (x : Facts). length (children_in (green_of x))) (take n es) (m + 1), ap counts (take-take (m + 1) n es (omega arith)))
 
 -- ---- lengths
 
@@ -78,16 +77,24 @@ kept_within (t ∷ ts) (suc i) g e = omega (arith, kept_within ts i g e)
 
 -- ---- paths
 
-first_child-counts : (es : List Entry) → IsDraft (length es) es → (n : ℕ) (e : Entry) → slice_get es n ≡ Some e → e.first_child ≡ counts (take n es) + 1
-first_child-counts es t n e at = t.firsts n e at (slice_get_within es n e at)
+first-some : (es : List Facts) (g : Option NodeTerm) → 0 < length (children_in g) → first_after es g ≡ counts es + 1
+first-some es None h = absurd (omega arith)
+first-some es (Some n) h = refl
 
-same_step : (es : List Entry) (f g : ℕ → Path) (n : ℕ) → IsDraft (length es) es → ((m : ℕ) → m < n → f m ≡ g m) → 0 < n → (o : Option Entry) → slice_get es n ≡ o
+first-least : (es : List Facts) (g : Option NodeTerm) → first_after es g ≤ counts es + 1
+first-least es None = omega arith
+first-least es (Some n) = omega arith
+
+first_child-counts : (es : List Facts) → IsDraft (length es) es → (n : ℕ) (e : Facts) → slice_get es n ≡ Some e → 0 < length (children_in (green_of e)) → e.first_child ≡ counts (take n es) + 1
+first_child-counts es t n e at some = t.firsts n e at ∙ first-some (take n es) (green_of e) some
+
+same_step : (es : List Facts) (f g : ℕ → Path) (n : ℕ) → IsDraft (length es) es → ((m : ℕ) → m < n → f m ≡ g m) → 0 < n → (o : Option Facts) → slice_get es n ≡ o
     → option_map_or (λ e. f e.parent ++ entry_index es n e ∷ []) o [] ≡ option_map_or (λ e. g e.parent ++ entry_index es n e ∷ []) o []
 same_step es f g n t same h None e = refl
 same_step es f g n t same h (Some x) e = ap (λ p. p ++ entry_index es n x ∷ []) (same x.parent (t.earlier n x e h).0)
 
 -- going up any further than to the root changes nothing
-path_within-enough : (es : List Entry) → IsDraft (length es) es → (a b n : ℕ) → n ≤ a → n ≤ b → path_within a es n ≡ path_within b es n
+path_within-enough : (es : List Facts) → IsDraft (length es) es → (a b n : ℕ) → n ≤ a → n ≤ b → path_within a es n ≡ path_within b es n
 path_within-enough es t zero zero n h k = refl
 path_within-enough es t zero (suc b) zero h k = refl
 path_within-enough es t zero (suc b) (suc n) h k = absurd (omega arith)
@@ -98,34 +105,34 @@ path_within-enough es t (suc a) (suc b) (suc n) h k =
     same_step es (path_within a es) (path_within b es) (suc n) t (λ m less. path_within-enough es t a b m (omega arith) (omega arith)) (omega arith) (slice_get es (suc n)) refl
 
 -- the path of an entry is that of its parent, and its index
-pub entry_path-child : (es : List Entry) → IsDraft (length es) es → (n : ℕ) (e : Entry) → slice_get es n ≡ Some e → 0 < n → entry_path es n ≡ entry_path es e.parent ++ entry_index es n e ∷ []
+pub entry_path-child : (es : List Facts) → IsDraft (length es) es → (n : ℕ) (e : Facts) → slice_get es n ≡ Some e → 0 < n → entry_path es n ≡ entry_path es e.parent ++ entry_index es n e ∷ []
 entry_path-child es t zero e at h = absurd (omega arith)
 entry_path-child es t (suc n) e at h =
     let less : e.parent < suc n = (t.earlier (suc n) e at h).0 in
     ap (λ o. option_map_or (λ d. path_within n es d.parent ++ entry_index es (suc n) d ∷ []) o []) at
     ∙ ap (λ p. p ++ entry_index es (suc n) e ∷ []) (path_within-enough es t n e.parent e.parent (omega arith) (omega arith))
 
-pub index_above : (es : List Entry) (n : ℕ) (e p : Entry) → slice_get es e.parent ≡ Some p → entry_index es n e ≡ n - p.first_child
-index_above es n e p above = ap (λ o. n - option_map_or (λ (q : Entry). q.first_child) o 0) above
+pub index_above : (es : List Facts) (n : ℕ) (e p : Facts) → slice_get es e.parent ≡ Some p → entry_index es n e ≡ n - p.first_child
+index_above es n e p above = ap (λ o. n - option_map_or (λ (q : Facts). q.first_child) o 0) above
 
 -- the same by the parent's entry
-entry_path-below : (es : List Entry) → IsDraft (length es) es → (n : ℕ) (e p : Entry) → slice_get es n ≡ Some e → 0 < n → slice_get es e.parent ≡ Some p → entry_path es n ≡ entry_path es e.parent ++ (n - p.first_child) ∷ []
+entry_path-below : (es : List Facts) → IsDraft (length es) es → (n : ℕ) (e p : Facts) → slice_get es n ≡ Some e → 0 < n → slice_get es e.parent ≡ Some p → entry_path es n ≡ entry_path es e.parent ++ (n - p.first_child) ∷ []
 entry_path-below es t n e p at h above =
     entry_path-child es t n e at h ∙ ap (λ i. entry_path es e.parent ++ i ∷ []) (index_above es n e p above)
 
 -- ---- what stands at the path of an entry
 
-pub record Stands (es : List Entry) (n : ℕ) (e : Entry) : Type 0 where
+pub record Stands (es : List Facts) (n : ℕ) (e : Facts) : Type 0 where
   pub green : option_map into_node (subterm (Node (root_node es)) (entry_path es n)) ≡ Some (green_of e)
-  pub start : offset (Node (root_node es)) (entry_path es n) ≡ offset_of e
+  pub start : offset (Node (root_node es)) (entry_path es n) ≡ e.start
 
-Stands-top : (es : List Entry) (e : Entry) → IsTop es e → Stands es 0 e
+Stands-top : (es : List Facts) (e : Facts) → IsTop es e → Stands es 0 e
 Stands-top es e top = record {
   green = ap (λ g. Some g) (sym top.green);
   start = offset-empty (Node (root_node es)) ∙ sym top.start;
 }
 
-Stands-child : (es : List Entry) → IsDraft (length es) es → (n : ℕ) (e p : Entry) → slice_get es n ≡ Some e → 0 < n → slice_get es e.parent ≡ Some p
+Stands-child : (es : List Facts) → IsDraft (length es) es → (n : ℕ) (e p : Facts) → slice_get es n ≡ Some e → 0 < n → slice_get es e.parent ≡ Some p
     → Stands es e.parent p → Stands es n e
 Stands-child es t n e p at h above s =
     let c : IsChildOf p n e = t.parents n e p at h above in
@@ -137,10 +144,10 @@ Stands-child es t n e p at h above s =
     let inside : i < length (children_of (subterm (Node root) q)) = omega (arith, ap length terms, kept_within (children_in (green_of p)) i (green_of e) c.child) in
     record {
       green = ap (λ r. option_map into_node (subterm (Node root) r)) path ∙ ap (option_map into_node) (subterm-child (Some (Node root)) q i ∙ ap (λ ts. slice_get ts i) terms) ∙ c.child;
-      start = ap (λ r. offset (Node root) r) path ∙ offset-child root q i inside ∙ ap (λ x. x + child_start (children_of (subterm (Node root) q)) i) s.start ∙ ap (λ ts. offset_of p + child_start ts i) terms ∙ sym c.start;
+      start = ap (λ r. offset (Node root) r) path ∙ offset-child root q i inside ∙ ap (λ x. x + child_start (children_of (subterm (Node root) q)) i) s.start ∙ ap (λ ts. p.start + child_start ts i) terms ∙ sym c.start;
     }
 
-Stands-within : (es : List Entry) → IsDraft (length es) es → (steps n : ℕ) → n ≤ steps → (e : Entry) → slice_get es n ≡ Some e → Stands es n e
+Stands-within : (es : List Facts) → IsDraft (length es) es → (steps n : ℕ) → n ≤ steps → (e : Facts) → slice_get es n ≡ Some e → Stands es n e
 Stands-within es t steps zero h e at = Stands-top es e (t.top e at)
 Stands-within es t zero (suc n) h e at = absurd (omega arith)
 Stands-within es t (suc steps) (suc n) h e at =
@@ -148,7 +155,7 @@ Stands-within es t (suc steps) (suc n) h e at =
     let above = slice_get-some es e.parent (omega (arith, slice_get_within es (suc n) e at)) in
     Stands-child es t (suc n) e above.0 at (omega arith) above.1 (Stands-within es t steps e.parent (omega arith) above.0 above.1)
 
-pub stands : (es : List Entry) → IsDraft (length es) es → (n : ℕ) (e : Entry) → slice_get es n ≡ Some e → Stands es n e
+pub stands : (es : List Facts) → IsDraft (length es) es → (n : ℕ) (e : Facts) → slice_get es n ≡ Some e → Stands es n e
 stands es t n e at = Stands-within es t n n (omega arith) e at
 
 -- where the text of an entry ends: a node's is within the limit, and a token's in that of the node above
@@ -156,20 +163,20 @@ end_of-token : (g : Option NodeTerm) (i : ℕ) (t : Term) → slice_get (childre
 end_of-token None i t e = absurd cc
 end_of-token (Some n) i t e = child_end (Node n) i t e
 
-ends_below : (es : List Entry) → IsDraft (length es) es → (n : ℕ) (e p : Entry) → slice_get es n ≡ Some e → 0 < n → slice_get es e.parent ≡ Some p → (o : Option Term) → slice_get (children_in (green_of p)) (n - p.first_child) ≡ o → offset_of e + len_of o ≤ byte_limit
+ends_below : (es : List Facts) → IsDraft (length es) es → (n : ℕ) (e p : Facts) → slice_get es n ≡ Some e → 0 < n → slice_get es e.parent ≡ Some p → (o : Option Term) → slice_get (children_in (green_of p)) (n - p.first_child) ≡ o → e.start + len_of o ≤ byte_limit
 ends_below es t n e p at h above None f = omega (arith, t.ends n e at)
 ends_below es t n e p at h above (Some u) f =
     omega (arith, (t.parents n e p at h above).start, end_of-token (green_of p) (n - p.first_child) u f, t.ends e.parent p above)
 
 -- an entry's term is that child of the node above
-pub child_above : (es : List Entry) → IsDraft (length es) es → (n : ℕ) (e p : Entry) → slice_get es n ≡ Some e → 0 < n → slice_get es e.parent ≡ Some p → subterm (Node (root_node es)) (entry_path es n) ≡ slice_get (children_in (green_of p)) (n - p.first_child)
+pub child_above : (es : List Facts) → IsDraft (length es) es → (n : ℕ) (e p : Facts) → slice_get es n ≡ Some e → 0 < n → slice_get es e.parent ≡ Some p → subterm (Node (root_node es)) (entry_path es n) ≡ slice_get (children_in (green_of p)) (n - p.first_child)
 child_above es t n e p at h above =
     let root = root_node es in
     let q = entry_path es e.parent in
     ap (λ r. subterm (Node root) r) (entry_path-below es t n e p at h above) ∙ subterm-child (Some (Node root)) q (n - p.first_child)
     ∙ ap (λ ts. slice_get ts (n - p.first_child)) (content-children (subterm (Node root) q) (green_of p) (stands es t e.parent p above).green)
 
-ends_within : (es : List Entry) → IsDraft (length es) es → (n : ℕ) (e : Entry) → slice_get es n ≡ Some e → offset_of e + len_of (subterm (Node (root_node es)) (entry_path es n)) ≤ byte_limit
+ends_within : (es : List Facts) → IsDraft (length es) es → (n : ℕ) (e : Facts) → slice_get es n ≡ Some e → e.start + len_of (subterm (Node (root_node es)) (entry_path es n)) ≤ byte_limit
 ends_within es t zero e at = omega (arith, t.ends 0 e at, ap len_in (t.top e at).green)
 ends_within es t (suc n) e at =
     let less : e.parent < suc n = (t.earlier (suc n) e at (omega arith)).0 in
@@ -177,23 +184,24 @@ ends_within es t (suc n) e at =
     let p = above.0 in
     omega (arith, ends_below es t (suc n) e p at (omega arith) above.1 (slice_get (children_in (green_of p)) (suc n - p.first_child)) refl, ap len_of (child_above es t (suc n) e p at (omega arith) above.1))
 
-last_index-index : (es : List Entry) → IsDraft (length es) es → (n : ℕ) (e : Entry) → slice_get es n ≡ Some e → last_index (entry_path es n) ≡ entry_index es n e
+last_index-index : (es : List Facts) → IsDraft (length es) es → (n : ℕ) (e : Facts) → slice_get es n ≡ Some e → last_index (entry_path es n) ≡ entry_index es n e
 last_index-index es t zero e at = omega arith
 last_index-index es t (suc n) e at =
     ap last_index (entry_path-child es t (suc n) e at (omega arith)) ∙ last_index-child (entry_path es e.parent) (entry_index es (suc n) e)
 
 -- ---- rows
 
-rows_apart : (es : List Entry) → IsDraft (length es) es → (m n : ℕ) (d e : Entry) → slice_get es m ≡ Some d → slice_get es n ≡ Some e → m < n → d.first_child + length (children_in (green_of d)) ≤ e.first_child
-rows_apart es t m n d e dat eat h =
-    omega (arith, counts-take-less es m n d dat h, first_child-counts es t m d dat, first_child-counts es t n e eat)
+rows_apart : (es : List Facts) → IsDraft (length es) es → (m n : ℕ) (d e : Facts) → slice_get es m ≡ Some d → slice_get es n ≡ Some e → 0 < length (children_in (green_of d)) → 0 < length (children_in (green_of e)) → m < n → d.first_child + length (children_in (green_of d)) ≤ e.first_child
+rows_apart es t m n d e dat eat some more h =
+    omega (arith, counts-take-less es m n d dat h, first_child-counts es t m d dat some, first_child-counts es t n e eat more)
 
-pub row_within : (es : List Entry) → IsTable es → (n : ℕ) (e : Entry) → slice_get es n ≡ Some e → e.first_child + length (children_in (green_of e)) ≤ length es
-row_within es t n e at = omega (arith, counts-within es n e at, first_child-counts es t.draft n e at, t.whole)
+pub row_within : (es : List Facts) → IsTable es → (n : ℕ) (e : Facts) → slice_get es n ≡ Some e → e.first_child + length (children_in (green_of e)) ≤ length es
+row_within es t n e at =
+    omega (arith, counts-within es n e at, t.draft.firsts n e at, first-least (take n es) (green_of e), t.whole)
 
 -- the entry with the number of child j of entry n is that child
-pub record HasChild (es : List Entry) (n : ℕ) (e : Entry) (j : ℕ) : Type 0 where
-  pub child : Entry
+pub record HasChild (es : List Facts) (n : ℕ) (e : Facts) (j : ℕ) : Type 0 where
+  pub child : Facts
   pub at : slice_get es (e.first_child + j) ≡ Some child
   pub parent : child.parent ≡ n
   pub index : entry_index es (e.first_child + j) child ≡ j
@@ -204,20 +212,20 @@ same_parent a b h k = omega arith
 same_index : (m a b i j : ℕ) → i ≡ m - a → m ≡ b + j → a ≡ b → i ≡ j
 same_index m a b i j d e f = omega arith
 
-same_entry : (es : List Entry) (m n : ℕ) (d e : Entry) → slice_get es m ≡ Some d → slice_get es n ≡ Some e → m ≡ n → d ≡ e
+same_entry : (es : List Facts) (m n : ℕ) (d e : Facts) → slice_get es m ≡ Some d → slice_get es n ≡ Some e → m ≡ n → d ≡ e
 same_entry es m n d e p q h = same_Some d e (sym p ∙ ap (λ k. slice_get es k) h ∙ q)
 
-same_first : (d e : Entry) → d ≡ e → d.first_child ≡ e.first_child
-same_first d e h = ap (λ (x : Entry). x.first_child) h
+same_first : (d e : Facts) → d ≡ e → d.first_child ≡ e.first_child
+same_first d e h = ap (λ (x : Facts). x.first_child) h
 
-pub has_child : (es : List Entry) → IsTable es → (n : ℕ) (e : Entry) (j : ℕ) → slice_get es n ≡ Some e → j < length (children_in (green_of e)) → HasChild es n e j
+pub has_child : (es : List Facts) → IsTable es → (n : ℕ) (e : Facts) (j : ℕ) → slice_get es n ≡ Some e → j < length (children_in (green_of e)) → HasChild es n e j
 has_child es t n e j at h =
     let f = t.draft in
     let m = e.first_child + j in
     let within : m < length es = omega (arith, row_within es t n e at) in
     let found = slice_get-some es m within in
     let c = found.0 in
-    let behind : 0 < m = omega (arith, first_child-counts es f n e at) in
+    let behind : 0 < m = omega (arith, first_child-counts es f n e at (omega arith)) in
     let less : c.parent < m = (f.earlier m c found.1 behind).0 in
     let above = slice_get-some es c.parent (omega arith) in
     let p = above.0 in
@@ -225,7 +233,7 @@ has_child es t n e j at h =
     let inside : m - p.first_child < length (children_in (green_of p)) = kept_within (children_in (green_of p)) (m - p.first_child) (green_of c) is.child in
     let place : p.first_child ≤ m = is.place in
     let same : c.parent ≡ n =
-    same_parent c.parent n (λ before. omega (arith, rows_apart es f c.parent n p e above.1 at before)) (λ before. omega (arith, rows_apart es f n c.parent e p at above.1 before)) in
+    same_parent c.parent n (λ before. omega (arith, rows_apart es f c.parent n p e above.1 at (omega arith) (omega arith) before)) (λ before. omega (arith, rows_apart es f n c.parent e p at above.1 (omega arith) (omega arith) before)) in
     let entry : p ≡ e = same_entry es c.parent n p e above.1 at same in
     record {
       child = c;
@@ -234,15 +242,15 @@ has_child es t n e j at h =
       index = same_index m p.first_child e.first_child (entry_index es m c) j (index_above es m c p above.1) refl (same_first p e entry);
     }
 
-pub entry_path-row : (es : List Entry) → IsTable es → (n : ℕ) (e : Entry) (j : ℕ) → slice_get es n ≡ Some e → j < length (children_in (green_of e)) → entry_path es (e.first_child + j) ≡ entry_path es n ++ j ∷ []
+pub entry_path-row : (es : List Facts) → IsTable es → (n : ℕ) (e : Facts) (j : ℕ) → slice_get es n ≡ Some e → j < length (children_in (green_of e)) → entry_path es (e.first_child + j) ≡ entry_path es n ++ j ∷ []
 entry_path-row es t n e j at h =
     let c : HasChild es n e j = has_child es t n e j at h in
-    let behind : 0 < e.first_child + j = omega (arith, first_child-counts es t.draft n e at) in
+    let behind : 0 < e.first_child + j = omega (arith, first_child-counts es t.draft n e at (omega arith)) in
     entry_path-child es t.draft (e.first_child + j) c.child c.at behind
     ∙ ap (λ k. entry_path es k ++ entry_index es (e.first_child + j) c.child ∷ []) c.parent ∙ ap (λ i. entry_path es n ++ i ∷ []) c.index
 
 -- a part of the children of an entry
-pub row_below : (es : List Entry) → IsTable es → (n : ℕ) (e : Entry) → slice_get es n ≡ Some e → (c a : ℕ) → a + c ≤ length (children_in (green_of e))
+pub row_below : (es : List Facts) → IsTable es → (n : ℕ) (e : Facts) → slice_get es n ≡ Some e → (c a : ℕ) → a + c ≤ length (children_in (green_of e))
     → map (entry_path es) (numbers (e.first_child + a) c) ≡ below (entry_path es n) (numbers a c)
 row_below es t n e at zero a h = refl
 row_below es t n e at (suc c) a h =
@@ -252,26 +260,17 @@ row_below es t n e at (suc c) a h =
     ap (λ p. p ∷ map (entry_path es) (numbers (e.first_child + a + 1) c)) (entry_path-row es t n e a at (omega arith))
     ∙ ap (λ ps. (entry_path es n ++ a ∷ []) ∷ ps) rest
 
-child_count-entry : (es : List Entry) → IsDraft (length es) es → (n : ℕ) (e : Entry) → slice_get es n ≡ Some e → child_count (root_node es) (entry_path es n) ≡ length (children_in (green_of e))
+child_count-entry : (es : List Facts) → IsDraft (length es) es → (n : ℕ) (e : Facts) → slice_get es n ≡ Some e → child_count (root_node es) (entry_path es n) ≡ length (children_in (green_of e))
 child_count-entry es t n e at =
     ap length (content-children (subterm (Node (root_node es)) (entry_path es n)) (green_of e) (stands es t n e at).green)
 
 -- some of the children of an entry, where their numbers are known in another form
-part : (es : List Entry) → IsTable es → (n : ℕ) (e : Entry) → slice_get es n ≡ Some e → (start a c : ℕ) → start ≡ e.first_child + a → a + c ≤ length (children_in (green_of e))
+part : (es : List Facts) → IsTable es → (n : ℕ) (e : Facts) → slice_get es n ≡ Some e → (start a c : ℕ) → start ≡ e.first_child + a → a + c ≤ length (children_in (green_of e))
     → map (entry_path es) (numbers start c) ≡ below (entry_path es n) (numbers a c)
 part es t n e at start a c from h =
     ap (λ k. map (entry_path es) (numbers k c)) from ∙ row_below es t n e at c a h
 
--- the children of an entry end where those of the next begin, and those of the last with the table
-pub row_end-next : (es : List Entry) → IsTable es → (n : ℕ) (e d : Entry) → slice_get es n ≡ Some e → slice_get es (n + 1) ≡ Some d → d.first_child ≡ e.first_child + length (children_in (green_of e))
-row_end-next es t n e d at next =
-    omega (arith, first_child-counts es t.draft (n + 1) d next, first_child-counts es t.draft n e at, counts-more es n e at)
-
-pub row_end-last : (es : List Entry) → IsTable es → (n : ℕ) (e : Entry) → slice_get es n ≡ Some e → n + 1 ≡ length es → length es ≡ e.first_child + length (children_in (green_of e))
-row_end-last es t n e at h =
-    omega (arith, t.whole, first_child-counts es t.draft n e at, counts-more es n e at, ap counts (take_all (n + 1) es (omega arith)))
-
-children_row : (es : List Entry) → IsTable es → (n : ℕ) (e : Entry) → slice_get es n ≡ Some e → IsRow es e.first_child (e.first_child + length (children_in (green_of e))) (child_paths (root_node es) (entry_path es n))
+children_row : (es : List Facts) → IsTable es → (n : ℕ) (e : Facts) → slice_get es n ≡ Some e → IsRow es e.first_child (e.first_child + length (children_in (green_of e))) (child_paths (root_node es) (entry_path es n))
 children_row es t n e at =
     let left : e.first_child + length (children_in (green_of e)) - e.first_child ≡ length (children_in (green_of e)) = omega arith in
     record {
@@ -281,7 +280,7 @@ children_row es t n e at =
     }
 
 -- all that stands at a number
-pub is_entry : (es : List Entry) → IsTable es → (n : ℕ) (e : Entry) → slice_get es n ≡ Some e → Describes es n e
+pub is_entry : (es : List Facts) → IsTable es → (n : ℕ) (e : Facts) → slice_get es n ≡ Some e → Describes es n e
 is_entry es t n e at =
     let s : Stands es n e = stands es t.draft n e at in
     record {
@@ -299,19 +298,19 @@ is_entry es t n e at =
 
 -- ---- siblings
 
-pub record HasAbove (es : List Entry) (n : ℕ) (e p : Entry) : Type 0 where
+pub record HasAbove (es : List Facts) (n : ℕ) (e p : Facts) : Type 0 where
   pub at : slice_get es n ≡ Some e
   pub behind : 0 < n
   pub above : slice_get es e.parent ≡ Some p
 
-place : (es : List Entry) (n : ℕ) (e p : Entry) → IsTable es → HasAbove es n e p → n ≡ p.first_child + (n - p.first_child)
+place : (es : List Facts) (n : ℕ) (e p : Facts) → IsTable es → HasAbove es n e p → n ≡ p.first_child + (n - p.first_child)
 place es n e p t h = omega (arith, (t.draft.parents n e p h.at h.behind h.above).place)
 
-index_below : (es : List Entry) (n : ℕ) (e p : Entry) → IsTable es → HasAbove es n e p → n - p.first_child < length (children_in (green_of p))
+index_below : (es : List Facts) (n : ℕ) (e p : Facts) → IsTable es → HasAbove es n e p → n - p.first_child < length (children_in (green_of p))
 index_below es n e p t h =
     kept_within (children_in (green_of p)) (n - p.first_child) (green_of e) (t.draft.parents n e p h.at h.behind h.above).child
 
-pub following_row : (es : List Entry) → IsTable es → (n : ℕ) (e p : Entry) → HasAbove es n e p → IsRow es (n + 1) (p.first_child + length (children_in (green_of p))) (following (root_node es) (entry_path es n))
+pub following_row : (es : List Facts) → IsTable es → (n : ℕ) (e p : Facts) → HasAbove es n e p → IsRow es (n + 1) (p.first_child + length (children_in (green_of p))) (following (root_node es) (entry_path es n))
 following_row es t n e p h =
     let root = root_node es in
     let q = entry_path es e.parent in
@@ -328,7 +327,7 @@ following_row es t n e p h =
           ∙ sym (following-child root q (n - p.first_child)) ∙ ap (following root) (sym (entry_path-below es t.draft n e p h.at h.behind h.above));
     }
 
-pub preceding_row : (es : List Entry) → IsTable es → (n : ℕ) (e p : Entry) → HasAbove es n e p → IsRowBack es p.first_child n (preceding (root_node es) (entry_path es n))
+pub preceding_row : (es : List Facts) → IsTable es → (n : ℕ) (e p : Facts) → HasAbove es n e p → IsRowBack es p.first_child n (preceding (root_node es) (entry_path es n))
 preceding_row es t n e p h =
     let root = root_node es in
     let q = entry_path es e.parent in
@@ -342,7 +341,7 @@ preceding_row es t n e p h =
           ∙ sym (preceding-child root q (n - p.first_child)) ∙ ap (preceding root) (sym (entry_path-below es t.draft n e p h.at h.behind h.above));
     }
 
-pub above_of : (es : List Entry) → IsTable es → (n : ℕ) (e : Entry) → slice_get es n ≡ Some e → 0 < n → (p : Entry) × HasAbove es n e p
+pub above_of : (es : List Facts) → IsTable es → (n : ℕ) (e : Facts) → slice_get es n ≡ Some e → 0 < n → (p : Facts) × HasAbove es n e p
 above_of es t n e at h =
     let less : e.parent < n = (t.draft.earlier n e at h).0 in
     let above = slice_get-some es e.parent (omega (arith, slice_get_within es n e at)) in (
@@ -355,28 +354,36 @@ above_of es t n e at h =
     )
 
 -- the siblings behind an entry end where the children of its parent do
-pub following_to : (es : List Entry) → IsTable es → (n : ℕ) (e : Entry) (end : ℕ) → slice_get es n ≡ Some e → 0 < n
-    → ((p : Entry) → slice_get es e.parent ≡ Some p → end ≡ p.first_child + length (children_in (green_of p))) → IsRow es (n + 1) end (following (root_node es) (entry_path es n))
+pub following_to : (es : List Facts) → IsTable es → (n : ℕ) (e : Facts) (end : ℕ) → slice_get es n ≡ Some e → 0 < n
+    → ((p : Facts) → slice_get es e.parent ≡ Some p → end ≡ p.first_child + length (children_in (green_of p))) → IsRow es (n + 1) end (following (root_node es) (entry_path es n))
 following_to es t n e end at h ends =
     let a = above_of es t n e at h in
     let row = following_row es t n e a.0 a.1 in
     subst (λ k. IsRow es (n + 1) k (following (root_node es) (entry_path es n))) (sym (ends a.0 a.1.above)) row
 
+-- and those before it begin there
+pub preceding_from : (es : List Facts) → IsTable es → (n : ℕ) (e : Facts) (start : ℕ) → slice_get es n ≡ Some e → 0 < n
+    → ((p : Facts) → slice_get es e.parent ≡ Some p → start ≡ p.first_child) → IsRowBack es start n (preceding (root_node es) (entry_path es n))
+preceding_from es t n e start at h starts =
+    let a = above_of es t n e at h in
+    let row = preceding_row es t n e a.0 a.1 in
+    subst (λ k. IsRowBack es k n (preceding (root_node es) (entry_path es n))) (sym (starts a.0 a.1.above)) row
+
 -- two entries with one number have one parent
-parent_at : (es : List Entry) (m k : ℕ) (d c : Entry) (parent : ℕ) → slice_get es m ≡ Some d → slice_get es k ≡ Some c → m ≡ k → c.parent ≡ parent → d.parent ≡ parent
-parent_at es m k d c parent at there same above = ap (λ (x : Entry). x.parent) (same_entry es m k d c at there same) ∙ above
+parent_at : (es : List Facts) (m k : ℕ) (d c : Facts) (parent : ℕ) → slice_get es m ≡ Some d → slice_get es k ≡ Some c → m ≡ k → c.parent ≡ parent → d.parent ≡ parent
+parent_at es m k d c parent at there same above = ap (λ (x : Facts). x.parent) (same_entry es m k d c at there same) ∙ above
 
 -- the next sibling is the next entry, where that has the same parent
-no_next : (es : List Entry) (a b : ℕ) (ps : List Path) → IsRow es a b ps → a ≡ b → None ≡ first_at ps
+no_next : (es : List Facts) (a b : ℕ) (ps : List Path) → IsRow es a b ps → a ≡ b → None ≡ first_at ps
 no_next es a b ps row h = ap first_at (sym (empty_row (entry_path es) a b h) ∙ row.row)
 
-pub next_past : (es : List Entry) → IsTable es → (n : ℕ) (e : Entry) → slice_get es n ≡ Some e → 0 < n → n + 1 ≡ length es → None ≡ first_at (following (root_node es) (entry_path es n))
+pub next_past : (es : List Facts) → IsTable es → (n : ℕ) (e : Facts) → slice_get es n ≡ Some e → 0 < n → n + 1 ≡ length es → None ≡ first_at (following (root_node es) (entry_path es n))
 next_past es t n e at h last =
     let a = above_of es t n e at h in
     let row = following_row es t n e a.0 a.1 in
     no_next es (n + 1) (a.0.first_child + length (children_in (green_of a.0))) (following (root_node es) (entry_path es n)) row (omega (arith, row.order, row.within))
 
-pub next_beside : (es : List Entry) → IsTable es → (n : ℕ) (e d : Entry) → slice_get es n ≡ Some e → 0 < n → slice_get es (n + 1) ≡ Some d → d.parent ≡ e.parent
+pub next_beside : (es : List Facts) → IsTable es → (n : ℕ) (e d : Facts) → slice_get es n ≡ Some e → 0 < n → slice_get es (n + 1) ≡ Some d → d.parent ≡ e.parent
     → Some (entry_path es (n + 1)) ≡ first_at (following (root_node es) (entry_path es n))
 next_beside es t n e d at h next same =
     let a = above_of es t n e at h in
@@ -386,7 +393,7 @@ next_beside es t n e d at h next same =
     let less : n + 1 < p.first_child + length (children_in (green_of p)) = omega (arith, is.place, kept_within (children_in (green_of p)) (n + 1 - p.first_child) (green_of d) is.child) in
     sym (ap first_at (first_split (entry_path es) (n + 1) (p.first_child + length (children_in (green_of p))) less)) ∙ ap first_at row.row
 
-pub next_apart : (es : List Entry) → IsTable es → (n : ℕ) (e d : Entry) → slice_get es n ≡ Some e → 0 < n → slice_get es (n + 1) ≡ Some d → (d.parent ≡ e.parent → ⊥)
+pub next_apart : (es : List Facts) → IsTable es → (n : ℕ) (e d : Facts) → slice_get es n ≡ Some e → 0 < n → slice_get es (n + 1) ≡ Some d → (d.parent ≡ e.parent → ⊥)
     → None ≡ first_at (following (root_node es) (entry_path es n))
 next_apart es t n e d at h next apart =
     let a = above_of es t n e at h in
@@ -402,10 +409,10 @@ next_apart es t n e d at h next apart =
     no_next es (n + 1) end (following (root_node es) (entry_path es n)) row (same_parent (n + 1) end inside past)
 
 -- the sibling before is the entry before, where that has the same parent
-no_prev : (es : List Entry) (a b : ℕ) (ps : List Path) → IsRowBack es a b ps → a ≡ b → None ≡ first_at ps
+no_prev : (es : List Facts) (a b : ℕ) (ps : List Path) → IsRowBack es a b ps → a ≡ b → None ≡ first_at ps
 no_prev es a b ps row h = ap first_at (sym (ap reverse (empty_row (entry_path es) a b h)) ∙ row.row)
 
-pub prev_beside : (es : List Entry) → IsTable es → (n : ℕ) (e d : Entry) → slice_get es n ≡ Some e → 1 < n → slice_get es (n - 1) ≡ Some d → d.parent ≡ e.parent
+pub prev_beside : (es : List Facts) → IsTable es → (n : ℕ) (e d : Facts) → slice_get es n ≡ Some e → 1 < n → slice_get es (n - 1) ≡ Some d → d.parent ≡ e.parent
     → Some (entry_path es (n - 1)) ≡ first_at (preceding (root_node es) (entry_path es n))
 prev_beside es t n e d at h before same =
     let a = above_of es t n e at (omega arith) in
@@ -414,7 +421,7 @@ prev_beside es t n e d at h before same =
     let is : IsChildOf p (n - 1) d = t.draft.parents (n - 1) d p before (omega arith) (ap (λ k. slice_get es k) same ∙ a.1.above) in
     sym (ap first_at (last_split (entry_path es) p.first_child n (n - 1) (omega (arith, is.place)) (omega arith))) ∙ ap first_at row.row
 
-pub prev_apart : (es : List Entry) → IsTable es → (n : ℕ) (e d : Entry) → slice_get es n ≡ Some e → 1 < n → slice_get es (n - 1) ≡ Some d → (d.parent ≡ e.parent → ⊥)
+pub prev_apart : (es : List Facts) → IsTable es → (n : ℕ) (e d : Facts) → slice_get es n ≡ Some e → 1 < n → slice_get es (n - 1) ≡ Some d → (d.parent ≡ e.parent → ⊥)
     → None ≡ first_at (preceding (root_node es) (entry_path es n))
 prev_apart es t n e d at h before apart =
     let a = above_of es t n e at (omega arith) in
@@ -427,20 +434,34 @@ prev_apart es t n e d at h before apart =
     let past : n < p.first_child → ⊥ = λ more. omega (arith, row.order) in
     no_prev es p.first_child n (preceding (root_node es) (entry_path es n)) row (same_parent p.first_child n inside past)
 
+-- the root has no sibling, and its first child none before it
+pub prev_first : (es : List Facts) → IsTable es → (n : ℕ) → n < length es → n ≤ 1 → None ≡ first_at (preceding (root_node es) (entry_path es n))
+prev_first es t zero within h = refl
+prev_first es t (suc zero) within h =
+    let found = slice_get-some es 1 within in
+    let e = found.0 in
+    let a = above_of es t 1 e found.1 (omega arith) in
+    let p = a.0 in
+    let top : e.parent ≡ 0 = omega (arith, (t.draft.earlier 1 e found.1 (omega arith)).0) in
+    let at : slice_get es 0 ≡ Some p = ap (slice_get es) (sym top) ∙ a.1.above in
+    let first : p.first_child ≡ 1 = t.draft.firsts 0 p at ∙ ap (first_after []) (t.draft.top p at).green in
+    no_prev es p.first_child 1 (preceding (root_node es) (entry_path es 1)) (preceding_row es t 1 e p a.1) first
+prev_first es t (suc (suc n)) within h = absurd (omega arith)
+
 -- only a node has children
 node_with_child : (o : Option Term) (g k : Option NodeTerm) (i : ℕ) → option_map into_node o ≡ Some g → option_map into_node (slice_get (children_in g) i) ≡ Some k → is_node o ≡ true
 node_with_child None g k i e h = absurd cc
 node_with_child (Some (Node n)) g k i e h = refl
 node_with_child (Some (Token t)) g k i e h = absurd (omega (arith, kept_within (children_in g) i k h, ap (λ l. length (children_in l)) (same_Some None g e)))
 
-pub node_above : (es : List Entry) → IsTable es → (n : ℕ) (e : Entry) → slice_get es n ≡ Some e → 0 < n → is_node_at (root_node es) (entry_path es e.parent) ≡ true
+pub node_above : (es : List Facts) → IsTable es → (n : ℕ) (e : Facts) → slice_get es n ≡ Some e → 0 < n → is_node_at (root_node es) (entry_path es e.parent) ≡ true
 node_above es t n e at h =
     let a = above_of es t n e at h in
     let p = a.0 in
     node_with_child (subterm (Node (root_node es)) (entry_path es e.parent)) (green_of p) (green_of e) (n - p.first_child) (stands es t.draft e.parent p a.1.above).green (t.draft.parents n e p at h a.1.above).child
 
 -- what an entry without a node stands for is a child of the node above
-pub child_of_above : (es : List Entry) → IsTable es → (n : ℕ) (e p : Entry) → slice_get es n ≡ Some e → green_of e ≡ None → slice_get es e.parent ≡ Some p
+pub child_of_above : (es : List Facts) → IsTable es → (n : ℕ) (e p : Facts) → slice_get es n ≡ Some e → green_of e ≡ None → slice_get es e.parent ≡ Some p
     → (subterm (Node (root_node es)) (entry_path es n) ≡ slice_get (children_in (green_of p)) (n - p.first_child)) × (n - p.first_child < length (children_in (green_of p)))
 child_of_above es t zero e p at bare above = absurd (none-some (root_node es) (sym bare ∙ (t.draft.top e at).green))
 child_of_above es t (suc n) e p at bare above = (

@@ -13,7 +13,7 @@ use Rattle.rowan_cursor.specs.Events.{NextStays, event_of, remaining_events}
 use Rattle.rowan_cursor.specs.Moves.{Element, cursor_at, element_at, is_node_at, parent_path}
 use Rattle.rowan_cursor.specs.Preorder.{event_map, events_of_nodes, entered_by, descendant_paths, skip}
 use Rattle.rowan_cursor.specs.TablePass.{StandsInside}
-use Rattle.rowan_cursor.specs.TableView.{root_of, path_at, cursor_of, element_of, stands_for_node}
+use Rattle.rowan_cursor.specs.TableView.{root_of, path_at, cursor_of, element_of, stands_for_node, entries_of}
 use Rattle.rowan_cursor.specs.TraversalView.{root_of_traversal, remaining_path_events, remaining_node_path_events, traversal_events, traversal_node_events}
 use Rattle.rowan_cursor.specs.Walks.{rest_of}
 use Rattle.rowan_cursor.specs.Yields.{YieldsOrRefuses}
@@ -76,7 +76,7 @@ skip-to-parent : (t : Table) (start number parent : ℕ) (next : Option (WalkEve
     → skip (kept k (remaining_events t start next)) ≡ kept k (remaining_events t start (Some (Leave parent)))
 skip-to-parent t start number parent next k e inside apart above own =
     let at : StandsInside t start number = subst (λ o. NextStays t start o) e inside in
-    rw e (skip-enter (root_of t) (path_at t start) (path_at t number) (path_at t parent) k at.inside (apart_paths t.entries.items t.complete number start at.within at.top_within apart) above own)
+    rw e (skip-enter (root_of t) (path_at t start) (path_at t number) (path_at t parent) k at.inside (apart_paths (entries_of t) t.complete number start at.within at.top_within apart) above own)
 
 -- only the start may have no parent
 pub has_parent : (t : Table) (start number : ℕ) (next : Option (WalkEvent ℕ)) → next ≡ Some (Enter number)
@@ -84,7 +84,7 @@ pub has_parent : (t : Table) (start number : ℕ) (next : Option (WalkEvent ℕ)
     → ◌≡◌ {A = Option Path} None (parent_path (path_at t number)) → ⊥
 has_parent t start number next e inside apart none =
     let at : StandsInside t start number = subst (λ o. NextStays t start o) e inside in
-    no_parent-inside (path_at t start) (path_at t number) at.inside (apart_paths t.entries.items t.complete number start at.within at.top_within apart) none
+    no_parent-inside (path_at t start) (path_at t number) at.inside (apart_paths (entries_of t) t.complete number start at.within at.top_within apart) none
 
 shown : {A B : Type 0} (f : A → B) (es fs : List (WalkEvent A)) → skip es ≡ fs → map (event_map f) fs ≡ skip (map (event_map f) es)
 shown f es fs h = sym (skip-map f es ∙ ap (map (event_map f)) h)
@@ -124,5 +124,5 @@ inside-above t start number parent next e inside apart earlier above =
     record {
       top_within = at.top_within;
       within = omega (arith, earlier, at.within);
-      inside = parent-inside (path_at t start) (path_at t number) (path_at t parent) at.inside (apart_paths t.entries.items t.complete number start at.within at.top_within apart) above;
+      inside = parent-inside (path_at t start) (path_at t number) (path_at t parent) at.inside (apart_paths (entries_of t) t.complete number start at.within at.top_within apart) above;
     }

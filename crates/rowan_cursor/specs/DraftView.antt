@@ -1,8 +1,42 @@
 -- A draft: a table that is still to be filled.
-use Rattle.std.specs.Prelude.{List}
-use Rattle.rowan_cursor.specs.declared.table.Entry.{Entry}
+use Rattle.std.specs.Prelude.{◌≡◌, ℕ, ◌+◌, List, [], ◌∷◌, ◌++◌, length, Some, slice_get}
+use Rattle.rowan_green.specs.Term.{NodeTerm, node_children}
+use Rattle.rowan_cursor.specs.declared.table.entry.Entry.{Entry}
+use Rattle.rowan_cursor.specs.declared.table.entry.Inner.{Inner}
 use Rattle.rowan_cursor.specs.declared.table.draft.Draft.{Draft}
+use Rattle.rowan_cursor.specs.Table.{Facts, all_facts, child_counts, IsDraft, AreNodes}
 
--- the entries that are there
-abbrev pub entries_of : Draft → List Entry
-entries_of d = d.entries.items
+-- what the entries tell that are there
+abbrev pub entries_of : Draft → List Facts
+entries_of d = all_facts d.nodes.items d.entries.items
+
+-- the first `done` entries have their children, and the list has the nodes of all entries
+pub record IsFilled (done : ℕ) (d : Draft) : Type 0 where
+  pub draft : IsDraft done (entries_of d)
+  pub nodes : AreNodes d.nodes.items d.entries.items
+  pub next : d.next_child ≡ child_counts d.nodes.items + 1
+
+-- the entry with this number is that of the node with that number among the nodes
+pub record IsInnerOf (d : Draft) (n k : ℕ) : Type 0 where
+  pub entry : Entry
+  pub at : slice_get d.entries.items n ≡ Some entry
+  pub node : entry.node ≡ Some k
+
+-- an entry was added, and nothing else
+pub record GainsEntry (old new : Draft) (e : Entry) : Type 0 where
+  pub entries : new.entries.items ≡ old.entries.items ++ e ∷ []
+  pub nodes : new.nodes.items ≡ old.nodes.items
+  pub next : new.next_child ≡ old.next_child
+
+-- the entry of a node was added, and the node
+pub record GainsNode (old new : Draft) (start parent : ℕ) (n : NodeTerm) : Type 0 where
+  pub entry : Entry
+  pub inner : Inner
+  pub entries : new.entries.items ≡ old.entries.items ++ entry ∷ []
+  pub nodes : new.nodes.items ≡ old.nodes.items ++ inner ∷ []
+  pub begins : entry.start ≡ start
+  pub above : entry.parent ≡ parent
+  pub number : entry.node ≡ Some (length old.nodes.items)
+  pub green : inner.green ≡ n
+  pub first : inner.first_child ≡ old.next_child
+  pub next : new.next_child ≡ old.next_child + length (node_children n)

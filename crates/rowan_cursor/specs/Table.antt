@@ -1,7 +1,8 @@
 -- The table of a tree: an entry for each of its nodes and tokens, level by level, the root first.
 --     The children of a node stand side by side in their order, behind those of the nodes before.
---     An entry knows the number of its parent and of its first child, and where its text starts. It
---     keeps its node, but no token: a token is found among the children of its parent.
+--     An entry knows the number of its parent, and where its text starts. That of a node knows, too,
+--     which of the nodes it is: they stand in a list of their own, with the numbers of their first
+--     children. The table keeps no token: a token is found among the children of its parent.
 --     The path of an entry is read off by going up: from parent to parent, to the root.
 -- All facts are local: each speaks of one entry, or of an entry and its parent.
 use Rattle.std.specs.Prelude.{◌≡◌, ℕ, zero, suc, ◌+◌, ◌-◌, ◌<◌, ◌≤◌, List, [], ◌∷◌, ◌++◌, map, length, take, reverse, Some, Option, None, slice_get}
@@ -15,27 +16,42 @@ use Rattle.rowan_green.specs.Term.{NodeTerm, node, empty, Term, node_children, n
 use Rattle.rowan_green.specs.Path.{Path, subterm, offset, len_of}
 use Rattle.rowan_cursor.specs.Cursor.{last_index}
 use Rattle.rowan_cursor.specs.Moves.{child_paths, numbers}
-use Rattle.rowan_cursor.specs.declared.table.Entry.{Entry}
-use Rattle.rowan_cursor.specs.declared.table.Content.{Content}
-use Rattle.rowan_cursor.specs.declared.table.Content.TheVariants.{OfNode, OfToken}
+use Rattle.rowan_cursor.specs.declared.table.entry.Entry.{Entry}
+use Rattle.rowan_cursor.specs.declared.table.entry.Inner.{Inner}
 
--- the node, by what stands in an entry; none in that of a token
-abbrev pub green_in : Content → Option NodeTerm
-green_in (OfNode start n) = Some n
-green_in (OfToken start) = None
+-- what a table tells of a node or token: the node, or none of a token; where its text starts; and
+-- the numbers of its parent and of a node's first child
+pub record Facts : Type 0 where
+  pub green : Option NodeTerm
+  pub start : ℕ
+  pub parent : ℕ
+  pub first_child : ℕ
 
--- where the text starts, by what stands in an entry
-abbrev pub offset_in : Content → ℕ
-offset_in (OfNode start n) = start
-offset_in (OfToken start) = start
+-- the node with this number among the nodes, where there is a number
+abbrev pub inner_at : List Inner → Option ℕ → Option Inner
+inner_at ns None = None
+inner_at ns (Some k) = slice_get ns k
+
+-- what an entry tells, with the node that it names
+abbrev pub told : Entry → Option Inner → Facts
+told e x = record {
+  green = option_map (λ n. n.green) x;
+  start = e.start;
+  parent = e.parent;
+  first_child = option_map_or (λ n. n.first_child) x 0;
+}
+
+-- what an entry tells, over the list of the nodes
+abbrev pub facts_of : List Inner → Entry → Facts
+facts_of ns e = told e (inner_at ns e.node)
+
+-- what all entries tell
+abbrev pub all_facts : List Inner → List Entry → List Facts
+all_facts ns es = map (facts_of ns) es
 
 -- the node of an entry; none of that of a token
-abbrev pub green_of : Entry → Option NodeTerm
-green_of e = green_in e.content
-
--- where the text of an entry starts
-abbrev pub offset_of : Entry → ℕ
-offset_of e = offset_in e.content
+abbrev pub green_of : Facts → Option NodeTerm
+green_of e = e.green
 
 -- the children of a node; a token has none
 abbrev pub children_in : Option NodeTerm → List Term
@@ -43,7 +59,7 @@ children_in None = []
 children_in (Some n) = node_children n
 
 -- the children of an entry's node
-abbrev pub entry_children : Entry → List Term
+abbrev pub entry_children : Facts → List Term
 entry_children e = children_in (green_of e)
 
 -- the length of a node
@@ -57,20 +73,28 @@ node_in None = node 0 empty
 node_in (Some n) = n
 
 -- the node of the first entry
-abbrev pub root_node : List Entry → NodeTerm
+abbrev pub root_node : List Facts → NodeTerm
 root_node [] = node 0 empty
 root_node (e ∷ es) = node_in (green_of e)
 
 -- how many children these entries have together
-abbrev pub counts : List Entry → ℕ
+abbrev pub counts : List Facts → ℕ
 counts es = sum_by (λ e. length (entry_children e)) es
 
+-- the number of a node's first child, behind the children of these entries; 0 for a token
+abbrev pub first_after : List Facts → Option NodeTerm → ℕ
+first_after es g = option_map_or (λ n. counts es + 1) g 0
+
+-- how many children these nodes have together
+abbrev pub child_counts : List Inner → ℕ
+child_counts ns = sum_by (λ n. length (node_children n.green)) ns
+
 -- an entry's index among its siblings: how far it stands behind the first child of its parent
-abbrev pub entry_index : List Entry → ℕ → Entry → ℕ
+abbrev pub entry_index : List Facts → ℕ → Facts → ℕ
 entry_index es n e = n - option_map_or (λ p. p.first_child) (slice_get es e.parent) 0
 
 -- the path of an entry, found by going up at most so many times
-abbrev pub path_within : ℕ → List Entry → ℕ → Path
+abbrev pub path_within : ℕ → List Facts → ℕ → Path
 path_within zero es n = []
 path_within (suc steps) es zero = []
 path_within (suc steps) es (suc n) =
@@ -78,63 +102,72 @@ path_within (suc steps) es (suc n) =
     (slice_get es (suc n)) []
 
 -- the path of the entry with this number; a parent's number is less than its child's
-abbrev pub entry_path : List Entry → ℕ → Path
+abbrev pub entry_path : List Facts → ℕ → Path
 entry_path es n = path_within n es n
 
 -- the first entry is that of a root
-pub record IsTop (es : List Entry) (e : Entry) : Type 0 where
+pub record IsTop (es : List Facts) (e : Facts) : Type 0 where
   pub green : green_of e ≡ Some (root_node es)
-  pub start : offset_of e ≡ 0
+  pub start : e.start ≡ 0
 
 -- entry e, with the number n, is a child of entry p
-pub record IsChildOf (p : Entry) (n : ℕ) (e : Entry) : Type 0 where
+pub record IsChildOf (p : Facts) (n : ℕ) (e : Facts) : Type 0 where
   pub place : p.first_child ≤ n
   pub child :
       option_map into_node (slice_get (entry_children p) (n - p.first_child)) ≡ Some (green_of e)
-  pub start : offset_of e ≡ offset_of p + child_start (entry_children p) (n - p.first_child)
+  pub start : e.start ≡ p.start + child_start (entry_children p) (n - p.first_child)
 
--- entries of which the first `done` know their first child; the others' children are still to come
-pub record IsDraft (done : ℕ) (es : List Entry) : Type 0 where
+-- entries of which the first `done` have their children; the others' are still to come
+pub record IsDraft (done : ℕ) (es : List Facts) : Type 0 where
   pub some : 0 < length es
-  pub top : (e : Entry) → slice_get es 0 ≡ Some e → IsTop es e
-  pub ends : (n : ℕ) (e : Entry) → slice_get es n ≡ Some e
-      → offset_of e + len_in (green_of e) ≤ byte_limit
-  pub firsts : (n : ℕ) (e : Entry) → slice_get es n ≡ Some e
-      → n < done → e.first_child ≡ counts (take n es) + 1
-  pub earlier : (n : ℕ) (e : Entry) → slice_get es n ≡ Some e
+  pub top : (e : Facts) → slice_get es 0 ≡ Some e → IsTop es e
+  pub ends : (n : ℕ) (e : Facts) → slice_get es n ≡ Some e
+      → e.start + len_in (green_of e) ≤ byte_limit
+  pub firsts : (n : ℕ) (e : Facts) → slice_get es n ≡ Some e
+      → e.first_child ≡ first_after (take n es) (green_of e)
+  pub earlier : (n : ℕ) (e : Facts) → slice_get es n ≡ Some e
       → 0 < n → (e.parent < n) × (e.parent < done)
-  pub parents : (n : ℕ) (e p : Entry) → slice_get es n ≡ Some e
+  pub parents : (n : ℕ) (e p : Facts) → slice_get es n ≡ Some e
       → 0 < n → slice_get es e.parent ≡ Some p → IsChildOf p n e
 
--- a table: each entry knows its first child, and all children of each are there
-pub record IsTable (es : List Entry) : Type 0 where
+-- the nodes that these entries name: each entry's is there, and the children of each stand behind
+-- those of the nodes before
+pub record AreNodes (ns : List Inner) (es : List Entry) : Type 0 where
+  pub there : (n : ℕ) (e : Entry) (k : ℕ) → slice_get es n ≡ Some e → e.node ≡ Some k
+      → k < length ns
+  pub firsts : (k : ℕ) (x : Inner) → slice_get ns k ≡ Some x
+      → x.first_child ≡ child_counts (take k ns) + 1
+  pub all : counts (all_facts ns es) ≡ child_counts ns
+
+-- a table: each node knows its first child, and all children of each are there
+pub record IsTable (es : List Facts) : Type 0 where
   pub draft : IsDraft (length es) es
   pub whole : length es ≡ counts es + 1
 
 -- the entries from one number up to another stand at these paths, in this order
-pub record IsRow (es : List Entry) (start end : ℕ) (paths : List Path) : Type 0 where
+pub record IsRow (es : List Facts) (start end : ℕ) (paths : List Path) : Type 0 where
   pub order : start ≤ end
   pub within : end ≤ length es
   pub row : map (entry_path es) (numbers start (end - start)) ≡ paths
 
 -- the entries from one number up to another stand at these paths, from the last on
-pub record IsRowBack (es : List Entry) (start end : ℕ) (paths : List Path) : Type 0 where
+pub record IsRowBack (es : List Facts) (start end : ℕ) (paths : List Path) : Type 0 where
   pub order : start ≤ end
   pub within : end ≤ length es
   pub row : reverse (map (entry_path es) (numbers start (end - start))) ≡ paths
 
 -- where an entry's parent stands, if it is not the root
-pub record IsBelow (es : List Entry) (n : ℕ) (e : Entry) : Type 0 where
+pub record IsBelow (es : List Facts) (n : ℕ) (e : Facts) : Type 0 where
   pub earlier : e.parent < n
   pub path : entry_path es n ≡ entry_path es e.parent ++ entry_index es n e ∷ []
 
 -- an entry has this number, and tells of what stands at its path in the root
-pub record Describes (es : List Entry) (n : ℕ) (e : Entry) : Type 0 where
+pub record Describes (es : List Facts) (n : ℕ) (e : Facts) : Type 0 where
   pub at : slice_get es n ≡ Some e
   pub green :
       option_map into_node (subterm (Node (root_node es)) (entry_path es n)) ≡ Some (green_of e)
-  pub start : offset (Node (root_node es)) (entry_path es n) ≡ offset_of e
-  pub end : offset_of e + len_of (subterm (Node (root_node es)) (entry_path es n)) ≤ byte_limit
+  pub start : offset (Node (root_node es)) (entry_path es n) ≡ e.start
+  pub end : e.start + len_of (subterm (Node (root_node es)) (entry_path es n)) ≤ byte_limit
   pub index : last_index (entry_path es n) ≡ entry_index es n e
   pub below : 0 < n → IsBelow es n e
   pub children :
@@ -142,25 +175,25 @@ pub record Describes (es : List Entry) (n : ℕ) (e : Entry) : Type 0 where
       (child_paths (root_node es) (entry_path es n))
 
 -- the entries that were added are those of these terms, in this order
-pub record GrowsBy (old new : List Entry) (ts : List Term) : Type 0 where
-  pub row : List Entry
+pub record GrowsBy (old new : List Facts) (ts : List Term) : Type 0 where
+  pub row : List Facts
   pub grown : new ≡ old ++ row
   pub greens : map green_of row ≡ map into_node ts
 
 -- the child at this index of the entry with this number is the next to get an entry
-abbrev pub IsNextIndex : List Entry → ℕ → ℕ → Type 0
+abbrev pub IsNextIndex : List Facts → ℕ → ℕ → Type 0
 IsNextIndex es n i =
-    (e : Entry) → slice_get es n ≡ Some e
+    (e : Facts) → slice_get es n ≡ Some e
     → (i < length (entry_children e)) × (length es ≡ e.first_child + i)
 
 -- an entry was added for the child at this index of the entry with this number
-abbrev pub GainsChild : List Entry → List Entry → ℕ → ℕ → Type 0
+abbrev pub GainsChild : List Facts → List Facts → ℕ → ℕ → Type 0
 GainsChild old new n i =
-    (e : Entry) (t : Term) → slice_get old n ≡ Some e
+    (e : Facts) (t : Term) → slice_get old n ≡ Some e
     → slice_get (entry_children e) i ≡ Some t → GrowsBy old new (t ∷ [])
 
 -- entries were added for all children of the entry with this number
-abbrev pub GainsChildren : List Entry → List Entry → ℕ → Type 0
+abbrev pub GainsChildren : List Facts → List Facts → ℕ → Type 0
 GainsChildren old new n =
-    (e : Entry) → slice_get old n ≡ Some e
+    (e : Facts) → slice_get old n ≡ Some e
     → map green_of new ≡ map green_of old ++ map into_node (entry_children e)

@@ -1,14 +1,18 @@
--- That entries form a table is a proposition.
+-- That entries form a table, and that a list has its nodes, are propositions.
 use Rattle.std.specs.Prelude.{ℕ, List}
 use Rattle.std.specs.Coded.{coded_option}
 use Rattle.std.proofs.Props.{props}
 use Rattle.rowan_green.specs.Coding.{coded_node}
-use Rattle.rowan_cursor.specs.declared.table.Entry.{Entry}
-use Rattle.rowan_cursor.specs.Table.{IsDraft, IsTable}
+use Rattle.rowan_cursor.specs.declared.table.entry.Entry.{Entry}
+use Rattle.rowan_cursor.specs.declared.table.entry.Inner.{Inner}
+use Rattle.rowan_cursor.specs.Table.{IsDraft, IsTable, AreNodes, Facts}
 
-IsDraft-prop : (done : ℕ) (es : List Entry) → IsProp (IsDraft done es)
+IsDraft-prop : (done : ℕ) (es : List Facts) → IsProp (IsDraft done es)
 IsDraft-prop done es =
     hlevel (props, coded_option coded_node, coded_option (coded_option coded_node))
 
-pub IsTable-prop : (es : List Entry) → IsProp (IsTable es)
+pub IsTable-prop : (es : List Facts) → IsProp (IsTable es)
 IsTable-prop es = hlevel (props, IsDraft-prop)
+
+pub AreNodes-prop : (ns : List Inner) (es : List Entry) → IsProp (AreNodes ns es)
+AreNodes-prop ns es = hlevel props

@@ -2,29 +2,34 @@
 use Rattle.std.specs.Prelude.{◌≡◌, ℕ, ◌+◌, ◌-◌, ◌<◌, ◌≤◌, Bool, true, false, List, map, length, Option, Some, IfSome, slice_get}
 use Rattle.std.specs.Option.{option_map}
 use Rattle.rowan_green.specs.Path.{Path}
-use Rattle.rowan_green.specs.Term.{NodeTerm}
-use Rattle.rowan_cursor.specs.declared.table.Entry.{Entry}
+use Rattle.rowan_green.specs.Term.{NodeTerm, node_children}
+use Rattle.rowan_cursor.specs.declared.table.entry.Entry.{Entry}
+use Rattle.rowan_cursor.specs.declared.table.entry.Inner.{Inner}
 use Rattle.rowan_cursor.specs.declared.table.Table.{Table}
 use Rattle.rowan_cursor.specs.declared.table.search.Place.{Place}
 use Rattle.rowan_cursor.specs.Cursor.{Cursor, text_range}
 use Rattle.rowan_cursor.specs.Moves.{cursor_at, is_node_at, Element, element_at, numbers, child_paths, following, preceding}
-use Rattle.rowan_cursor.specs.Table.{root_node, entry_path, entry_children, Describes, IsRow, IsRowBack}
+use Rattle.rowan_cursor.specs.Table.{root_node, entry_path, entry_children, Describes, IsRow, IsRowBack, Facts, all_facts, facts_of, told}
+
+-- what the entries tell
+abbrev pub entries_of : Table → List Facts
+entries_of t = all_facts t.nodes.items t.entries.items
 
 -- the root of the tree
 abbrev pub root_of : Table → NodeTerm
-root_of t = root_node t.entries.items
+root_of t = root_node (entries_of t)
 
 -- the table has an entry with this number
 abbrev pub IsWithin : Table → ℕ → Type 0
-IsWithin t n = n < length t.entries.items
+IsWithin t n = n < length (entries_of t)
 
 -- the table has entries with all numbers below this one
 abbrev pub EndsWithin : Table → ℕ → Type 0
-EndsWithin t end = end ≤ length t.entries.items
+EndsWithin t end = end ≤ length (entries_of t)
 
 -- the path of the element with this number
 abbrev pub path_at : Table → ℕ → Path
-path_at t n = entry_path t.entries.items n
+path_at t n = entry_path (entries_of t) n
 
 -- whether a node stands at the path of this number
 abbrev pub stands_for_node : Table → ℕ → Bool
@@ -74,21 +79,32 @@ row_paths t start end = map (path_at t) (numbers start (end - start))
 
 -- the elements with these numbers are those at these paths, in this order
 abbrev pub StretchShows : Table → ℕ → ℕ → List Path → Type 0
-StretchShows t start end paths = IsRow t.entries.items start end paths
+StretchShows t start end paths = IsRow (entries_of t) start end paths
 
 -- the elements with these numbers, from the last on, are those at these paths
 abbrev pub StretchShowsBack : Table → ℕ → ℕ → List Path → Type 0
-StretchShowsBack t start end paths = IsRowBack t.entries.items start end paths
+StretchShowsBack t start end paths = IsRowBack (entries_of t) start end paths
 
 -- this entry has the number, and tells of what stands there
 abbrev pub IsEntryAt : Table → ℕ → Entry → Type 0
-IsEntryAt t n e = Describes t.entries.items n e
+IsEntryAt t n e = Describes (entries_of t) n (facts_of t.nodes.items e)
 
--- the numbers of the children of the element with a number go up to this one
+-- this node stands at the number, and an entry that names it
+pub record IsInnerAt (t : Table) (n : ℕ) (x : Inner) : Type 0 where
+  pub entry : Entry
+  pub is : Describes (entries_of t) n (told entry (Some x))
+
+-- the numbers of the children of the element with a number go from this start to this end
+abbrev pub AreChildNumbers : Table → ℕ → ℕ → ℕ → Type 0
+AreChildNumbers t n start end =
+    (e : Facts) → slice_get (entries_of t) n ≡ Some e
+    → (start ≡ e.first_child) × (end ≡ e.first_child + length (entry_children e))
+
+-- the numbers of the children of the node with a number among the nodes go up to this one
 abbrev pub IsChildrenEnd : Table → ℕ → ℕ → Type 0
-IsChildrenEnd t n end =
-    (e : Entry) → slice_get t.entries.items n ≡ Some e
-    → end ≡ e.first_child + length (entry_children e)
+IsChildrenEnd t k end =
+    (x : Inner) → slice_get t.nodes.items k ≡ Some x
+    → end ≡ x.first_child + length (node_children x.green)
 
 -- the paths of the children of the element with a number
 abbrev pub paths_below : Table → ℕ → List Path

@@ -2,54 +2,41 @@
 
 mod chunks;
 mod draft;
+mod entry;
 mod events;
 mod replace;
 mod search;
 
-ghost use Rattle.rowan_cursor.specs.Table.{IsTable};
-ghost use Rattle.rowan_cursor.specs.TableProp.{IsTable-prop};
+ghost use Rattle.rowan_cursor.specs.Table.{IsTable, AreNodes, all_facts};
+ghost use Rattle.rowan_cursor.specs.TableProp.{IsTable-prop, AreNodes-prop};
 
 use draft::Draft;
+use entry::{Entry, Inner};
 use rowan_green::green::{GreenElementRef, GreenNode, GreenToken};
 use rowan_green::text::{TextRange, TextSize};
 use rowan_green::utility_types::NodeOrToken;
 use std::alloc::{AllocError, Global};
 use std::ops::Range;
 
-/// What stands in an entry of a node or token.
-#[derive(Drop)]
-pub(crate) enum Content {
-    /// Where the text of the node starts, and the node.
-    OfNode(TextSize, GreenNode),
-    /// Where the text of the token starts. The token is lent by its parent.
-    OfToken(TextSize),
-}
-
-/// A node or token of a tree, and its place there, by the numbers of its parent and of its first child. The root is its own
-/// parent.
-#[derive(Drop)]
-pub(crate) struct Entry {
-    pub(crate) content: Content,
-    pub(crate) parent: u32,
-    pub(crate) first_child: u32,
-}
-
-/// A tree as a table of its nodes and tokens, level by level. Each is known by the number of its entry; the root has 0.
+/// A tree as a table of its nodes and tokens, level by level. Each is known by the number of its entry; the root has 0. The nodes
+/// stand in a list of their own, in the same order.
 #[derive(Drop)]
 pub(crate) struct Table {
-    pub(crate) entries: Vec<Entry>,
-    pub(crate) ghost complete: { IsTable entries.items } by { IsTable-prop entries.items },
+    entries: Vec<Entry>,
+    nodes: Vec<Inner>,
+    ghost numbered: { AreNodes nodes.items entries.items } by { AreNodes-prop nodes.items entries.items },
+    ghost complete: { IsTable (all_facts nodes.items entries.items) } by { IsTable-prop (all_facts nodes.items entries.items) },
 }
 
 impl Table {
-    ghost use Rattle.std.specs.Prelude.{◌≡◌, ◌+◌, ◌<◌, None, IfOk, IfSome, IfNone, Some, reverse, slice_get};
+    ghost use Rattle.std.specs.Prelude.{◌≡◌, ◌+◌, ◌<◌, None, IfOk, IfSome, IfNone, IsNone, Some, length, reverse, slice_get};
     ghost use Rattle.rowan_green.specs.Lent.{pointee};
     ghost use Rattle.rowan_cursor.specs.Chunks.{IsTokenInside, remaining_leaves};
     ghost use Rattle.rowan_cursor.specs.Cursor.{StandsAt, StandsAtToken, term_at, index, text_range};
     ghost use Rattle.rowan_cursor.specs.Equal.{start_of};
     ghost use Rattle.rowan_cursor.specs.Moves.{parent_path, first_at, first_node_at, first_leaf_path, last_leaf_path, next_leaf_path, prev_leaf_path};
     ghost use Rattle.rowan_cursor.specs.Pass.{ComesBehind, ComesNext, ComesBefore, ComesBack};
-    ghost use Rattle.rowan_cursor.specs.TableView.{root_of, path_at, cursor_of, stands_for_node, row_paths, paths_below, paths_behind, paths_before, IsWithin, IsNodeIn, IsTokenIn, IsStretch, IsEntryAt, IsChildrenEnd, StretchShows, StretchShowsBack, Leads, LeadsToNode, LeadsToToken};
+    ghost use Rattle.rowan_cursor.specs.TableView.{root_of, path_at, cursor_of, stands_for_node, row_paths, paths_below, paths_behind, paths_before, IsWithin, IsNodeIn, IsTokenIn, IsStretch, IsEntryAt, IsInnerAt, AreChildNumbers, IsChildrenEnd, StretchShows, StretchShowsBack, Leads, LeadsToNode, LeadsToToken};
     ghost use Rattle.rowan_cursor.specs.TablePass.{StandsInside, first_token_from, first_token_past, first_token_behind, last_token_until, last_token_to, last_token_before};
 
     /// The table of a green tree. Refused only for want of memory, or of numbers: they have 32 bits.
@@ -57,20 +44,41 @@ impl Table {
         ensures { IfOk result (λ table. root_of table ≡ green) }
     {
         let mut draft = Draft::new(alloc, green)?;
-        let mut done: u32 = 0;
-        while (done as usize) < draft.len() {
+        let mut done = 0;
+        while done < draft.len() {
             draft.push_children(done)?;
             done += 1;
         }
         Ok(draft.finish())
     }
 
-    /// What stands at a number.
-    pub(crate) fn entry(&self, number: usize) -> &Entry
+    // What stands at a number.
+    fn entry(&self, number: usize) -> &Entry
         requires { IsWithin self.now number }
         ensures { IsEntryAt self.now number result.now }
     {
         &self.entries[number]
+    }
+
+    // The node at a number; none, where a token stands there.
+    fn inner(&self, number: usize) -> Option<&Inner>
+        requires { IsWithin self.now number }
+        ensures some { IfSome result (λ inner. IsInnerAt self.now number inner.now) }
+        ensures none { IsNone result → IsTokenIn self.now number }
+    {
+        let node = self.entries[number].node.number()?;
+        Some(&self.nodes[node as usize])
+    }
+
+    // The node at a number, where there is one.
+    fn inner_node(&self, number: usize) -> &Inner
+        requires { IsNodeIn self.now number }
+        ensures { IsInnerAt self.now number result.now }
+    {
+        let Some(inner) = self.inner(number) else {
+            unreachable!();
+        };
+        inner
     }
 
     /// Whether a node stands at a number.
@@ -78,7 +86,7 @@ impl Table {
         requires { IsWithin self.now number }
         ensures { result ≡ stands_for_node self.now number }
     {
-        matches!(self.entry(number).content, Content::OfNode(_, _))
+        self.inner(number).is_some()
     }
 
     /// The parent.
@@ -189,9 +197,10 @@ impl Table {
         requires { IsWithin self.now number }
         ensures { result ≡ text_range (cursor_of self.now number) }
     {
-        match &self.entry(number).content {
-            Content::OfNode(start, node) => TextRange::at(*start, node.text_len()),
-            Content::OfToken(start) => TextRange::new(*start, self.end_of_token(number)),
+        let start = self.start(number);
+        match self.inner(number) {
+            Some(node) => TextRange::at(start, node.text_len),
+            None => TextRange::new(start, self.end_of_token(number)),
         }
     }
 
@@ -200,10 +209,7 @@ impl Table {
         requires { IsWithin self.now number }
         ensures { result ≡ start_of (cursor_of self.now number) }
     {
-        match &self.entry(number).content {
-            Content::OfNode(start, _) => *start,
-            Content::OfToken(start) => *start,
-        }
+        self.entry(number).start
     }
 
     // Where the text of a node ends.
@@ -211,7 +217,7 @@ impl Table {
         requires { IsNodeIn self.now number }
         ensures { result ≡ (text_range (cursor_of self.now number)).end }
     {
-        TextRange::at(self.start(number), self.node(number).text_len()).end()
+        TextRange::at(self.start(number), self.inner_node(number).text_len).end()
     }
 
     // Where the text of a token ends: where the next sibling starts, or else where the parent ends.
@@ -242,10 +248,7 @@ impl Table {
         requires { IsNodeIn self.now number }
         ensures { StandsAt (cursor_of self.now number) result.now }
     {
-        match &self.entry(number).content {
-            Content::OfNode(_, node) => node,
-            Content::OfToken(_) => unreachable!(),
-        }
+        &self.inner_node(number).green
     }
 
     /// The token.
@@ -264,15 +267,11 @@ impl Table {
         requires { IsWithin self.now number }
         ensures { term_at (cursor_of self.now number) ≡ Some (pointee result) }
     {
-        let entry = self.entry(number);
-        if let Content::OfNode(_, node) = &entry.content {
-            return NodeOrToken::Node(node);
+        if let Some(inner) = self.inner(number) {
+            return NodeOrToken::Node(&inner.green);
         }
-        let above = self.entry(entry.parent as usize);
-        let Content::OfNode(_, parent) = &above.content else {
-            unreachable!();
-        };
-        let Some(found) = parent.child_ref(number - above.first_child as usize) else {
+        let above = self.inner_node(self.entry(number).parent as usize);
+        let Some(found) = above.green.child_ref(number - above.first_child as usize) else {
             unreachable!();
         };
         found.1
@@ -286,16 +285,21 @@ impl Table {
         if number == 0 {
             return 0;
         }
-        let parent = self.entry(self.entry(number).parent as usize);
-        number - parent.first_child as usize
+        let siblings = self.child_numbers(self.entry(number).parent as usize);
+        number - siblings.start
     }
 
     /// The numbers of all children.
     pub(crate) fn child_numbers(&self, number: usize) -> Range<usize>
         requires { IsWithin self.now number }
-        ensures { StretchShows self.now result.start result.end (paths_below self.now number) }
+        ensures row { StretchShows self.now result.start result.end (paths_below self.now number) }
+        ensures bounds { AreChildNumbers self.now number result.start result.end }
     {
-        self.entry(number).first_child as usize..self.children_end(number)
+        let Some(node) = self.entries[number].node.number() else {
+            return 0..0;
+        };
+        let node = node as usize;
+        self.nodes[node].first_child as usize..self.children_end(node)
     }
 
     /// The numbers of the siblings behind this one.
@@ -307,7 +311,8 @@ impl Table {
         if number == 0 {
             return 1..1;
         }
-        number + 1..self.children_end(self.entry(number).parent as usize)
+        let siblings = self.child_numbers(self.entry(number).parent as usize);
+        number + 1..siblings.end
     }
 
     /// The numbers of the siblings before this one.
@@ -320,20 +325,19 @@ impl Table {
         if number == 0 {
             return 0..0;
         }
-        let parent = self.entry(self.entry(number).parent as usize);
-        parent.first_child as usize..number
+        let siblings = self.child_numbers(self.entry(number).parent as usize);
+        siblings.start..number
     }
 
-    // Where the children end: where those of the next entry begin.
-    fn children_end(&self, number: usize) -> usize
-        requires { IsWithin self.now number }
-        ensures { IsChildrenEnd self.now number result }
+    // Where the children of a node end, by its number among the nodes: where those of the next one begin.
+    fn children_end(&self, node: usize) -> usize
+        requires { node < length self.now.nodes.items }
+        ensures { IsChildrenEnd self.now node result }
     {
-        let len = self.entries.len();
-        if number + 1 == len {
-            return len;
+        match self.nodes.get(node + 1) {
+            Some(next) => next.first_child as usize,
+            None => self.entries.len(),
         }
-        self.entries[number + 1].first_child as usize
     }
 
     /// The first of a row.

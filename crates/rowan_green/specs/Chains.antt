@@ -1,5 +1,5 @@
 -- Chains of places by their hashes. A hash has a bucket. The places of one bucket are a chain, the newest first.
-use Rattle.std.specs.Prelude.{◌≡◌, ℕ, ◌-◌, ◌<◌, ◌≤◌, ◌==◌, List, length, map, Option, Some, None, cond, bit_and, refl}
+use Rattle.std.specs.Prelude.{◌≡◌, ℕ, ◌-◌, ◌<◌, ◌≤◌, List, length, map, Option, Some, None, bit_and, refl}
 use Rattle.std.specs.Coded.{Coded, code_by, coded×, coded_ℕ, coded_list}
 use Rattle.std.specs.List.{slice_get}
 
@@ -7,14 +7,6 @@ use Rattle.std.specs.List.{slice_get}
 pub record ChainsValue : Type 0 where
   pub hashes : List ℕ
   pub count : ℕ
-
--- a place or none, by a number of 32 bits: the greatest stands for none
-abbrev pub linked : ℕ → Option ℕ
-linked raw = cond (raw == 4294967295) None (Some raw)
-
-abbrev pub link_number : Option ℕ → ℕ
-link_number None = 4294967295
-link_number (Some place) = place
 
 abbrev pub bucket : ℕ → ℕ → ℕ
 bucket count hash = bit_and hash (count - 1)

@@ -11,6 +11,7 @@ pub mod Feeds
 pub mod Fits
 pub mod Gives
 pub mod Lent
+pub mod Link
 pub mod Loan
 pub mod Path
 pub mod Replacements

@@ -5,6 +5,7 @@ pub mod builder;
 pub mod fault;
 pub mod green;
 pub mod laws;
+pub mod link;
 pub mod node_cache;
 pub mod steps;
 pub mod text;

@@ -3,6 +3,7 @@ ghost use Rattle.std.specs.Prelude.{◌≡◌, ◌+◌, ◌<◌, List, ℕ, [], 
 ghost use Rattle.std.specs.List.{slice_get};
 ghost use Rattle.rowan_green.specs.Chains.{bucket, IsNewest, IsOnChain, AreLinked};
 
+use crate::link::Link;
 use std::alloc::{AllocError, Global};
 use std::marker::Model;
 
@@ -11,50 +12,6 @@ const MAX_PLACES: usize = u32::MAX as usize;
 
 // The number of buckets that the first place takes. It is doubled as the places grow, so it is a power of two.
 const FIRST_BUCKETS: usize = 16;
-
-// A place or none, in four bytes.
-#[derive(Clone, Copy)]
-struct Link {
-    raw: u32,
-}
-
-impl Model for Link {
-    ghost use Rattle.std.specs.Prelude.{ℕ, Option};
-    ghost use Rattle.std.specs.Coded.{coded_option, coded_ℕ};
-    ghost use Rattle.rowan_green.specs.Chains.{linked, link_number};
-
-    ghost Value = { Option ℕ };
-
-    ghost coded = { coded_option coded_ℕ };
-
-    ghost view = { λ l. linked l.raw };
-
-    ghost inverse = { λ o. record { raw = link_number o } };
-}
-
-impl Link {
-    fn none() -> Link
-        ensures { result ≡ None }
-    {
-        Link { raw: u32::MAX }
-    }
-
-    fn to(place: u32) -> Link
-        requires { place < 4294967295 }
-        ensures { result ≡ Some place }
-    {
-        Link { raw: place }
-    }
-
-    fn place(self) -> Option<u32>
-        ensures { result ≡ self }
-    {
-        if self.raw == u32::MAX {
-            return None;
-        }
-        Some(self.raw)
-    }
-}
 
 #[derive(Drop)]
 pub(super) struct Chains {
@@ -200,12 +157,12 @@ fn place_with(hash: u32, hashes: &[u32], older: &[Link], next: Link) -> Option<u
         IsNewest (map (bucket count) hashes.now) bound (bucket count hash) next
         → IsNewest hashes.now bound hash result }
 {
-    let mut next = next.place();
+    let mut next = next.number();
     while let Some(place) = next {
         if hashes[place as usize] == hash {
             return Some(place);
         }
-        next = older[place as usize].place();
+        next = older[place as usize].number();
     }
     None
 }

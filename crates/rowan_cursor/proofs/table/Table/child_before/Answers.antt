@@ -1,7 +1,7 @@
 use Rattle.std.proofs.Common.{◌<◌, ◌≤◌, ◌+◌, ◌-◌, ◌/◌, subst, rules, arith}
 use Rattle.rowan_green.specs.declared.utility_types.NodeOrToken.TheVariants.{Node}
 use Rattle.rowan_green.specs.Path.{offset}
-use Rattle.rowan_cursor.specs.TableView.{root_of, path_at}
+use Rattle.rowan_cursor.specs.TableView.{root_of, path_at, entries_of}
 use Rattle.rowan_cursor.proofs.SkipLemmas.{row_count, child_path, child_later, child_behind}
 use Rattle.rowan_cursor.proofs.table.Table.child_before.Goals as goal
 
@@ -9,10 +9,10 @@ pub loop-child-init : goal.loop-child-init
 loop-child-init c =
     let table = c.args.self.now in
     let row = c.child_numbers-children.result in
-    let count = row_count table.entries.items (root_of table) (path_at table c.args.number) row.start row.end c.child_numbers-children.ensures in
+    let count = row_count (entries_of table) (root_of table) (path_at table c.args.number) row.start row.end c.child_numbers-children.ensures.row in
     record {
       from = omega arith;
-      order = omega (arith, c.child_numbers-children.ensures.order, c.if-children.false);
+      order = omega (arith, c.child_numbers-children.ensures.row.order, c.if-children.false);
       to = omega arith;
       before = λ h. absurd (omega (arith, h));
       behind = λ j h l. absurd (omega (arith, h, l, count));
@@ -29,7 +29,7 @@ loop-child-preserved c =
     let from : c.loop-child.child < middle = omega (arith, c.loop-child-test.true) in
     let to : middle < c.loop-child.end = omega (arith, c.loop-child-test.true) in
     let past : c.args.offset ≤ c.start.result = search rules in
-    let path = (child_path table.entries.items root p row.start row.end middle c.child_numbers-children.ensures (omega (arith, inv.from, from)) (omega (arith, inv.to, to))).0 in
+    let path = (child_path (entries_of table) root p row.start row.end middle c.child_numbers-children.ensures.row (omega (arith, inv.from, from)) (omega (arith, inv.to, to))).0 in
     let here : c.args.offset ≤ offset (Node root) (path_at table middle) = omega (arith, past, c.start.ensures) in
     record {
       from = inv.from;
@@ -44,7 +44,7 @@ returns-clause-child c =
     let table = c.args.self.now in
     let row = c.child_numbers-children.result in
     let inv = c.loop-child.invariant in
-    let here = child_path table.entries.items (root_of table) (path_at table c.args.number) row.start row.end c.loop-child.child c.child_numbers-children.ensures inv.from (omega (arith, inv.order, inv.to)) in
+    let here = child_path (entries_of table) (root_of table) (path_at table c.args.number) row.start row.end c.loop-child.child c.child_numbers-children.ensures.row inv.from (omega (arith, inv.order, inv.to)) in
     record {
       place = c.loop-child.child - row.start;
       path = here.0;
@@ -58,5 +58,5 @@ returns-clause-later c =
     let table = c.args.self.now in
     let row = c.child_numbers-children.result in
     let inv = c.loop-child.invariant in
-    let here = child_path table.entries.items (root_of table) (path_at table c.args.number) row.start row.end c.loop-child.child c.child_numbers-children.ensures inv.from (omega (arith, inv.order, inv.to)) in
-    child_later table.entries.items table.complete c.args.number c.loop-child.child (c.loop-child.child - row.start) c.requires (omega (arith, c.child_numbers-children.ensures.within, inv.order, inv.to)) here.0
+    let here = child_path (entries_of table) (root_of table) (path_at table c.args.number) row.start row.end c.loop-child.child c.child_numbers-children.ensures.row inv.from (omega (arith, inv.order, inv.to)) in
+    child_later (entries_of table) table.complete c.args.number c.loop-child.child (c.loop-child.child - row.start) c.requires (omega (arith, c.child_numbers-children.ensures.row.within, inv.order, inv.to)) here.0

@@ -5,11 +5,12 @@ use Rattle.rowan_cursor.specs.Chunks.{slice_of, remaining_chunks}
 use Rattle.rowan_cursor.proofs.SliceLemmas.{chunks-joined}
 use Rattle.rowan_cursor.proofs.TokenLemmas.{stands_at}
 use Rattle.rowan_cursor.proofs.table.Table.chunk_at.Goals as goal
+use Rattle.rowan_cursor.specs.TableView.{entries_of}
 
 pub returns-then-place-chunk : goal.returns-then-place-chunk
 returns-then-place-chunk c =
     let table = c.args.self.now in
-    let there = stands_at table.entries.items table.complete c.args.node c.requires.node.within in
+    let there = stands_at (entries_of table) table.complete c.args.node c.requires.node.within in
     let before = c.loop-chunk.invariant.1 in
     let here : c.loop-chunk.place < length c.in-Some.chunk.now = search rules in
     record {
@@ -37,7 +38,7 @@ loop-chunk-preserved c =
 pub returns : goal.returns
 returns c =
     let table = c.args.self.now in
-    let there = stands_at table.entries.items table.complete c.args.node c.requires.node.within in
+    let there = stands_at (entries_of table) table.complete c.args.node c.requires.node.within in
     let before = c.loop-chunk.invariant.1 in
     let text =
     sym (chunks-joined (slice_of table c.args.node c.args.range) there.0 there.1 c.requires.slice) ∙ sym before.1

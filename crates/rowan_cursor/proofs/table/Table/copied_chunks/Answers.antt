@@ -5,11 +5,12 @@ use Rattle.rowan_cursor.specs.Chunks.{slice_of}
 use Rattle.rowan_cursor.proofs.SliceLemmas.{chunks-joined}
 use Rattle.rowan_cursor.proofs.TokenLemmas.{stands_at}
 use Rattle.rowan_cursor.proofs.table.Table.copied_chunks.Goals as goal
+use Rattle.rowan_cursor.specs.TableView.{entries_of}
 
 pub returns : goal.returns
 returns c =
     let table = c.args.self.now in
     let copied = string_bytes c.loop-chunk.text in
-    let there = stands_at table.entries.items table.complete c.args.node c.requires.node.within in
+    let there = stands_at (entries_of table) table.complete c.args.node c.requires.node.within in
     sym (append-nil copied) ∙ sym (ap (λ cs. copied ++ concat cs) c.in_default.ensures.next) ∙ c.loop-chunk.invariant.1
     ∙ chunks-joined (slice_of table c.args.node c.args.range) there.0 there.1 c.requires.slice

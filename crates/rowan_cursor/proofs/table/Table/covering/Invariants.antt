@@ -1,7 +1,7 @@
 use Rattle.std.proofs.Common.{◌-◌, length}
 use Rattle.rowan_green.specs.Path.{Path}
 use Rattle.rowan_cursor.specs.Search.{Covers}
-use Rattle.rowan_cursor.specs.TableView.{root_of, path_at, IsPlace}
+use Rattle.rowan_cursor.specs.TableView.{root_of, path_at, IsPlace, entries_of}
 use Rattle.rowan_cursor.proofs.table.Table.covering.Given as goal
 
 -- what covers the range below the element that is reached covers it below the first
@@ -12,4 +12,4 @@ invariant-loop-child l =
     × ((q : Path) → Covers (root_of s) l.range (path_at s l.covering.number) q → Covers (root_of s) l.range (path_at s l.initial.covering.number) q)
 
 abbrev pub decreases-loop-child : goal.decreases-loop-child
-decreases-loop-child l = length l.self.entries.items - l.covering.number
+decreases-loop-child l = length (entries_of l.self) - l.covering.number

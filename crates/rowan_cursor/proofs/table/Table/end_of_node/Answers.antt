@@ -1,11 +1,10 @@
-use Rattle.std.proofs.Common.{ap, arith}
-use Rattle.rowan_green.specs.Path.{len_of}
-use Rattle.rowan_cursor.proofs.TableLemmas.{slice_get-some, is_entry}
+use Rattle.std.proofs.Common.{Some, arith}
+use Rattle.rowan_cursor.specs.Table.{told}
 use Rattle.rowan_cursor.proofs.table.Table.end_of_node.Goals as goal
 
 pub at-requires : goal.at-requires
 at-requires c =
     let s = c.args.self.now in
-    let e = slice_get-some s.entries.items c.args.number c.requires.within in
-    let is = is_entry s.entries.items s.complete c.args.number e.0 e.1 in
-    omega (arith, c.start.ensures, is.start, is.end, c.text_len.ensures.len, ap len_of c.node.ensures)
+    let x = c.inner_node.result.now in
+    let i = c.inner_node.ensures in
+    omega (arith, c.start.ensures, i.is.start, s.complete.draft.ends c.args.number (told i.entry (Some x)) i.is.at, x.len)

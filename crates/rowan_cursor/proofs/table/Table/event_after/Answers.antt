@@ -3,10 +3,11 @@ use Rattle.rowan_cursor.specs.TablePass.{StandsInside}
 use Rattle.rowan_cursor.proofs.TokenLemmas.{first_child-inside, stands_at}
 use Rattle.rowan_cursor.proofs.EventLemmas.{enter-child, enter-childless}
 use Rattle.rowan_cursor.proofs.table.Table.event_after.Goals as goal
+use Rattle.rowan_cursor.specs.TableView.{entries_of}
 
 pub returns-in-Some-clause-next : goal.returns-in-Some-clause-next
 returns-in-Some-clause-next c =
-    let es = c.args.self.now.entries.items in
+    let es = entries_of c.args.self.now in
     let n = c.in-Enter.number in
     let at : StandsInside c.args.self.now c.args.start n = rw c.in-Enter.is at c.requires in
     let there = stands_at es c.args.self.now.complete n at.within in
@@ -14,7 +15,7 @@ returns-in-Some-clause-next c =
 
 pub returns-in-Some-clause-inside : goal.returns-in-Some-clause-inside
 returns-in-Some-clause-inside c =
-    let es = c.args.self.now.entries.items in
+    let es = entries_of c.args.self.now in
     let n = c.in-Enter.number in
     let at : StandsInside c.args.self.now c.args.start n = rw c.in-Enter.is at c.requires in
     record {
@@ -25,7 +26,7 @@ returns-in-Some-clause-inside c =
 
 pub returns-in-None-clause-next : goal.returns-in-None-clause-next
 returns-in-None-clause-next c =
-    let es = c.args.self.now.entries.items in
+    let es = entries_of c.args.self.now in
     let n = c.in-Enter.number in
     let at : StandsInside c.args.self.now c.args.start n = rw c.in-Enter.is at c.requires in
     let there = stands_at es c.args.self.now.complete n at.within in

@@ -7,12 +7,13 @@ use Rattle.rowan_cursor.proofs.ChunkLemmas.{slice_fits}
 use Rattle.rowan_cursor.proofs.SliceLemmas.{chunks-joined}
 use Rattle.rowan_cursor.proofs.TokenLemmas.{stands_at}
 use Rattle.rowan_cursor.proofs.table.Table.find_char.Goals as goal
+use Rattle.rowan_cursor.specs.TableView.{entries_of}
 
 pub loop-chunk-init : goal.loop-chunk-init
 loop-chunk-init c =
     let table = c.args.self.now in
     let slice = slice_of table c.args.node c.args.range in
-    let there = stands_at table.entries.items table.complete c.args.node c.requires.node.within in (
+    let there = stands_at (entries_of table) table.complete c.args.node c.requires.node.within in (
       c.chunk_walk-walk.ensures.walk,
       nothing_passed (slice_text slice) (concat (remaining_chunks table c.chunk_walk-walk.result)) c.args.c
           (ap concat c.chunk_walk-walk.ensures.chunks ∙ chunks-joined slice there.0 there.1 c.requires.slice),

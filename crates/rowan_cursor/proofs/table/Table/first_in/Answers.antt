@@ -3,10 +3,11 @@ use Rattle.rowan_cursor.specs.Moves.{first_at}
 use Rattle.rowan_cursor.specs.Table.{entry_path}
 use Rattle.rowan_cursor.proofs.RowLemmas.{first_split}
 use Rattle.rowan_cursor.proofs.table.Table.first_in.Goals as goal
+use Rattle.rowan_cursor.specs.TableView.{entries_of}
 
 pub returns : goal.returns
 returns c =
     record {
-      path = sym (ap first_at (first_split (entry_path c.args.self.now.entries.items) c.args.row.start c.args.row.end (omega (arith, c.requires.order, c.if-row.false))));
+      path = sym (ap first_at (first_split (entry_path (entries_of c.args.self.now)) c.args.row.start c.args.row.end (omega (arith, c.requires.order, c.if-row.false))));
       within = omega (arith, c.requires.order, c.requires.within, c.if-row.false);
     }

@@ -3,9 +3,10 @@ use Rattle.rowan_cursor.specs.Moves.{is_node_at}
 use Rattle.rowan_cursor.specs.Table.{root_node, entry_path}
 use Rattle.rowan_cursor.proofs.RowLemmas.{missed_first}
 use Rattle.rowan_cursor.proofs.table.Table.first_node_in.Goals as goal
+use Rattle.rowan_cursor.specs.TableView.{entries_of}
 
 pub loop-number-preserved : goal.loop-number-preserved
 loop-number-preserved c =
-    let es = c.args.self.now.entries.items in
+    let es = entries_of c.args.self.now in
     c.loop-number.invariant
     ∙ missed_first (is_node_at (root_node es)) (entry_path es) c.loop-number.number c.args.row.end (omega (arith, c.loop-number-test.true)) (sym c.is_node.ensures ∙ c.if-is_node.false)

@@ -1,8 +1,11 @@
 use Rattle.std.proofs.Common.{arith}
+use Rattle.rowan_cursor.specs.Table.{facts_of}
+use Rattle.rowan_cursor.specs.TableView.{entries_of}
 use Rattle.rowan_cursor.proofs.TableLemmas.{following_to}
 use Rattle.rowan_cursor.proofs.table.Table.following_numbers.Goals as goal
 
 pub returns-clause-row : goal.returns-clause-row
 returns-clause-row c =
     let s = c.args.self.now in
-    following_to s.entries.items s.complete c.args.number c.entry.result.now c.children_end.result c.entry.ensures.at (omega arith) c.children_end.ensures
+    let e = facts_of s.nodes.items c.entry.result.now in
+    following_to (entries_of s) s.complete c.args.number e c.child_numbers-siblings.result.end c.entry.ensures.at (omega arith) (λ p above. (c.child_numbers-siblings.ensures.bounds p above).1)

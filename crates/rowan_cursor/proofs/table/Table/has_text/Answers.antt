@@ -8,6 +8,7 @@ use Rattle.rowan_cursor.specs.SyntaxText.{slice_text}
 use Rattle.rowan_cursor.proofs.SliceLemmas.{chunks-joined, empty_text}
 use Rattle.rowan_cursor.proofs.TokenLemmas.{stands_at}
 use Rattle.rowan_cursor.proofs.table.Table.has_text.Goals as goal
+use Rattle.rowan_cursor.specs.TableView.{entries_of}
 
 pub loop-chunk-preserved : goal.loop-chunk-preserved
 loop-chunk-preserved c =
@@ -27,7 +28,7 @@ loop-chunk-preserved c =
 pub returns-in-None : goal.returns-in-None
 returns-in-None c =
     let table = c.args.self.now in
-    let there = stands_at table.entries.items table.complete c.args.node c.requires.node.within in
+    let there = stands_at (entries_of table) table.complete c.args.node c.requires.node.within in
     let before = c.loop-chunk.invariant.2 in
     let chunk = c.in-Some.chunk.now in
     let later = concat (remaining_chunks table c.next_chunk.new.walk) in
@@ -39,7 +40,7 @@ returns-in-None c =
 pub returns : goal.returns
 returns c =
     let table = c.args.self.now in
-    let there = stands_at table.entries.items table.complete c.args.node c.requires.node.within in
+    let there = stands_at (entries_of table) table.complete c.args.node c.requires.node.within in
     let before = c.loop-chunk.invariant.2 in
     let joined = chunks-joined (slice_of table c.args.node c.args.range) there.0 there.1 c.requires.slice in
     let text : slice_text (slice_of table c.args.node c.args.range) ≡ before.0 ++ [] = sym joined ∙ sym before.1 ∙ ap (λ cs. before.0 ++ concat cs) c.in_default.ensures.next in

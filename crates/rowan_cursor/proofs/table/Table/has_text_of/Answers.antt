@@ -1,18 +1,19 @@
 use Rattle.std.proofs.Common.{◌≡◌, ◌≢◌, ◌<◌, ◌++◌, length, sym, ◌∙◌, ap, arith, rules, append_assoc, length-append}
-use Rattle.std.proofs.lemmas.List.{append-nil, append_cancel_left}
+use Rattle.std.proofs.lemmas.List.{append-nil, append_cancel_left, nil_from_length}
 use Rattle.std.specs.List.{concat}
 use Rattle.rowan_cursor.specs.Chunks.{slice_of, remaining_chunks}
 use Rattle.rowan_cursor.proofs.SliceLemmas.{chunks-joined, slice_text-len}
 use Rattle.rowan_cursor.proofs.SameLemmas.{same, differ, fronts, longer, all_alike}
 use Rattle.rowan_cursor.proofs.TokenLemmas.{stands_at}
 use Rattle.rowan_cursor.proofs.table.Table.has_text_of.Goals as goal
+use Rattle.rowan_cursor.specs.TableView.{entries_of}
 
 pub returns-then-ne : goal.returns-then-ne
 returns-then-ne c =
     let s = slice_of c.args.self.now c.args.node c.args.range in
     let t = slice_of c.args.other.now c.args.other_node c.args.other_range in
-    let here = stands_at c.args.self.now.entries.items c.args.self.now.complete c.args.node c.requires.slice.node.within in
-    let there = stands_at c.args.other.now.entries.items c.args.other.now.complete c.args.other_node c.requires.other_slice.node.within in
+    let here = stands_at (entries_of c.args.self.now) c.args.self.now.complete c.args.node c.requires.slice.node.within in
+    let there = stands_at (entries_of c.args.other.now) c.args.other.now.complete c.args.other_node c.requires.other_slice.node.within in
     let apart : c.len.result ≢ c.len-2.result = search rules in
     differ s t (λ e. apart (c.len.ensures.difference ∙ sym (slice_text-len s here.0 here.1 c.requires.slice.slice) ∙ ap length e ∙ slice_text-len t there.0 there.1 c.requires.other_slice.slice ∙ sym c.len-2.ensures.difference))
 
@@ -20,8 +21,8 @@ pub returns-in-None : goal.returns-in-None
 returns-in-None c =
     let s = slice_of c.args.self.now c.args.node c.args.range in
     let t = slice_of c.args.other.now c.args.other_node c.args.other_range in
-    let here = stands_at c.args.self.now.entries.items c.args.self.now.complete c.args.node c.requires.slice.node.within in
-    let there = stands_at c.args.other.now.entries.items c.args.other.now.complete c.args.other_node c.requires.other_slice.node.within in
+    let here = stands_at (entries_of c.args.self.now) c.args.self.now.complete c.args.node c.requires.slice.node.within in
+    let there = stands_at (entries_of c.args.other.now) c.args.other.now.complete c.args.other_node c.requires.other_slice.node.within in
     let before = c.loop-mine.invariant.1 in
     let left = concat (remaining_chunks c.args.self.now c.next_chunk.new.walk) in
     let theirs = concat (remaining_chunks c.args.other.now c.loop-mine.other_walk) in
@@ -36,8 +37,8 @@ pub returns-then-ne-2 : goal.returns-then-ne-2
 returns-then-ne-2 c =
     let s = slice_of c.args.self.now c.args.node c.args.range in
     let t = slice_of c.args.other.now c.args.other_node c.args.other_range in
-    let here = stands_at c.args.self.now.entries.items c.args.self.now.complete c.args.node c.requires.slice.node.within in
-    let there = stands_at c.args.other.now.entries.items c.args.other.now.complete c.args.other_node c.requires.other_slice.node.within in
+    let here = stands_at (entries_of c.args.self.now) c.args.self.now.complete c.args.node c.requires.slice.node.within in
+    let there = stands_at (entries_of c.args.other.now) c.args.other.now.complete c.args.other_node c.requires.other_slice.node.within in
     let before = c.loop-mine.invariant.1 in
     let left = concat (remaining_chunks c.args.self.now c.next_chunk.new.walk) in
     let theirs = concat (remaining_chunks c.args.other.now c.loop-mine.other_walk) in
@@ -66,12 +67,27 @@ loop-mine-preserved c =
       ),
     )
 
+pub loop-mine-preserved-then-is_empty : goal.loop-mine-preserved-then-is_empty
+loop-mine-preserved-then-is_empty c =
+    let before = c.loop-mine.invariant.1 in
+    let others = c.args.other.now in
+    let left = remaining_chunks others c.next_chunk-then-is_empty.new.walk in
+    let none : length c.loop-mine.theirs.now ≡ 0 = search rules in (
+      c.in-Some-next_chunk.ensures.walk,
+      (
+        before.0,
+        before.1,
+        ap (λ us. before.0 ++ (us ++ concat left)) c.as_bytes-theirs.ensures.value ∙ ap (λ cs. before.0 ++ concat cs) (sym c.in-Some-next_chunk.ensures.next)
+            ∙ ap (λ us. before.0 ++ (us ++ concat (remaining_chunks others c.loop-mine.other_walk))) (sym (nil_from_length c.loop-mine.theirs.now none)) ∙ before.2,
+      ),
+    )
+
 pub returns : goal.returns
 returns c =
     let s = slice_of c.args.self.now c.args.node c.args.range in
     let t = slice_of c.args.other.now c.args.other_node c.args.other_range in
-    let here = stands_at c.args.self.now.entries.items c.args.self.now.complete c.args.node c.requires.slice.node.within in
-    let there = stands_at c.args.other.now.entries.items c.args.other.now.complete c.args.other_node c.requires.other_slice.node.within in
+    let here = stands_at (entries_of c.args.self.now) c.args.self.now.complete c.args.node c.requires.slice.node.within in
+    let there = stands_at (entries_of c.args.other.now) c.args.other.now.complete c.args.other_node c.requires.other_slice.node.within in
     let before = c.loop-chunk.invariant.2 in
     let theirs = concat (remaining_chunks c.args.other.now c.loop-chunk.other_walk) in
     let len : c.len.result ≡ c.len-2.result = search rules in

@@ -8,11 +8,12 @@ use Rattle.rowan_cursor.proofs.CharLemmas.{byte_within}
 use Rattle.rowan_cursor.proofs.SliceLemmas.{slice_text-len}
 use Rattle.rowan_cursor.proofs.TokenLemmas.{stands_at}
 use Rattle.rowan_cursor.proofs.table.Table.is_border.Goals as goal
+use Rattle.rowan_cursor.specs.TableView.{entries_of}
 
 pub returns-in-None-clause-border : goal.returns-in-None-clause-border
 returns-in-None-clause-border c =
     let table = c.args.self.now in
-    let there = stands_at table.entries.items table.complete c.args.node c.requires.node.within in
+    let there = stands_at (entries_of table) table.complete c.args.node c.requires.node.within in
     let slice = slice_of table c.args.node c.args.range in
     let len : c.len.result ≡ length (slice_text slice) = c.len.ensures.difference ∙ sym (slice_text-len slice there.0 there.1 c.requires.slice) in
     let test = Decides-eqb c.args.offset c.len.result in (
@@ -27,6 +28,6 @@ returns-in-None-clause-within c h =
 pub returns-in-Some-clause-within : goal.returns-in-Some-clause-within
 returns-in-Some-clause-within c h =
     let table = c.args.self.now in
-    let there = stands_at table.entries.items table.complete c.args.node c.requires.node.within in
+    let there = stands_at (entries_of table) table.complete c.args.node c.requires.node.within in
     let slice = slice_of table c.args.node c.args.range in
     omega (arith, byte_within (slice_text slice) c.args.offset _ _ c.in-Some.ensures, slice_text-len slice there.0 there.1 c.requires.slice)

@@ -1,8 +1,7 @@
-use Rattle.std.proofs.Common.{Some, sym, ◌∙◌, ap}
-use Rattle.rowan_cursor.specs.Table.{green_in}
-use Rattle.rowan_cursor.proofs.TableLemmas.{content-none}
+use Rattle.std.proofs.Common.{◌∙◌}
+use Rattle.rowan_cursor.proofs.InnerLemmas.{is_some-stands}
 use Rattle.rowan_cursor.proofs.table.Table.is_node.Goals as goal
 
-pub returns-in_default : goal.returns-in_default
-returns-in_default c =
-    sym (content-none _ (c.entry.ensures.green ∙ ap (λ k. Some (green_in k)) c.in_default.is))
+pub returns : goal.returns
+returns c =
+    c.is_some.ensures ∙ is_some-stands c.args.self.now c.args.number c.inner.result c.inner.ensures.some c.inner.ensures.none

@@ -2,7 +2,7 @@ use Rattle.std.proofs.Common.{◌≡◌, ◌+◌, ◌∙◌, ap, subst, arith}
 use Rattle.rowan_green.specs.Span.{Span}
 use Rattle.rowan_cursor.specs.Moves.{is_node}
 use Rattle.rowan_cursor.specs.Search.{Covers}
-use Rattle.rowan_cursor.specs.TableView.{root_of, path_at}
+use Rattle.rowan_cursor.specs.TableView.{root_of, path_at, entries_of}
 use Rattle.rowan_cursor.proofs.CoverLemmas.{byte_at, covers-byte}
 use Rattle.rowan_cursor.proofs.SearchLemmas.{place_limit}
 use Rattle.rowan_cursor.proofs.TokenLemmas.{stands_at}
@@ -18,7 +18,7 @@ returns-clause-leaf c =
     let byte = c.args.byte in
     let p = path_at s c.args.top.now.number in
     let q = path_at s c.covering.result.number in
-    let there = stands_at s.entries.items s.complete c.args.top.now.number c.requires.place.within in
+    let there = stands_at (entries_of s) s.complete c.args.top.now.number c.requires.place.within in
     let one : c.at-over.result ≡ byte_at byte = c.at-over.ensures ∙ ap (λ n. record { start = byte; end = byte + n }) c.from.ensures in
     let covers : Covers root (byte_at byte) p q = subst (λ (r : Span). Covers root r p q) one c.covering.ensures.covers in
     let lies = c.requires.place.lies in

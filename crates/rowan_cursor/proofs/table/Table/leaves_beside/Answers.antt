@@ -3,7 +3,7 @@ use Rattle.rowan_green.specs.Span.{Span}
 use Rattle.rowan_cursor.specs.declared.table.Table.{Table}
 use Rattle.rowan_cursor.specs.declared.table.search.Place.{Place}
 use Rattle.rowan_cursor.specs.Search.{Covers, IsLeafOver}
-use Rattle.rowan_cursor.specs.TableView.{root_of, path_at, IsPlace}
+use Rattle.rowan_cursor.specs.TableView.{root_of, path_at, IsPlace, entries_of}
 use Rattle.rowan_cursor.proofs.CoverLemmas.{HasSpan, two_bytes_at, covers-has_span, leaf-below}
 use Rattle.rowan_cursor.proofs.SearchLemmas.{place_limit}
 use Rattle.rowan_cursor.proofs.TokenLemmas.{stands_at}
@@ -22,7 +22,7 @@ has_both {t} {top} {both} {span} {offset} {x} {y} {n} here from to same before t
     let root = root_of t in
     let p = path_at t top.number in
     let q = path_at t both.number in
-    let u = stands_at t.entries.items t.complete top.number here.within in
+    let u = stands_at (entries_of t) t.complete top.number here.within in
     let own : span ≡ two_bytes_at x = is ∙ ap (λ m. record { start = x; end = x + m }) two in
     let start = ap (λ (r : Span). r.start) here.lies in
     let end = ap (λ (r : Span). r.end) here.lies in

@@ -7,7 +7,7 @@ use Rattle.rowan_green.proofs.SearchLemmas.{IsNarrowed, not-narrowed, narrowed-l
 use Rattle.rowan_cursor.specs.declared.table.Table.{Table}
 use Rattle.rowan_cursor.specs.declared.table.search.Place.{Place}
 use Rattle.rowan_cursor.specs.Moves.{children_of}
-use Rattle.rowan_cursor.specs.TableView.{root_of, path_at, paths_below, IsPlace, StretchShows}
+use Rattle.rowan_cursor.specs.TableView.{root_of, path_at, paths_below, IsPlace, StretchShows, entries_of}
 use Rattle.rowan_cursor.proofs.SearchLemmas.{IsAtPlace, at_place, place_lies, only_range_child}
 use Rattle.rowan_cursor.proofs.SkipLemmas.{row_count}
 use Rattle.rowan_cursor.proofs.table.Table.only_child_at.Goals as goal
@@ -21,7 +21,7 @@ at_middle {low} {high} here row left some = at_place (low + (high - low) / 2) he
 at_border : {t : Table} {parent : Place} {first stop low high : ℕ} {a b : ℕ} (i : ℕ) → IsPlace t parent → StretchShows t first stop (paths_below t parent.number)
     → IsNarrowed (children_of (subterm (Node (root_of t)) (path_at t parent.number))) a b low high → first ≢ stop → i ≡ low - 1 → IsAtPlace t parent first stop i
 at_border {t} {parent} {first} {stop} i here row left some is =
-    let count = row_count t.entries.items (root_of t) (path_at t parent.number) first stop row in
+    let count = row_count (entries_of t) (root_of t) (path_at t parent.number) first stop row in
     at_place i here row (omega (arith, is, left.order, left.place, count, row.order, some))
 
 -- the range starts in the element
@@ -32,7 +32,7 @@ pub loop-low-init : goal.loop-low-init
 loop-low-init c =
     let t = c.args.self.now in
     let row = c.child_numbers-children.result in
-    let count = row_count t.entries.items (root_of t) (path_at t c.args.parent.now.number) row.start row.end c.child_numbers-children.ensures in (
+    let count = row_count (entries_of t) (root_of t) (path_at t c.args.parent.now.number) row.start row.end c.child_numbers-children.ensures.row in (
       not-narrowed _ _ _ _ (omega (arith, count)),
       IsCounted-start _ _ _ (omega (arith, count)),
       refl,
@@ -40,17 +40,17 @@ loop-low-init c =
 
 pub overflow_add-number : goal.overflow_add-number
 overflow_add-number c =
-    let here = at_middle c.requires.place c.child_numbers-children.ensures c.loop-low.invariant.0 c.loop-low-test.true in
+    let here = at_middle c.requires.place c.child_numbers-children.ensures.row c.loop-low.invariant.0 c.loop-low-test.true in
     omega (arith, here.less)
 
 pub child_range-own-requires : goal.child_range-own-requires
 child_range-own-requires c =
-    let here = at_middle c.requires.place c.child_numbers-children.ensures c.loop-low.invariant.0 c.loop-low-test.true in
+    let here = at_middle c.requires.place c.child_numbers-children.ensures.row c.loop-low.invariant.0 c.loop-low-test.true in
     here.up _ c.end-end.ensures.offset
 
 pub loop-low-preserved-in-Less : goal.loop-low-preserved-in-Less
 loop-low-preserved-in-Less c =
-    let here = at_middle c.requires.place c.child_numbers-children.ensures c.loop-low.invariant.0 c.loop-low-test.true in
+    let here = at_middle c.requires.place c.child_numbers-children.ensures.row c.loop-low.invariant.0 c.loop-low-test.true in
     let lies = place_lies here c.child_range-own.ensures in
     let less = c.in-Less.ensures.less.0 refl in (
       narrowed-less _ _ _ _ _ _ c.loop-low.invariant.0 (omega (arith, c.loop-low-test.true)) (omega (arith, less, lies.1)),
@@ -60,7 +60,7 @@ loop-low-preserved-in-Less c =
 
 pub loop-low-preserved : goal.loop-low-preserved
 loop-low-preserved c =
-    let here = at_middle c.requires.place c.child_numbers-children.ensures c.loop-low.invariant.0 c.loop-low-test.true in
+    let here = at_middle c.requires.place c.child_numbers-children.ensures.row c.loop-low.invariant.0 c.loop-low-test.true in
     let lies = place_lies here c.child_range-own.ensures in
     let from = from_start c.requires.place c.requires.from in
     let greater = c.in-Greater.ensures.greater.0 refl in (
@@ -71,7 +71,7 @@ loop-low-preserved c =
 
 pub returns-in-Equal-clause-only : goal.returns-in-Equal-clause-only
 returns-in-Equal-clause-only c =
-    let here = at_middle c.requires.place c.child_numbers-children.ensures c.loop-low.invariant.0 c.loop-low-test.true in
+    let here = at_middle c.requires.place c.child_numbers-children.ensures.row c.loop-low.invariant.0 c.loop-low-test.true in
     let lies = place_lies here c.child_range-own.ensures in
     let from = from_start c.requires.place c.requires.from in
     let over = c.in-Equal.ensures.equal.0 refl in
@@ -80,12 +80,12 @@ returns-in-Equal-clause-only c =
 
 pub returns-in-Equal-clause-place : goal.returns-in-Equal-clause-place
 returns-in-Equal-clause-place c =
-    let here = at_middle c.requires.place c.child_numbers-children.ensures c.loop-low.invariant.0 c.loop-low-test.true in
+    let here = at_middle c.requires.place c.child_numbers-children.ensures.row c.loop-low.invariant.0 c.loop-low-test.true in
     record { within = here.within; lies = c.child_range-own.ensures }
 
 pub returns-in-Equal-clause-later : goal.returns-in-Equal-clause-later
 returns-in-Equal-clause-later c =
-    let here = at_middle c.requires.place c.child_numbers-children.ensures c.loop-low.invariant.0 c.loop-low-test.true in
+    let here = at_middle c.requires.place c.child_numbers-children.ensures.row c.loop-low.invariant.0 c.loop-low-test.true in
     here.later
 
 pub returns-in-Equal-clause-counts : goal.returns-in-Equal-clause-counts
@@ -95,17 +95,17 @@ returns-in-Equal-clause-counts c =
 
 pub overflow_add-number-2 : goal.overflow_add-number-2
 overflow_add-number-2 c =
-    let here = at_border c.saturating_sub.result c.requires.place c.child_numbers-children.ensures c.loop-low.invariant.0 c.if-children.false c.saturating_sub.ensures in
+    let here = at_border c.saturating_sub.result c.requires.place c.child_numbers-children.ensures.row c.loop-low.invariant.0 c.if-children.false c.saturating_sub.ensures in
     omega (arith, here.less)
 
 pub child_range-range-requires : goal.child_range-range-requires
 child_range-range-requires c =
-    let here = at_border c.saturating_sub.result c.requires.place c.child_numbers-children.ensures c.loop-low.invariant.0 c.if-children.false c.saturating_sub.ensures in
+    let here = at_border c.saturating_sub.result c.requires.place c.child_numbers-children.ensures.row c.loop-low.invariant.0 c.if-children.false c.saturating_sub.ensures in
     here.up _ c.end-end.ensures.offset
 
 pub returns-clause-only : goal.returns-clause-only
 returns-clause-only c =
-    let here = at_border c.saturating_sub.result c.requires.place c.child_numbers-children.ensures c.loop-low.invariant.0 c.if-children.false c.saturating_sub.ensures in
+    let here = at_border c.saturating_sub.result c.requires.place c.child_numbers-children.ensures.row c.loop-low.invariant.0 c.if-children.false c.saturating_sub.ensures in
     let root = root_of c.args.self.now in
     let p = path_at c.args.self.now c.args.parent.now.number in
     let ts = children_of (subterm (Node root) p) in
@@ -119,10 +119,10 @@ returns-clause-only c =
 
 pub returns-clause-place : goal.returns-clause-place
 returns-clause-place c =
-    let here = at_border c.saturating_sub.result c.requires.place c.child_numbers-children.ensures c.loop-low.invariant.0 c.if-children.false c.saturating_sub.ensures in
+    let here = at_border c.saturating_sub.result c.requires.place c.child_numbers-children.ensures.row c.loop-low.invariant.0 c.if-children.false c.saturating_sub.ensures in
     record { within = here.within; lies = c.child_range-range.ensures }
 
 pub returns-clause-later : goal.returns-clause-later
 returns-clause-later c =
-    let here = at_border c.saturating_sub.result c.requires.place c.child_numbers-children.ensures c.loop-low.invariant.0 c.if-children.false c.saturating_sub.ensures in
+    let here = at_border c.saturating_sub.result c.requires.place c.child_numbers-children.ensures.row c.loop-low.invariant.0 c.if-children.false c.saturating_sub.ensures in
     here.later

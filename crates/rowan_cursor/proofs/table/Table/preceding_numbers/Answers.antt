@@ -1,13 +1,11 @@
 use Rattle.std.proofs.Common.{arith}
-use Rattle.rowan_cursor.proofs.TableLemmas.{preceding_row}
+use Rattle.rowan_cursor.specs.Table.{facts_of}
+use Rattle.rowan_cursor.specs.TableView.{entries_of}
+use Rattle.rowan_cursor.proofs.TableLemmas.{preceding_from}
 use Rattle.rowan_cursor.proofs.table.Table.preceding_numbers.Goals as goal
 
 pub returns-clause-row : goal.returns-clause-row
 returns-clause-row c =
     let s = c.args.self.now in
-    preceding_row s.entries.items s.complete c.args.number c.entry.result.now c.entry-parent.result.now
-    (record {
-      at = c.entry.ensures.at;
-      behind = omega arith;
-      above = c.entry-parent.ensures.at;
-    })
+    let e = facts_of s.nodes.items c.entry.result.now in
+    preceding_from (entries_of s) s.complete c.args.number e c.child_numbers-siblings.result.start c.entry.ensures.at (omega arith) (λ p above. (c.child_numbers-siblings.ensures.bounds p above).0)

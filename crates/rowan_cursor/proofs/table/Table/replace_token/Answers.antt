@@ -3,7 +3,8 @@ use Rattle.std.proofs.lemmas.Result.{err_from_is_err_and}
 use Rattle.rowan_green.specs.declared.fault.Fault.TheVariants.{TextTooLong, Memory}
 use Rattle.rowan_green.specs.declared.utility_types.NodeOrToken.TheVariants.{Node, Token}
 use Rattle.rowan_green.specs.Fits.{Fits}
-use Rattle.rowan_cursor.specs.TableView.{root_of, path_at}
+use Rattle.rowan_cursor.specs.Table.{facts_of}
+use Rattle.rowan_cursor.specs.TableView.{root_of, path_at, entries_of}
 use Rattle.rowan_cursor.proofs.EndLemmas.{token_behind}
 use Rattle.rowan_cursor.proofs.ReplaceLemmas.{put-above, unfit-above, token-place}
 use Rattle.rowan_cursor.proofs.TableLemmas.{node_above}
@@ -15,7 +16,7 @@ node-requires c =
     let behind = token_behind s c.args.number c.requires in
     record {
       within = omega (arith, (c.entry.ensures.below behind).earlier, c.requires.within);
-      is = node_above s.entries.items s.complete c.args.number c.entry.result.now c.entry.ensures.at behind;
+      is = node_above (entries_of s) s.complete c.args.number (facts_of s.nodes.items c.entry.result.now) c.entry.ensures.at behind;
     }
 
 pub returns-in_err-green-clause-err : goal.returns-in_err-green-clause-err

@@ -4,11 +4,12 @@ use Rattle.rowan_green.specs.Path.{begins}
 use Rattle.rowan_cursor.specs.Pass.{Lists, after}
 use Rattle.rowan_cursor.specs.Table.{root_node, entry_path}
 use Rattle.rowan_cursor.proofs.table.Table.skip_on.Given as goal
+use Rattle.rowan_cursor.specs.TableView.{entries_of}
 
 -- the pass goes on from the ancestor as from the element
 abbrev pub invariant-loop-current : goal.invariant-loop-current
 invariant-loop-current l =
-    let es = l.self.entries.items in
+    let es = entries_of l.self in
     (l.current < length es)
     × (begins (entry_path es l.top) (entry_path es l.current) ≡ true)
     × ((g : Lists) → after g (Some (Node (root_node es))) (entry_path es l.current) ≡ after g (Some (Node (root_node es))) (entry_path es l.number))

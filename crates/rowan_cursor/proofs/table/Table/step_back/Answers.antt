@@ -7,10 +7,11 @@ use Rattle.rowan_cursor.specs.Pass.{leaf_list, before, until_child, ComesBefore,
 use Rattle.rowan_cursor.specs.Table.{root_node, entry_path}
 use Rattle.rowan_cursor.proofs.TokenLemmas.{last_child-inside, back_child, no_child-until_child, back_no_child}
 use Rattle.rowan_cursor.proofs.table.Table.step_back.Goals as goal
+use Rattle.rowan_cursor.specs.TableView.{entries_of}
 
 pub returns-in-Some-clause-found : goal.returns-in-Some-clause-found
 returns-in-Some-clause-found c =
-    let es = c.args.self.now.entries.items in
+    let es = entries_of c.args.self.now in
     record {
       inside = last_child-inside (root_node es) (entry_path es c.args.top) (entry_path es c.args.number) (entry_path es c.in-Some.child) c.requires.inside c.in-Some.ensures.path;
       top_within = c.requires.top_within;
@@ -19,7 +20,7 @@ returns-in-Some-clause-found c =
 
 pub returns-in-Some-clause-back : goal.returns-in-Some-clause-back
 returns-in-Some-clause-back c =
-    let es = c.args.self.now.entries.items in
+    let es = entries_of c.args.self.now in
     back_child (root_node es) (entry_path es c.args.number) (entry_path es c.in-Some.child) c.in-Some.ensures.path
 
 back_any : (root : NodeTerm) (p : Path) (path : ℕ → Path) (r : Option ℕ) → ◌≡◌ {A = Option Path} None (first_at (reverse (child_paths root p))) → IfSome r (λ n. ComesBefore root p (path n)) → IfSome r (λ n. ComesBack root p (path n))
@@ -32,10 +33,10 @@ end_any top p root (Some n) h x = x
 
 pub returns-in-None-clause-back : goal.returns-in-None-clause-back
 returns-in-None-clause-back c =
-    let es = c.args.self.now.entries.items in
+    let es = entries_of c.args.self.now in
     back_any (root_node es) (entry_path es c.args.number) (entry_path es) c.skip_back.result c.in-None.ensures.path c.skip_back.ensures.back
 
 pub returns-in-None-clause-end : goal.returns-in-None-clause-end
 returns-in-None-clause-end c =
-    let es = c.args.self.now.entries.items in
+    let es = entries_of c.args.self.now in
     end_any (entry_path es c.args.top) (entry_path es c.args.number) (root_node es) c.skip_back.result c.in-None.ensures.path c.skip_back.ensures.end

@@ -4,17 +4,18 @@ use Rattle.rowan_cursor.specs.Pass.{leaf_list, element_list, last_inside}
 use Rattle.rowan_cursor.specs.Table.{root_node, entry_path}
 use Rattle.rowan_cursor.proofs.TokenLemmas.{until-node, until-fewer, token-last, stands_at}
 use Rattle.rowan_cursor.proofs.table.Table.token_back_from.Goals as goal
+use Rattle.rowan_cursor.specs.TableView.{entries_of}
 
 pub loop-number-smaller : goal.loop-number-smaller
 loop-number-smaller c =
-    let es = c.args.self.now.entries.items in
+    let es = entries_of c.args.self.now in
     let here = entry_path es c.loop-number.number in
     let node : is_node_at (root_node es) here ≡ true = sym c.is_node.ensures ∙ c.loop-number-test.true in
     omega (arith, until-fewer (root_node es) here node, ap length (c.in-Some.ensures.back.same element_list))
 
 pub loop-number-preserved : goal.loop-number-preserved
 loop-number-preserved c =
-    let es = c.args.self.now.entries.items in
+    let es = entries_of c.args.self.now in
     let here = entry_path es c.loop-number.number in
     let node : is_node_at (root_node es) here ≡ true = sym c.is_node.ensures ∙ c.loop-number-test.true in (
       c.in-Some.ensures.found.within,
@@ -24,7 +25,7 @@ loop-number-preserved c =
 
 pub returns-in-None : goal.returns-in-None
 returns-in-None c =
-    let es = c.args.self.now.entries.items in
+    let es = entries_of c.args.self.now in
     let here = entry_path es c.loop-number.number in
     let node : is_node_at (root_node es) here ≡ true = sym c.is_node.ensures ∙ c.loop-number-test.true in
     record {
@@ -34,7 +35,7 @@ returns-in-None c =
 
 pub returns : goal.returns
 returns c =
-    let es = c.args.self.now.entries.items in
+    let es = entries_of c.args.self.now in
     let here = entry_path es c.loop-number.number in
     let there = stands_at es c.args.self.now.complete c.loop-number.number c.loop-number.invariant.0 in
     let token : is_node_at (root_node es) here ≡ false = sym c.is_node.ensures ∙ c.loop-number-test.false in

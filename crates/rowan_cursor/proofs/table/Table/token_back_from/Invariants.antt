@@ -4,11 +4,12 @@ use Rattle.rowan_green.specs.Path.{begins}
 use Rattle.rowan_cursor.specs.Pass.{leaf_list, element_list, until, last_inside}
 use Rattle.rowan_cursor.specs.Table.{root_node, entry_path}
 use Rattle.rowan_cursor.proofs.table.Table.token_back_from.Given as goal
+use Rattle.rowan_cursor.specs.TableView.{entries_of}
 
 -- what is to be found from here is what is to be found from the start
 abbrev pub invariant-loop-number : goal.invariant-loop-number
 invariant-loop-number l =
-    let es = l.self.entries.items in
+    let es = entries_of l.self in
     (l.number < length es)
     × (begins (entry_path es l.top) (entry_path es l.number) ≡ true)
     × (last_inside (entry_path es l.top) (until leaf_list (Some (Node (root_node es))) (entry_path es l.number))
@@ -17,5 +18,5 @@ invariant-loop-number l =
 -- the elements that are left
 abbrev pub decreases-loop-number : goal.decreases-loop-number
 decreases-loop-number l =
-    let es = l.self.entries.items in
+    let es = entries_of l.self in
     length (until element_list (Some (Node (root_node es))) (entry_path es l.number))

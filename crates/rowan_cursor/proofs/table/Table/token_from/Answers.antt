@@ -8,17 +8,18 @@ use Rattle.rowan_cursor.specs.Table.{root_node, entry_path}
 use Rattle.rowan_cursor.proofs.ChunkLemmas.{nothing_inside}
 use Rattle.rowan_cursor.proofs.TokenLemmas.{since-node, since-fewer, token-first, stands_at}
 use Rattle.rowan_cursor.proofs.table.Table.token_from.Goals as goal
+use Rattle.rowan_cursor.specs.TableView.{entries_of}
 
 pub loop-number-smaller : goal.loop-number-smaller
 loop-number-smaller c =
-    let es = c.args.self.now.entries.items in
+    let es = entries_of c.args.self.now in
     let here = entry_path es c.loop-number.number in
     let node : is_node_at (root_node es) here ≡ true = sym c.is_node.ensures ∙ c.loop-number-test.true in
     omega (arith, since-fewer (root_node es) here node, ap length (c.in-Some.ensures.next.same element_list))
 
 pub loop-number-preserved : goal.loop-number-preserved
 loop-number-preserved c =
-    let es = c.args.self.now.entries.items in
+    let es = entries_of c.args.self.now in
     let here = entry_path es c.loop-number.number in
     let node : is_node_at (root_node es) here ≡ true = sym c.is_node.ensures ∙ c.loop-number-test.true in (
       c.in-Some.ensures.found.within,
@@ -29,7 +30,7 @@ loop-number-preserved c =
 
 pub returns-in-None-clause-found : goal.returns-in-None-clause-found
 returns-in-None-clause-found c =
-    let es = c.args.self.now.entries.items in
+    let es = entries_of c.args.self.now in
     let here = entry_path es c.loop-number.number in
     let node : is_node_at (root_node es) here ≡ true = sym c.is_node.ensures ∙ c.loop-number-test.true in
     record {
@@ -39,7 +40,7 @@ returns-in-None-clause-found c =
 
 pub returns-in-None-clause-left : goal.returns-in-None-clause-left
 returns-in-None-clause-left c =
-    let es = c.args.self.now.entries.items in
+    let es = entries_of c.args.self.now in
     let here = entry_path es c.loop-number.number in
     let node : is_node_at (root_node es) here ≡ true = sym c.is_node.ensures ∙ c.loop-number-test.true in
     let top = entry_path es c.args.top in
@@ -47,7 +48,7 @@ returns-in-None-clause-left c =
 
 pub returns-clause-found : goal.returns-clause-found
 returns-clause-found c =
-    let es = c.args.self.now.entries.items in
+    let es = entries_of c.args.self.now in
     let here = entry_path es c.loop-number.number in
     let there = stands_at es c.args.self.now.complete c.loop-number.number c.loop-number.invariant.0 in
     let token : is_node_at (root_node es) here ≡ false = sym c.is_node.ensures ∙ c.loop-number-test.false in

@@ -6,6 +6,7 @@ use Rattle.rowan_cursor.specs.Chunks.{slice_of, remaining_chunks}
 use Rattle.rowan_cursor.proofs.SliceLemmas.{chunks-joined}
 use Rattle.rowan_cursor.proofs.TokenLemmas.{stands_at}
 use Rattle.rowan_cursor.proofs.table.Table.write_chunks.Goals as goal
+use Rattle.rowan_cursor.specs.TableView.{entries_of}
 
 pub loop-chunk-init : goal.loop-chunk-init
 loop-chunk-init g c = (c.chunk_walk-walk.ensures.walk, ([], ap concat c.chunk_walk-walk.ensures.chunks, λ plain. record { wrote = writes_in_calls_nil _ _; plain = plain }))
@@ -28,7 +29,7 @@ pub returns : goal.returns
 returns g c =
     let table = c.args.self.now in
     let before = c.loop-chunk.invariant.1 in
-    let there = stands_at table.entries.items table.complete c.args.node c.requires.node.within in
+    let there = stands_at (entries_of table) table.complete c.args.node c.requires.node.within in
     let text =
     sym (append-nil before.0) ∙ sym (ap (λ cs. before.0 ++ concat cs) c.in_default.ensures.next) ∙ before.1
     ∙ chunks-joined (slice_of table c.args.node c.args.range) there.0 there.1 c.requires.slice in

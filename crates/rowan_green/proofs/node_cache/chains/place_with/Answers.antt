@@ -7,7 +7,7 @@ use Rattle.rowan_green.proofs.node_cache.chains.place_with.Goals as goal
 
 pub loop-next-init : goal.loop-next-init
 loop-next-init c =
-    subst (λ o. IsWalk c.args.hashes.now c.args.older.now c.args.hash c.args.next o) (sym c.place-next.ensures)
+    subst (λ o. IsWalk c.args.hashes.now c.args.older.now c.args.hash c.args.next o) (sym c.number-next.ensures)
     (IsWalk-first c.args.hashes.now c.args.older.now c.args.hash c.args.next c.requires)
 
 pub returns-then-hashes-place : goal.returns-then-hashes-place
@@ -25,8 +25,8 @@ loop-next-smaller c =
     let walk : IsWalk hs os c.args.hash c.args.next (Some c.in-Some.place) = subst (λ o. IsWalk hs os c.args.hash c.args.next o) c.in-Some.is c.loop-next.invariant in
     let within : c.in-Some.place < length os = omega (arith, walk.chain.within c.in-Some.place refl, walk.chain.count) in
     let link : slice_get os c.in-Some.place ≡ Some c.index-older-place.result = slice_get_read os (length os) c.in-Some.place c.index-older-place.result refl within c.index-older-place.is in
-    subst (λ o. left_before c.place-next-in-Some.result < left_before o) (sym c.in-Some.is)
-    (walk_left hs os c.in-Some.place c.place-next-in-Some.result walk.chain (link ∙ ap (λ o. Some o) (sym c.place-next-in-Some.ensures)))
+    subst (λ o. left_before c.number-next-in-Some.result < left_before o) (sym c.in-Some.is)
+    (walk_left hs os c.in-Some.place c.number-next-in-Some.result walk.chain (link ∙ ap (λ o. Some o) (sym c.number-next-in-Some.ensures)))
 
 pub loop-next-preserved : goal.loop-next-preserved
 loop-next-preserved c =
@@ -35,8 +35,8 @@ loop-next-preserved c =
     let walk : IsWalk hs os c.args.hash c.args.next (Some c.in-Some.place) = subst (λ o. IsWalk hs os c.args.hash c.args.next o) c.in-Some.is c.loop-next.invariant in
     let within : c.in-Some.place < length os = omega (arith, walk.chain.within c.in-Some.place refl, walk.chain.count) in
     let link : slice_get os c.in-Some.place ≡ Some c.index-older-place.result = slice_get_read os (length os) c.in-Some.place c.index-older-place.result refl within c.index-older-place.is in
-    IsWalk-older hs os c.args.hash c.args.next c.in-Some.place (get_or hs c.in-Some.place 0) c.place-next-in-Some.result walk
-    (read_at hs c.in-Some.place (walk.chain.within c.in-Some.place refl)) c.if-hashes-place.false (link ∙ ap (λ o. Some o) (sym c.place-next-in-Some.ensures))
+    IsWalk-older hs os c.args.hash c.args.next c.in-Some.place (get_or hs c.in-Some.place 0) c.number-next-in-Some.result walk
+    (read_at hs c.in-Some.place (walk.chain.within c.in-Some.place refl)) c.if-hashes-place.false (link ∙ ap (λ o. Some o) (sym c.number-next-in-Some.ensures))
 
 pub returns : goal.returns
 returns c = λ newest bound linked s.

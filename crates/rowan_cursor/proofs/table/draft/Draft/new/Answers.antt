@@ -1,22 +1,19 @@
-use Rattle.std.proofs.Common.{◌≡◌, [], ◌∷◌, ◌++◌, refl, sym, ◌∙◌, ap, subst}
-use Rattle.rowan_cursor.specs.Table.{IsDraft}
-use Rattle.rowan_cursor.specs.declared.table.Entry.{Entry}
-use Rattle.rowan_cursor.specs.declared.table.Content.TheVariants.{OfNode}
-use Rattle.rowan_cursor.proofs.FillLemmas.{IsDraft-one}
+use Rattle.std.proofs.Common.{refl, subst}
+use Rattle.rowan_cursor.specs.declared.table.draft.Draft.{Draft}
+use Rattle.rowan_cursor.specs.DraftView.{GainsNode}
+use Rattle.rowan_cursor.proofs.NodeLemmas.{IsAlone, filled_root}
 use Rattle.rowan_cursor.proofs.table.draft.Draft.new.Goals as goal
 
 pub returns-clause-draft : goal.returns-clause-draft
 returns-clause-draft c =
-    let y : Entry = record {
-      content = OfNode c.from.result c.args.green;
-      parent = 0;
-      first_child = 0;
+    let empty : Draft = record {
+      entries = c.in_ok-with_capacity.field-0;
+      nodes = c.new.result;
+      next_child = 1;
     } in
-    let items : c.push.new.self.items ≡ y ∷ [] = c.in_ok-push.ensures.items ∙ ap (λ es. es ++ y ∷ []) c.in_ok-entries.ensures.items in
-    subst (IsDraft 0) (sym items)
-    (IsDraft-one y c.args.green
-    (record {
-      green = refl;
-      start = c.from.ensures;
-      fits = c.children.ensures.fits;
-    }))
+    let alone : IsAlone empty = record {
+      entries = c.in_ok-with_capacity.ensures.items;
+      nodes = c.new.ensures.items;
+      next = refl;
+    } in
+    filled_root empty c.push_node.new.self c.args.green alone (subst (λ k. GainsNode empty c.push_node.new.self k 0 c.args.green) c.from.ensures c.in_ok-push_node.ensures) c.children.ensures.fits

@@ -1,63 +1,152 @@
-use Rattle.std.proofs.Common.{◌≡◌, ◌+◌, [], ◌∷◌, ◌++◌, length, Some, refl, sym, ◌∙◌, ap, subst, arith}
-use Rattle.std.specs.Prelude.{slice_get}
-use Rattle.std.proofs.lemmas.Option.{slice_get_read}
-use Rattle.rowan_green.specs.Lent.{pointee}
+use Rattle.std.proofs.Common.{◌≡◌, ℕ, ◌+◌, get_or, Some, Ok, Err, Result, refl, sym, ◌∙◌, ap, arith}
+use Rattle.std.specs.Prelude.{OnOk, slice_get}
+use Rattle.std.proofs.lemmas.Option.{slice_get_read, slice_get_within, same_Some}
+use Rattle.rowan_green.specs.Lent.{into_node, pointee}
 use Rattle.rowan_green.specs.Search.{child_start}
 use Rattle.rowan_green.specs.Term.{node_children}
-use Rattle.rowan_cursor.specs.Table.{IsDraft, children_in, green_in, offset_in, offset_of}
-use Rattle.rowan_cursor.specs.declared.table.Entry.{Entry}
-use Rattle.rowan_cursor.proofs.FillLemmas.{IsNextChild, IsDraft-push, next_child, GrowsBy-next, start_within}
+use Rattle.rowan_cursor.specs.declared.table.draft.Draft.{Draft}
+use Rattle.rowan_cursor.specs.declared.table.entry.Entry.{Entry}
+use Rattle.rowan_cursor.specs.declared.table.entry.Inner.{Inner}
+use Rattle.rowan_cursor.specs.DraftView.{IsFilled, IsInnerOf, GainsEntry, entries_of}
+use Rattle.rowan_cursor.specs.Table.{told}
+use Rattle.rowan_cursor.proofs.FillLemmas.{start_within}
+use Rattle.rowan_cursor.proofs.NodeLemmas.{node_above, filled_node-child, gains_node-child, still_node-child, filled_token-child, gains_token-child, still_token-child}
 use Rattle.rowan_cursor.proofs.table.draft.Draft.push_child.Goals as goal
+
+on_ok : {E P Q : Type 0} (r : Result (Unit {0}) E) → (P → Q) → OnOk r P → OnOk r Q
+on_ok (Ok u) f p = f p
+on_ok (Err e) f p = tt
+
+-- what was read: the entry of the parent, and its node
+record IsRead (d : Draft) (parent k : ℕ) (e : Entry) (x : Inner) : Type 0 where
+  at : slice_get d.entries.items parent ≡ Some e
+  named : e.node ≡ Some k
+  found : slice_get d.nodes.items k ≡ Some x
+
+read : (d : Draft) (parent k done : ℕ) (e : Entry) (x : Inner) → IsFilled done d → IsInnerOf d parent k → e ≡ get_or d.entries.items parent e → x ≡ get_or d.nodes.items k x → IsRead d parent k e x
+read d parent k done e x f i was had =
+    let at = slice_get_read d.entries.items _ parent e refl (slice_get_within d.entries.items parent i.entry i.at) was in
+    record {
+      at = at;
+      named = ap (λ (y : Entry). y.node) (same_Some e i.entry (sym at ∙ i.at)) ∙ i.node;
+      found = slice_get_read d.nodes.items _ k x refl (f.nodes.there parent i.entry k i.at i.node) had;
+    }
+
+pub index-requires : goal.index-requires
+index-requires c = omega (arith, c.requires.draft.nodes.there c.args.parent c.requires.node.entry c.args.node c.requires.node.at c.requires.node.node)
 
 pub unreachable-requires : goal.unreachable-requires
 unreachable-requires c =
-    let s = c.args.self.now in
-    let above = c.index-above.result.now in
-    let at : slice_get s.entries.items c.args.parent ≡ Some above = slice_get_read s.entries.items _ c.args.parent above refl c.requires.within c.index-above.ensures in
-    omega (arith, (c.requires.place above at).0, ap (λ k. length (children_in (green_in k))) c.in_default.is)
+    let d = c.args.self.now in
+    let i = c.requires.node in
+    let x = c.index.result.now in
+    let found = slice_get_read d.nodes.items _ c.args.node x refl (c.requires.draft.nodes.there c.args.parent i.entry c.args.node i.at i.node) c.index.ensures in
+    omega (arith, (c.requires.place (told i.entry (Some x)) (node_above d c.args.parent c.args.index c.args.node 0 i.entry x i.at i.node found)).0, c.in_default.ensures.none.0 refl)
 
-pub unreachable-requires-in_default-child_ref : goal.unreachable-requires-in_default-child_ref
-unreachable-requires-in_default-child_ref c =
-    let s = c.args.self.now in
-    let above = c.index-above.result.now in
-    let at : slice_get s.entries.items c.args.parent ≡ Some above = slice_get_read s.entries.items _ c.args.parent above refl c.requires.within c.index-above.ensures in
-    omega (arith, (c.requires.place above at).0, ap (λ k. length (children_in (green_in k))) c.in-OfNode.is, c.in_default-child_ref.ensures.none.0 refl)
+pub overflow_add-offset : goal.overflow_add-offset
+overflow_add-offset c =
+    let d = c.args.self.now in
+    let e = c.index-2.result.now in
+    let x = c.index.result.now in
+    let r = read d c.args.parent c.args.node (c.args.parent + 1) e x c.requires.draft c.requires.node c.index-2.ensures c.index.ensures in
+    let above = node_above d c.args.parent c.args.index c.args.node 0 e x r.at r.named r.found in
+    omega (arith, c.from-offset.ensures, c.from.ensures, c.in-Some.ensures.some.0, start_within (c.args.parent + 1) (entries_of d) c.requires.draft.draft c.args.parent (told e (Some x)) x.green above refl c.args.index)
 
-pub overflow_add-from : goal.overflow_add-from
-overflow_add-from c =
-    let s = c.args.self.now in
-    let above = c.index-above.result.now in
-    let at : slice_get s.entries.items c.args.parent ≡ Some above = slice_get_read s.entries.items _ c.args.parent above refl c.requires.within c.index-above.ensures in
-    let limit = start_within (c.args.parent + 1) s.entries.items c.requires.draft c.args.parent above c.in-OfNode.node at (ap green_in c.in-OfNode.is) c.args.index in
-    omega (arith, c.from.ensures, c.from-2.ensures, c.in-Some.ensures.some.0, ap offset_in c.in-OfNode.is, limit)
+pub returns-in_ok-child-in-Node-clause-draft : goal.returns-in_ok-child-in-Node-clause-draft
+returns-in_ok-child-in-Node-clause-draft c =
+    let d = c.args.self.now in
+    let e = c.index-2.result.now in
+    let x = c.index.result.now in
+    let r = read d c.args.parent c.args.node (c.args.parent + 1) e x c.requires.draft c.requires.node c.index-2.ensures c.index.ensures in
+    let start : c.from-start.result ≡ e.start + child_start (node_children x.green) c.args.index = omega (arith, c.from-start.ensures, c.from-offset.ensures, c.from.ensures, c.in-Some.ensures.some.0) in
+    on_ok c.push_node.result (λ g. filled_node-child d c.args.parent c.args.index c.args.node c.from-start.result e x r.at r.named r.found c.requires.draft c.requires.place (pointee c.in-Some.found.1) c.in-Some.ensures.some.1 start c.push_node.new.self c.in_ok-child-in-Node.child g (ap (λ o. into_node (pointee o)) c.in-Node.is ∙ ap (λ m. Some m) (sym c.in_ok-child-in-Node.ensures.cases))) c.push_node.ensures
 
-pub returns-clause-draft : goal.returns-clause-draft
-returns-clause-draft c =
-    let s = c.args.self.now in
-    let es = s.entries.items in
-    let above = c.index-above.result.now in
-    let node = c.in-OfNode.node in
-    let at : slice_get es c.args.parent ≡ Some above = slice_get_read es _ c.args.parent above refl c.requires.within c.index-above.ensures in
+pub returns-in_ok-child-in-Node-clause-node : goal.returns-in_ok-child-in-Node-clause-node
+returns-in_ok-child-in-Node-clause-node c =
+    let d = c.args.self.now in
+    let e = c.index-2.result.now in
+    let x = c.index.result.now in
+    let r = read d c.args.parent c.args.node (c.args.parent + 1) e x c.requires.draft c.requires.node c.index-2.ensures c.index.ensures in
+    let start : c.from-start.result ≡ e.start + child_start (node_children x.green) c.args.index = omega (arith, c.from-start.ensures, c.from-offset.ensures, c.from.ensures, c.in-Some.ensures.some.0) in
+    on_ok c.push_node.result (λ g. still_node-child d c.args.parent c.args.index c.args.node c.from-start.result e x r.at r.named r.found c.requires.draft c.requires.place (pointee c.in-Some.found.1) c.in-Some.ensures.some.1 start c.push_node.new.self c.in_ok-child-in-Node.child g (ap (λ o. into_node (pointee o)) c.in-Node.is ∙ ap (λ m. Some m) (sym c.in_ok-child-in-Node.ensures.cases))) c.push_node.ensures
+
+pub returns-in_ok-child-in-Node-clause-grown : goal.returns-in_ok-child-in-Node-clause-grown
+returns-in_ok-child-in-Node-clause-grown c =
+    let d = c.args.self.now in
+    let e = c.index-2.result.now in
+    let x = c.index.result.now in
+    let r = read d c.args.parent c.args.node (c.args.parent + 1) e x c.requires.draft c.requires.node c.index-2.ensures c.index.ensures in
+    let start : c.from-start.result ≡ e.start + child_start (node_children x.green) c.args.index = omega (arith, c.from-start.ensures, c.from-offset.ensures, c.from.ensures, c.in-Some.ensures.some.0) in
+    on_ok c.push_node.result (λ g. gains_node-child d c.args.parent c.args.index c.args.node c.from-start.result e x r.at r.named r.found c.requires.draft c.requires.place (pointee c.in-Some.found.1) c.in-Some.ensures.some.1 start c.push_node.new.self c.in_ok-child-in-Node.child g (ap (λ o. into_node (pointee o)) c.in-Node.is ∙ ap (λ m. Some m) (sym c.in_ok-child-in-Node.ensures.cases))) c.push_node.ensures
+
+pub returns-in_ok-push-in-Token-clause-draft : goal.returns-in_ok-push-in-Token-clause-draft
+returns-in_ok-push-in-Token-clause-draft c =
+    let d = c.args.self.now in
+    let e = c.index-2.result.now in
+    let x = c.index.result.now in
+    let r = read d c.args.parent c.args.node (c.args.parent + 1) e x c.requires.draft c.requires.node c.index-2.ensures c.index.ensures in
+    let start : c.from-start.result ≡ e.start + child_start (node_children x.green) c.args.index = omega (arith, c.from-start.ensures, c.from-offset.ensures, c.from.ensures, c.in-Some.ensures.some.0) in
     let y : Entry = record {
-      content = c.in_ok-content.content;
+      start = c.from-start.result;
       parent = c.args.parent;
-      first_child = 0;
+      node = c.none.result;
     } in
-    let start : offset_of y ≡ offset_of above + child_start (node_children node) c.args.index = omega (arith, c.in_ok-content.ensures.start, ap offset_in c.in-OfNode.is, c.from.ensures, c.from-2.ensures, c.from-3.ensures, c.in-Some.ensures.some.0) in
-    let next : IsNextChild es above y = next_child (c.args.parent + 1) es c.requires.draft above y node c.args.index (pointee c.in-Some.found.1) at (ap green_in c.in-OfNode.is) (c.requires.place above at).1 c.in-Some.ensures.some.1 c.in_ok-content.ensures.green start in
-    let items : c.push.new.self.items ≡ es ++ y ∷ [] = c.in_ok-push.ensures.items in
-    subst (IsDraft (c.args.parent + 1)) (sym items) (IsDraft-push (c.args.parent + 1) es above y c.requires.draft next (omega arith) (omega (arith, c.requires.within)))
+    let new : Draft = record {
+      entries = c.push.new.self;
+      nodes = d.nodes;
+      next_child = d.next_child;
+    } in
+    let gained : GainsEntry d new y = record {
+      entries = c.in_ok-push-in-Token.ensures.items;
+      nodes = refl;
+      next = refl;
+    } in
+    filled_token-child d c.args.parent c.args.index c.args.node c.from-start.result e x r.at r.named r.found c.requires.draft c.requires.place (pointee c.in-Some.found.1) c.in-Some.ensures.some.1 start new y gained refl refl c.none.ensures (ap (λ o. into_node (pointee o)) c.in-Token.is)
 
-pub returns-clause-grown : goal.returns-clause-grown
-returns-clause-grown c =
-    let s = c.args.self.now in
-    let es = s.entries.items in
-    let above = c.index-above.result.now in
-    let at : slice_get es c.args.parent ≡ Some above = slice_get_read es _ c.args.parent above refl c.requires.within c.index-above.ensures in
+pub returns-in_ok-push-in-Token-clause-node : goal.returns-in_ok-push-in-Token-clause-node
+returns-in_ok-push-in-Token-clause-node c =
+    let d = c.args.self.now in
+    let e = c.index-2.result.now in
+    let x = c.index.result.now in
+    let r = read d c.args.parent c.args.node (c.args.parent + 1) e x c.requires.draft c.requires.node c.index-2.ensures c.index.ensures in
+    let start : c.from-start.result ≡ e.start + child_start (node_children x.green) c.args.index = omega (arith, c.from-start.ensures, c.from-offset.ensures, c.from.ensures, c.in-Some.ensures.some.0) in
     let y : Entry = record {
-      content = c.in_ok-content.content;
+      start = c.from-start.result;
       parent = c.args.parent;
-      first_child = 0;
+      node = c.none.result;
     } in
-    let items : c.push.new.self.items ≡ es ++ y ∷ [] = c.in_ok-push.ensures.items in
-    GrowsBy-next es c.push.new.self.items above y c.args.index (pointee c.in-Some.found.1) items at c.in_ok-content.ensures.green (ap (λ k. slice_get (children_in (green_in k)) c.args.index) c.in-OfNode.is ∙ c.in-Some.ensures.some.1)
+    let new : Draft = record {
+      entries = c.push.new.self;
+      nodes = d.nodes;
+      next_child = d.next_child;
+    } in
+    let gained : GainsEntry d new y = record {
+      entries = c.in_ok-push-in-Token.ensures.items;
+      nodes = refl;
+      next = refl;
+    } in
+    still_token-child d c.args.parent c.args.index c.args.node c.from-start.result e x r.at r.named r.found c.requires.draft c.requires.place (pointee c.in-Some.found.1) c.in-Some.ensures.some.1 start new y gained refl refl c.none.ensures (ap (λ o. into_node (pointee o)) c.in-Token.is)
+
+pub returns-in_ok-push-in-Token-clause-grown : goal.returns-in_ok-push-in-Token-clause-grown
+returns-in_ok-push-in-Token-clause-grown c =
+    let d = c.args.self.now in
+    let e = c.index-2.result.now in
+    let x = c.index.result.now in
+    let r = read d c.args.parent c.args.node (c.args.parent + 1) e x c.requires.draft c.requires.node c.index-2.ensures c.index.ensures in
+    let start : c.from-start.result ≡ e.start + child_start (node_children x.green) c.args.index = omega (arith, c.from-start.ensures, c.from-offset.ensures, c.from.ensures, c.in-Some.ensures.some.0) in
+    let y : Entry = record {
+      start = c.from-start.result;
+      parent = c.args.parent;
+      node = c.none.result;
+    } in
+    let new : Draft = record {
+      entries = c.push.new.self;
+      nodes = d.nodes;
+      next_child = d.next_child;
+    } in
+    let gained : GainsEntry d new y = record {
+      entries = c.in_ok-push-in-Token.ensures.items;
+      nodes = refl;
+      next = refl;
+    } in
+    gains_token-child d c.args.parent c.args.index c.args.node c.from-start.result e x r.at r.named r.found c.requires.draft c.requires.place (pointee c.in-Some.found.1) c.in-Some.ensures.some.1 start new y gained refl refl c.none.ensures (ap (λ o. into_node (pointee o)) c.in-Token.is)
