@@ -13,7 +13,7 @@ use Rattle.rowan_green.proofs.TableLemmas.{at_map}
 use Rattle.rowan_cursor.specs.declared.table.entry.Entry.{Entry}
 use Rattle.rowan_cursor.specs.declared.table.entry.Inner.{Inner}
 use Rattle.rowan_cursor.specs.declared.table.draft.Draft.{Draft}
-use Rattle.rowan_cursor.specs.DraftView.{entries_of, IsFilled, IsInnerOf, GainsEntry, GainsNode}
+use Rattle.rowan_cursor.specs.DraftView.{entries_of, IsFilled, IsInnerOf, AddsChild, GainsEntry, GainsNode}
 use Rattle.rowan_cursor.specs.Table.{Facts, IsDraft, AreNodes, IsNextIndex, GainsChild, first_after, inner_at, told, facts_of, all_facts, counts, child_counts, children_in, green_of}
 use Rattle.rowan_cursor.proofs.FillLemmas.{IsNextChild, IsDraft-push, IsDraft-one, next_child}
 use Rattle.rowan_cursor.proofs.TableLemmas.{slice_get-some}
@@ -165,30 +165,23 @@ module _ (d : Draft) (parent i k start : ℕ) (e : Entry) (x : Inner) (at : slic
     }
 
     module _ (new : Draft) (y : Entry) (g : GainsEntry d new y) (begins : y.start ≡ start) (above : y.parent ≡ parent) (bare : y.node ≡ None) (token : into_node u ≡ None) where
-      pub filled_token-child : IsFilled (parent + 1) new
-      filled_token-child =
-          filled_token (parent + 1) d new y (told e (Some x)) f g bare (is_next (told y None) above begins (sym token) refl) (omega (arith, above)) there
-
-      pub gains_token-child : GainsChild (entries_of d) (entries_of new) parent i
-      gains_token-child = gains new (told y None) (entries_token d new y g bare) (sym token)
-
-      pub still_token-child : IsInnerOf new parent k
-      still_token-child = still new y g.entries
+      pub adds_token : AddsChild d new parent k i
+      adds_token = record {
+        draft = filled_token (parent + 1) d new y (told e (Some x)) f g bare (is_next (told y None) above begins (sym token) refl) (omega (arith, above)) there;
+        node = still new y g.entries;
+        grown = gains new (told y None) (entries_token d new y g bare) (sym token);
+      }
 
     module _ (new : Draft) (n : NodeTerm) (g : GainsNode d new start parent n) (node : into_node u ≡ Some n) where
       content : green_of (told g.entry (Some g.inner)) ≡ into_node u
       content = ap (λ m. Some m) g.green ∙ sym node
 
-      pub filled_node-child : IsFilled (parent + 1) new
-      filled_node-child =
-          filled_node (parent + 1) d new start parent n (told e (Some x)) f g (is_next (told g.entry (Some g.inner)) g.above g.begins content (omega (arith, g.first, f.next, f.nodes.all))) (omega arith) there
-
-      pub gains_node-child : GainsChild (entries_of d) (entries_of new) parent i
-      gains_node-child =
-          gains new (told g.entry (Some g.inner)) (entries_node (parent + 1) d new start parent n f g) content
-
-      pub still_node-child : IsInnerOf new parent k
-      still_node-child = still new g.entry g.entries
+      pub adds_node : AddsChild d new parent k i
+      adds_node = record {
+        draft = filled_node (parent + 1) d new start parent n (told e (Some x)) f g (is_next (told g.entry (Some g.inner)) g.above g.begins content (omega (arith, g.first, f.next, f.nodes.all))) (omega arith) there;
+        node = still new g.entry g.entries;
+        grown = gains new (told g.entry (Some g.inner)) (entries_node (parent + 1) d new start parent n f g) content;
+      }
 
 -- ---- the root alone
 

@@ -4,7 +4,7 @@ use Rattle.rowan_green.specs.Term.{NodeTerm, node_children}
 use Rattle.rowan_cursor.specs.declared.table.entry.Entry.{Entry}
 use Rattle.rowan_cursor.specs.declared.table.entry.Inner.{Inner}
 use Rattle.rowan_cursor.specs.declared.table.draft.Draft.{Draft}
-use Rattle.rowan_cursor.specs.Table.{Facts, all_facts, child_counts, IsDraft, AreNodes}
+use Rattle.rowan_cursor.specs.Table.{Facts, all_facts, child_counts, IsDraft, AreNodes, GainsChild}
 
 -- what the entries tell that are there
 abbrev pub entries_of : Draft → List Facts
@@ -21,6 +21,12 @@ pub record IsInnerOf (d : Draft) (n k : ℕ) : Type 0 where
   pub entry : Entry
   pub at : slice_get d.entries.items n ≡ Some entry
   pub node : entry.node ≡ Some k
+
+-- the child at index i of the entry with number n, that of node k, has got its entry
+pub record AddsChild (old new : Draft) (n k i : ℕ) : Type 0 where
+  pub draft : IsFilled (n + 1) new
+  pub node : IsInnerOf new n k
+  pub grown : GainsChild (entries_of old) (entries_of new) n i
 
 -- an entry was added, and nothing else
 pub record GainsEntry (old new : Draft) (e : Entry) : Type 0 where

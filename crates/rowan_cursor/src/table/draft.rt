@@ -22,8 +22,8 @@ impl Draft {
     ghost use Rattle.std.specs.Prelude.{◌≡◌, ◌+◌, ◌<◌, Some, IfOk, OnOk, length, take, slice_get};
     ghost use Rattle.rowan_green.specs.Lent.{pointee};
     ghost use Rattle.rowan_green.specs.Term.{node_children};
-    ghost use Rattle.rowan_cursor.specs.DraftView.{IsFilled, IsInnerOf, GainsNode, entries_of};
-    ghost use Rattle.rowan_cursor.specs.Table.{IsNextIndex, GainsChild, GainsChildren, counts, root_node};
+    ghost use Rattle.rowan_cursor.specs.DraftView.{IsFilled, IsInnerOf, AddsChild, GainsNode, entries_of};
+    ghost use Rattle.rowan_cursor.specs.Table.{IsNextIndex, GainsChildren, counts, root_node};
     ghost use Rattle.rowan_cursor.specs.TableView.{root_of};
 
     /// The entry of the root alone.
@@ -114,10 +114,7 @@ impl Draft {
         requires node { IsInnerOf self.old parent node }
 
         // this one is added
-        ensures draft { OnOk result (IsFilled (parent + 1) self.new) }
-        ensures node { OnOk result (IsInnerOf self.new parent node) }
-        ensures grown { OnOk result
-            (GainsChild (entries_of self.old) (entries_of self.new) parent index) }
+        ensures { OnOk result (AddsChild self.old self.new parent node index) }
     {
         let Some(found) = self.nodes[node as usize].green.child_ref(index as usize) else {
             unreachable!();

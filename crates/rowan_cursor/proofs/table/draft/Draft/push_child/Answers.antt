@@ -10,7 +10,7 @@ use Rattle.rowan_cursor.specs.declared.table.entry.Inner.{Inner}
 use Rattle.rowan_cursor.specs.DraftView.{IsFilled, IsInnerOf, GainsEntry, entries_of}
 use Rattle.rowan_cursor.specs.Table.{told}
 use Rattle.rowan_cursor.proofs.FillLemmas.{start_within}
-use Rattle.rowan_cursor.proofs.NodeLemmas.{node_above, filled_node-child, gains_node-child, still_node-child, filled_token-child, gains_token-child, still_token-child}
+use Rattle.rowan_cursor.proofs.NodeLemmas.{node_above, adds_node, adds_token}
 use Rattle.rowan_cursor.proofs.table.draft.Draft.push_child.Goals as goal
 
 on_ok : {E P Q : Type 0} (r : Result (Unit {0}) E) → (P → Q) → OnOk r P → OnOk r Q
@@ -52,35 +52,20 @@ overflow_add-offset c =
     let above = node_above d c.args.parent c.args.index c.args.node 0 e x r.at r.named r.found in
     omega (arith, c.from-offset.ensures, c.from.ensures, c.in-Some.ensures.some.0, start_within (c.args.parent + 1) (entries_of d) c.requires.draft.draft c.args.parent (told e (Some x)) x.green above refl c.args.index)
 
-pub returns-in_ok-child-in-Node-clause-draft : goal.returns-in_ok-child-in-Node-clause-draft
-returns-in_ok-child-in-Node-clause-draft c =
+pub returns-in_ok-child-in-Node : goal.returns-in_ok-child-in-Node
+returns-in_ok-child-in-Node c =
     let d = c.args.self.now in
     let e = c.index-2.result.now in
     let x = c.index.result.now in
     let r = read d c.args.parent c.args.node (c.args.parent + 1) e x c.requires.draft c.requires.node c.index-2.ensures c.index.ensures in
     let start : c.from-start.result ≡ e.start + child_start (node_children x.green) c.args.index = omega (arith, c.from-start.ensures, c.from-offset.ensures, c.from.ensures, c.in-Some.ensures.some.0) in
-    on_ok c.push_node.result (λ g. filled_node-child d c.args.parent c.args.index c.args.node c.from-start.result e x r.at r.named r.found c.requires.draft c.requires.place (pointee c.in-Some.found.1) c.in-Some.ensures.some.1 start c.push_node.new.self c.in_ok-child-in-Node.child g (ap (λ o. into_node (pointee o)) c.in-Node.is ∙ ap (λ m. Some m) (sym c.in_ok-child-in-Node.ensures.cases))) c.push_node.ensures
+    let shared = ap (λ o. into_node (pointee o)) c.in-Node.is ∙ ap (λ m. Some m) (sym c.in_ok-child-in-Node.ensures.cases) in
+    on_ok c.push_node.result
+    (λ g. adds_node d c.args.parent c.args.index c.args.node c.from-start.result e x r.at r.named r.found c.requires.draft c.requires.place (pointee c.in-Some.found.1) c.in-Some.ensures.some.1 start c.push_node.new.self c.in_ok-child-in-Node.child g shared)
+    c.push_node.ensures
 
-pub returns-in_ok-child-in-Node-clause-node : goal.returns-in_ok-child-in-Node-clause-node
-returns-in_ok-child-in-Node-clause-node c =
-    let d = c.args.self.now in
-    let e = c.index-2.result.now in
-    let x = c.index.result.now in
-    let r = read d c.args.parent c.args.node (c.args.parent + 1) e x c.requires.draft c.requires.node c.index-2.ensures c.index.ensures in
-    let start : c.from-start.result ≡ e.start + child_start (node_children x.green) c.args.index = omega (arith, c.from-start.ensures, c.from-offset.ensures, c.from.ensures, c.in-Some.ensures.some.0) in
-    on_ok c.push_node.result (λ g. still_node-child d c.args.parent c.args.index c.args.node c.from-start.result e x r.at r.named r.found c.requires.draft c.requires.place (pointee c.in-Some.found.1) c.in-Some.ensures.some.1 start c.push_node.new.self c.in_ok-child-in-Node.child g (ap (λ o. into_node (pointee o)) c.in-Node.is ∙ ap (λ m. Some m) (sym c.in_ok-child-in-Node.ensures.cases))) c.push_node.ensures
-
-pub returns-in_ok-child-in-Node-clause-grown : goal.returns-in_ok-child-in-Node-clause-grown
-returns-in_ok-child-in-Node-clause-grown c =
-    let d = c.args.self.now in
-    let e = c.index-2.result.now in
-    let x = c.index.result.now in
-    let r = read d c.args.parent c.args.node (c.args.parent + 1) e x c.requires.draft c.requires.node c.index-2.ensures c.index.ensures in
-    let start : c.from-start.result ≡ e.start + child_start (node_children x.green) c.args.index = omega (arith, c.from-start.ensures, c.from-offset.ensures, c.from.ensures, c.in-Some.ensures.some.0) in
-    on_ok c.push_node.result (λ g. gains_node-child d c.args.parent c.args.index c.args.node c.from-start.result e x r.at r.named r.found c.requires.draft c.requires.place (pointee c.in-Some.found.1) c.in-Some.ensures.some.1 start c.push_node.new.self c.in_ok-child-in-Node.child g (ap (λ o. into_node (pointee o)) c.in-Node.is ∙ ap (λ m. Some m) (sym c.in_ok-child-in-Node.ensures.cases))) c.push_node.ensures
-
-pub returns-in_ok-push-in-Token-clause-draft : goal.returns-in_ok-push-in-Token-clause-draft
-returns-in_ok-push-in-Token-clause-draft c =
+pub returns-in_ok-push-in-Token : goal.returns-in_ok-push-in-Token
+returns-in_ok-push-in-Token c =
     let d = c.args.self.now in
     let e = c.index-2.result.now in
     let x = c.index.result.now in
@@ -101,52 +86,5 @@ returns-in_ok-push-in-Token-clause-draft c =
       nodes = refl;
       next = refl;
     } in
-    filled_token-child d c.args.parent c.args.index c.args.node c.from-start.result e x r.at r.named r.found c.requires.draft c.requires.place (pointee c.in-Some.found.1) c.in-Some.ensures.some.1 start new y gained refl refl c.none.ensures (ap (λ o. into_node (pointee o)) c.in-Token.is)
-
-pub returns-in_ok-push-in-Token-clause-node : goal.returns-in_ok-push-in-Token-clause-node
-returns-in_ok-push-in-Token-clause-node c =
-    let d = c.args.self.now in
-    let e = c.index-2.result.now in
-    let x = c.index.result.now in
-    let r = read d c.args.parent c.args.node (c.args.parent + 1) e x c.requires.draft c.requires.node c.index-2.ensures c.index.ensures in
-    let start : c.from-start.result ≡ e.start + child_start (node_children x.green) c.args.index = omega (arith, c.from-start.ensures, c.from-offset.ensures, c.from.ensures, c.in-Some.ensures.some.0) in
-    let y : Entry = record {
-      start = c.from-start.result;
-      parent = c.args.parent;
-      node = c.none.result;
-    } in
-    let new : Draft = record {
-      entries = c.push.new.self;
-      nodes = d.nodes;
-      next_child = d.next_child;
-    } in
-    let gained : GainsEntry d new y = record {
-      entries = c.in_ok-push-in-Token.ensures.items;
-      nodes = refl;
-      next = refl;
-    } in
-    still_token-child d c.args.parent c.args.index c.args.node c.from-start.result e x r.at r.named r.found c.requires.draft c.requires.place (pointee c.in-Some.found.1) c.in-Some.ensures.some.1 start new y gained refl refl c.none.ensures (ap (λ o. into_node (pointee o)) c.in-Token.is)
-
-pub returns-in_ok-push-in-Token-clause-grown : goal.returns-in_ok-push-in-Token-clause-grown
-returns-in_ok-push-in-Token-clause-grown c =
-    let d = c.args.self.now in
-    let e = c.index-2.result.now in
-    let x = c.index.result.now in
-    let r = read d c.args.parent c.args.node (c.args.parent + 1) e x c.requires.draft c.requires.node c.index-2.ensures c.index.ensures in
-    let start : c.from-start.result ≡ e.start + child_start (node_children x.green) c.args.index = omega (arith, c.from-start.ensures, c.from-offset.ensures, c.from.ensures, c.in-Some.ensures.some.0) in
-    let y : Entry = record {
-      start = c.from-start.result;
-      parent = c.args.parent;
-      node = c.none.result;
-    } in
-    let new : Draft = record {
-      entries = c.push.new.self;
-      nodes = d.nodes;
-      next_child = d.next_child;
-    } in
-    let gained : GainsEntry d new y = record {
-      entries = c.in_ok-push-in-Token.ensures.items;
-      nodes = refl;
-      next = refl;
-    } in
-    gains_token-child d c.args.parent c.args.index c.args.node c.from-start.result e x r.at r.named r.found c.requires.draft c.requires.place (pointee c.in-Some.found.1) c.in-Some.ensures.some.1 start new y gained refl refl c.none.ensures (ap (λ o. into_node (pointee o)) c.in-Token.is)
+    let token = ap (λ o. into_node (pointee o)) c.in-Token.is in
+    adds_token d c.args.parent c.args.index c.args.node c.from-start.result e x r.at r.named r.found c.requires.draft c.requires.place (pointee c.in-Some.found.1) c.in-Some.ensures.some.1 start new y gained refl refl c.none.ensures token
