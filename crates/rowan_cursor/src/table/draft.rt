@@ -3,6 +3,7 @@ ghost use Rattle.std.specs.Prelude.{◌≡◌};
 
 use super::Table;
 use super::entry::{Entry, Inner};
+use super::room::Room;
 use rowan_green::green::GreenNode;
 use rowan_green::link::Link;
 use rowan_green::text::TextSize;
@@ -20,6 +21,7 @@ pub(super) struct Draft {
 
 impl Draft {
     ghost use Rattle.std.specs.Prelude.{◌≡◌, ◌+◌, ◌<◌, Some, IfOk, OnOk, length, take, slice_get};
+    ghost use Rattle.rowan_green.specs.Fits.{FitsNode};
     ghost use Rattle.rowan_green.specs.Lent.{pointee};
     ghost use Rattle.rowan_green.specs.Term.{node_children};
     ghost use Rattle.rowan_cursor.specs.DraftView.{IsFilled, IsInnerOf, AddsChild, GainsNode, entries_of};
@@ -32,9 +34,10 @@ impl Draft {
         ensures root { IfOk result (λ draft. root_node (entries_of draft) ≡ green) }
         ensures one { IfOk result (λ draft. length (entries_of draft) ≡ 1) }
     {
+        let room = Room::of(alloc, &green)?;
         let mut draft = Draft {
-            entries: Vec::with_capacity(alloc, 1 + green.children().len())?,
-            nodes: Vec::new(alloc),
+            entries: Vec::with_capacity(alloc, room.entries as usize)?,
+            nodes: Vec::with_capacity(alloc, room.nodes as usize)?,
             next_child: 1,
         };
         draft.push_node(TextSize::from(0), 0, green)?;
@@ -49,13 +52,15 @@ impl Draft {
     }
 
     // Adds the entry of a node. Refused, too, where there are no more numbers.
+    #[inline(always)]
     fn push_node(
         &mut self,
         start: TextSize,
         parent: u32,
         green: GreenNode,
     ) -> Result<(), AllocError>
-        ensures { OnOk result (GainsNode self.old self.new start parent green) }
+        ensures gained { OnOk result (GainsNode self.old self.new start parent green) }
+        ensures fits { FitsNode green }
     {
         let text_len = green.text_len();
         let first_child = self.next_child;
@@ -107,6 +112,7 @@ impl Draft {
     }
 
     // Adds the child of a node at an index, whose number is the next. A node is shared.
+    #[inline(always)]
     fn push_child(&mut self, parent: u32, node: u32, index: u32) -> Result<(), AllocError>
         // the children before this one are there
         requires draft { IsFilled (parent + 1) self.old }

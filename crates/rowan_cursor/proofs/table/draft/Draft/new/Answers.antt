@@ -8,12 +8,12 @@ pub returns-clause-draft : goal.returns-clause-draft
 returns-clause-draft c =
     let empty : Draft = record {
       entries = c.in_ok-with_capacity.field-0;
-      nodes = c.new.result;
+      nodes = c.in_ok-with_capacity-2.field-0;
       next_child = 1;
     } in
     let alone : IsAlone empty = record {
       entries = c.in_ok-with_capacity.ensures.items;
-      nodes = c.new.ensures.items;
+      nodes = c.in_ok-with_capacity-2.ensures.items;
       next = refl;
     } in
-    filled_root empty c.push_node.new.self c.args.green alone (subst (λ k. GainsNode empty c.push_node.new.self k 0 c.args.green) c.from.ensures c.in_ok-push_node.ensures) c.children.ensures.fits
+    filled_root empty c.push_node.new.self c.args.green alone (subst (λ k. GainsNode empty c.push_node.new.self k 0 c.args.green) c.from.ensures c.in_ok-push_node.ensures.gained) c.push_node.ensures.fits

@@ -62,7 +62,7 @@ returns-in_ok-child-in-Node c =
     let shared = ap (λ o. into_node (pointee o)) c.in-Node.is ∙ ap (λ m. Some m) (sym c.in_ok-child-in-Node.ensures.cases) in
     on_ok c.push_node.result
     (λ g. adds_node d c.args.parent c.args.index c.args.node c.from-start.result e x r.at r.named r.found c.requires.draft c.requires.place (pointee c.in-Some.found.1) c.in-Some.ensures.some.1 start c.push_node.new.self c.in_ok-child-in-Node.child g shared)
-    c.push_node.ensures
+    c.push_node.ensures.gained
 
 pub returns-in_ok-push-in-Token : goal.returns-in_ok-push-in-Token
 returns-in_ok-push-in-Token c =
