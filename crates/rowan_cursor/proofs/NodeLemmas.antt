@@ -4,7 +4,6 @@ use Rattle.std.specs.Prelude.{slice_get}
 use Rattle.std.proofs.lemmas.List.{length-map, map-append, take_all, take-append-le}
 use Rattle.std.proofs.lemmas.List.Sums.{sum_by-append, sum_by_more}
 use Rattle.std.proofs.lemmas.Option.{slice_get_within, get_or_from_slice_get, none-some, same_Some}
-use Rattle.rowan_green.specs.Fits.{FitsNode}
 use Rattle.rowan_green.specs.Lent.{into_node}
 use Rattle.rowan_green.specs.Search.{child_start}
 use Rattle.rowan_green.specs.Term.{NodeTerm, Term, node_children}
@@ -157,15 +156,16 @@ module _ (d : Draft) (parent i k start : ℕ) (e : Entry) (x : Inner) (at : slic
     there : parent + 1 ≤ length (entries_of d)
     there = omega (arith, slice_get_within (entries_of d) parent (told e (Some x)) node_above)
 
-    still : (new : Draft) (y : Entry) → new.entries.items ≡ d.entries.items ++ y ∷ [] → IsInnerOf new parent k
+    still : (new : Draft) (y : Entry) → new.entries.items ≡ d.entries.items ++ y ∷ [] → IsInnerOf new parent e.start k
     still new y grown = record {
       entry = e;
       at = ap (λ es. slice_get es parent) grown ∙ slice_get-grown d.entries.items (y ∷ []) parent e at;
+      begins = refl;
       node = named;
     }
 
     module _ (new : Draft) (y : Entry) (g : GainsEntry d new y) (begins : y.start ≡ start) (above : y.parent ≡ parent) (bare : y.node ≡ None) (token : into_node u ≡ None) where
-      pub adds_token : AddsChild d new parent k i
+      pub adds_token : AddsChild d new parent e.start k i
       adds_token = record {
         draft = filled_token (parent + 1) d new y (told e (Some x)) f g bare (is_next (told y None) above begins (sym token) refl) (omega (arith, above)) there;
         node = still new y g.entries;
@@ -176,7 +176,7 @@ module _ (d : Draft) (parent i k start : ℕ) (e : Entry) (x : Inner) (at : slic
       content : green_of (told g.entry (Some g.inner)) ≡ into_node u
       content = ap (λ m. Some m) g.green ∙ sym node
 
-      pub adds_node : AddsChild d new parent k i
+      pub adds_node : AddsChild d new parent e.start k i
       adds_node = record {
         draft = filled_node (parent + 1) d new start parent n (told e (Some x)) f g (is_next (told g.entry (Some g.inner)) g.above g.begins content (omega (arith, g.first, f.next, f.nodes.all))) (omega arith) there;
         node = still new g.entry g.entries;
@@ -210,8 +210,8 @@ module _ (old new : Draft) (n : NodeTerm) (a : IsAlone old) (g : GainsNode old n
       ∙ told_node old.nodes.items old.entries.items g.inner g.entry (none_before old a).0 g.number
       ∙ ap (λ es. all_facts old.nodes.items es ++ told g.entry (Some g.inner) ∷ []) a.entries
 
-  pub filled_root : FitsNode n → IsFilled 0 new
-  filled_root fits =
+  pub filled_root : IsFilled 0 new
+  filled_root =
       let is = nodes_node 0 old new 0 0 n (none_before old a).0 (none_before old a).1 g in
       record {
         draft = subst (IsDraft 0) (sym root_alone)
@@ -219,7 +219,7 @@ module _ (old new : Draft) (n : NodeTerm) (a : IsAlone old) (g : GainsNode old n
             (record {
               green = ap (λ m. Some m) g.green;
               start = g.begins;
-              fits = fits;
+              fits = g.fits;
               first = g.first ∙ a.next;
             }));
         nodes = is.0;

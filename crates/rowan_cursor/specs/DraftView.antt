@@ -1,6 +1,7 @@
 -- A draft: a table that is still to be filled.
 use Rattle.std.specs.Borrow.{Bor}
 use Rattle.std.specs.Prelude.{◌≡◌, ℕ, ◌+◌, List, [], ◌∷◌, ◌++◌, length, Some, slice_get}
+use Rattle.rowan_green.specs.Fits.{FitsNode}
 use Rattle.rowan_green.specs.Term.{NodeTerm, node_children, node_size}
 use Rattle.rowan_cursor.specs.declared.table.entry.Entry.{Entry}
 use Rattle.rowan_cursor.specs.declared.table.entry.Inner.{Inner}
@@ -17,16 +18,17 @@ pub record IsFilled (done : ℕ) (d : Draft) : Type 0 where
   pub nodes : AreNodes d.nodes.items d.entries.items
   pub next : d.next_child ≡ child_counts d.nodes.items + 1
 
--- the entry with this number is that of the node with that number among the nodes
-pub record IsInnerOf (d : Draft) (n k : ℕ) : Type 0 where
+-- the entry with this number is that of the node with that number among the nodes, whose text starts there
+pub record IsInnerOf (d : Draft) (n start k : ℕ) : Type 0 where
   pub entry : Entry
   pub at : slice_get d.entries.items n ≡ Some entry
+  pub begins : entry.start ≡ start
   pub node : entry.node ≡ Some k
 
 -- the child at index i of the entry with number n, that of node k, has got its entry
-pub record AddsChild (old new : Draft) (n k i : ℕ) : Type 0 where
+pub record AddsChild (old new : Draft) (n start k i : ℕ) : Type 0 where
   pub draft : IsFilled (n + 1) new
-  pub node : IsInnerOf new n k
+  pub node : IsInnerOf new n start k
   pub grown : GainsChild (entries_of old) (entries_of new) n i
 
 -- an entry was added, and nothing else
@@ -47,6 +49,7 @@ pub record GainsNode (old new : Draft) (start parent : ℕ) (n : NodeTerm) : Typ
   pub green : inner.green ≡ n
   pub first : inner.first_child ≡ old.next_child
   pub next : new.next_child ≡ old.next_child + length (node_children n)
+  pub fits : FitsNode n
 
 -- how large the nodes of a list are together
 abbrev pub nodes_size : List (Bor NodeTerm) → ℕ

@@ -21,7 +21,6 @@ pub(super) struct Draft {
 
 impl Draft {
     ghost use Rattle.std.specs.Prelude.{◌≡◌, ◌+◌, ◌<◌, Some, IfOk, OnOk, length, take, slice_get};
-    ghost use Rattle.rowan_green.specs.Fits.{FitsNode};
     ghost use Rattle.rowan_green.specs.Lent.{pointee};
     ghost use Rattle.rowan_green.specs.Term.{node_children};
     ghost use Rattle.rowan_cursor.specs.DraftView.{IsFilled, IsInnerOf, AddsChild, GainsNode, entries_of};
@@ -59,8 +58,7 @@ impl Draft {
         parent: u32,
         green: GreenNode,
     ) -> Result<(), AllocError>
-        ensures gained { OnOk result (GainsNode self.old self.new start parent green) }
-        ensures fits { FitsNode green }
+        ensures { OnOk result (GainsNode self.old self.new start parent green) }
     {
         let text_len = green.text_len();
         let first_child = self.next_child;
@@ -98,7 +96,8 @@ impl Draft {
         ensures grown { OnOk result
             (GainsChildren (entries_of self.old) (entries_of self.new) parent) }
     {
-        let Some(node) = self.entries[parent].node.number() else {
+        let entry = self.entries[parent];
+        let Some(node) = entry.node.number() else {
             return Ok(());
         };
         let Ok(above) = u32::try_from(parent) else {
@@ -106,27 +105,32 @@ impl Draft {
         };
         let count = self.nodes[node as usize].green.children().len() as u32;
         for index in 0..count {
-            self.push_child(above, node, index)?;
+            self.push_child(above, entry.start, node, index)?;
         }
         Ok(())
     }
 
-    // Adds the child of a node at an index, whose number is the next. A node is shared.
+    // Adds the child at an index of a node whose text starts there. The child's number is the next. A node is shared.
     #[inline(always)]
-    fn push_child(&mut self, parent: u32, node: u32, index: u32) -> Result<(), AllocError>
+    fn push_child(
+        &mut self,
+        parent: u32,
+        start: TextSize,
+        node: u32,
+        index: u32,
+    ) -> Result<(), AllocError>
         // the children before this one are there
         requires draft { IsFilled (parent + 1) self.old }
         requires place { IsNextIndex (entries_of self.old) parent index }
-        requires node { IsInnerOf self.old parent node }
+        requires node { IsInnerOf self.old parent start node }
 
         // this one is added
-        ensures { OnOk result (AddsChild self.old self.new parent node index) }
+        ensures { OnOk result (AddsChild self.old self.new parent start node index) }
     {
         let Some(found) = self.nodes[node as usize].green.child_ref(index as usize) else {
             unreachable!();
         };
-        let offset = u32::from(self.entries[parent as usize].start);
-        let start = TextSize::from(offset + u32::from(found.0));
+        let start = TextSize::from(u32::from(start) + u32::from(found.0));
         match found.1 {
             NodeOrToken::Node(child) => {
                 let child = child.clone()?;

@@ -16,4 +16,4 @@ returns-clause-draft c =
       nodes = c.in_ok-with_capacity-2.ensures.items;
       next = refl;
     } in
-    filled_root empty c.push_node.new.self c.args.green alone (subst (λ k. GainsNode empty c.push_node.new.self k 0 c.args.green) c.from.ensures c.in_ok-push_node.ensures.gained) c.push_node.ensures.fits
+    filled_root empty c.push_node.new.self c.args.green alone (subst (λ k. GainsNode empty c.push_node.new.self k 0 c.args.green) c.from.ensures c.in_ok-push_node.ensures)

@@ -1,13 +1,13 @@
-use Rattle.std.proofs.Common.{◌≡◌, ℕ, ◌+◌, get_or, Some, Ok, Err, Result, refl, sym, ◌∙◌, ap, arith}
+use Rattle.std.proofs.Common.{◌≡◌, ℕ, ◌+◌, get_or, Some, Ok, Err, Result, refl, sym, ◌∙◌, ap, subst, arith}
 use Rattle.std.specs.Prelude.{OnOk, slice_get}
-use Rattle.std.proofs.lemmas.Option.{slice_get_read, slice_get_within, same_Some}
+use Rattle.std.proofs.lemmas.Option.{slice_get_read}
 use Rattle.rowan_green.specs.Lent.{into_node, pointee}
 use Rattle.rowan_green.specs.Search.{child_start}
 use Rattle.rowan_green.specs.Term.{node_children}
 use Rattle.rowan_cursor.specs.declared.table.draft.Draft.{Draft}
 use Rattle.rowan_cursor.specs.declared.table.entry.Entry.{Entry}
 use Rattle.rowan_cursor.specs.declared.table.entry.Inner.{Inner}
-use Rattle.rowan_cursor.specs.DraftView.{IsFilled, IsInnerOf, GainsEntry, entries_of}
+use Rattle.rowan_cursor.specs.DraftView.{IsFilled, IsInnerOf, AddsChild, GainsEntry, entries_of}
 use Rattle.rowan_cursor.specs.Table.{told}
 use Rattle.rowan_cursor.proofs.FillLemmas.{start_within}
 use Rattle.rowan_cursor.proofs.NodeLemmas.{node_above, adds_node, adds_token}
@@ -17,20 +17,10 @@ on_ok : {E P Q : Type 0} (r : Result (Unit {0}) E) → (P → Q) → OnOk r P �
 on_ok (Ok u) f p = f p
 on_ok (Err e) f p = tt
 
--- what was read: the entry of the parent, and its node
-record IsRead (d : Draft) (parent k : ℕ) (e : Entry) (x : Inner) : Type 0 where
-  at : slice_get d.entries.items parent ≡ Some e
-  named : e.node ≡ Some k
-  found : slice_get d.nodes.items k ≡ Some x
-
-read : (d : Draft) (parent k done : ℕ) (e : Entry) (x : Inner) → IsFilled done d → IsInnerOf d parent k → e ≡ get_or d.entries.items parent e → x ≡ get_or d.nodes.items k x → IsRead d parent k e x
-read d parent k done e x f i was had =
-    let at = slice_get_read d.entries.items _ parent e refl (slice_get_within d.entries.items parent i.entry i.at) was in
-    record {
-      at = at;
-      named = ap (λ (y : Entry). y.node) (same_Some e i.entry (sym at ∙ i.at)) ∙ i.node;
-      found = slice_get_read d.nodes.items _ k x refl (f.nodes.there parent i.entry k i.at i.node) had;
-    }
+-- the node that was read
+found_at : (d : Draft) (parent start k done : ℕ) (x : Inner) → IsFilled done d → IsInnerOf d parent start k → x ≡ get_or d.nodes.items k x → slice_get d.nodes.items k ≡ Some x
+found_at d parent start k done x f i had =
+    slice_get_read d.nodes.items _ k x refl (f.nodes.there parent i.entry k i.at i.node) had
 
 pub index-requires : goal.index-requires
 index-requires c = omega (arith, c.requires.draft.nodes.there c.args.parent c.requires.node.entry c.args.node c.requires.node.at c.requires.node.node)
@@ -40,37 +30,40 @@ unreachable-requires c =
     let d = c.args.self.now in
     let i = c.requires.node in
     let x = c.index.result.now in
-    let found = slice_get_read d.nodes.items _ c.args.node x refl (c.requires.draft.nodes.there c.args.parent i.entry c.args.node i.at i.node) c.index.ensures in
+    let found = found_at d c.args.parent c.args.start c.args.node (c.args.parent + 1) x c.requires.draft i c.index.ensures in
     omega (arith, (c.requires.place (told i.entry (Some x)) (node_above d c.args.parent c.args.index c.args.node 0 i.entry x i.at i.node found)).0, c.in_default.ensures.none.0 refl)
 
-pub overflow_add-offset : goal.overflow_add-offset
-overflow_add-offset c =
+pub overflow_add-from : goal.overflow_add-from
+overflow_add-from c =
     let d = c.args.self.now in
-    let e = c.index-2.result.now in
+    let r = c.requires.node in
+    let e = r.entry in
     let x = c.index.result.now in
-    let r = read d c.args.parent c.args.node (c.args.parent + 1) e x c.requires.draft c.requires.node c.index-2.ensures c.index.ensures in
-    let above = node_above d c.args.parent c.args.index c.args.node 0 e x r.at r.named r.found in
-    omega (arith, c.from-offset.ensures, c.from.ensures, c.in-Some.ensures.some.0, start_within (c.args.parent + 1) (entries_of d) c.requires.draft.draft c.args.parent (told e (Some x)) x.green above refl c.args.index)
+    let found = found_at d c.args.parent c.args.start c.args.node (c.args.parent + 1) x c.requires.draft r c.index.ensures in
+    let above = node_above d c.args.parent c.args.index c.args.node 0 e x r.at r.node found in
+    omega (arith, r.begins, c.from.ensures, c.from-2.ensures, c.in-Some.ensures.some.0, start_within (c.args.parent + 1) (entries_of d) c.requires.draft.draft c.args.parent (told e (Some x)) x.green above refl c.args.index)
 
 pub returns-in_ok-child-in-Node : goal.returns-in_ok-child-in-Node
 returns-in_ok-child-in-Node c =
     let d = c.args.self.now in
-    let e = c.index-2.result.now in
+    let r = c.requires.node in
+    let e = r.entry in
     let x = c.index.result.now in
-    let r = read d c.args.parent c.args.node (c.args.parent + 1) e x c.requires.draft c.requires.node c.index-2.ensures c.index.ensures in
-    let start : c.from-start.result ≡ e.start + child_start (node_children x.green) c.args.index = omega (arith, c.from-start.ensures, c.from-offset.ensures, c.from.ensures, c.in-Some.ensures.some.0) in
+    let found = found_at d c.args.parent c.args.start c.args.node (c.args.parent + 1) x c.requires.draft r c.index.ensures in
+    let start : c.from-start.result ≡ e.start + child_start (node_children x.green) c.args.index = omega (arith, r.begins, c.from-start.ensures, c.from.ensures, c.from-2.ensures, c.in-Some.ensures.some.0) in
     let shared = ap (λ o. into_node (pointee o)) c.in-Node.is ∙ ap (λ m. Some m) (sym c.in_ok-child-in-Node.ensures.cases) in
     on_ok c.push_node.result
-    (λ g. adds_node d c.args.parent c.args.index c.args.node c.from-start.result e x r.at r.named r.found c.requires.draft c.requires.place (pointee c.in-Some.found.1) c.in-Some.ensures.some.1 start c.push_node.new.self c.in_ok-child-in-Node.child g shared)
-    c.push_node.ensures.gained
+    (λ g. subst (λ s. AddsChild d c.push_node.new.self c.args.parent s c.args.node c.args.index) r.begins (adds_node d c.args.parent c.args.index c.args.node c.from-start.result e x r.at r.node found c.requires.draft c.requires.place (pointee c.in-Some.found.1) c.in-Some.ensures.some.1 start c.push_node.new.self c.in_ok-child-in-Node.child g shared))
+    c.push_node.ensures
 
 pub returns-in_ok-push-in-Token : goal.returns-in_ok-push-in-Token
 returns-in_ok-push-in-Token c =
     let d = c.args.self.now in
-    let e = c.index-2.result.now in
+    let r = c.requires.node in
+    let e = r.entry in
     let x = c.index.result.now in
-    let r = read d c.args.parent c.args.node (c.args.parent + 1) e x c.requires.draft c.requires.node c.index-2.ensures c.index.ensures in
-    let start : c.from-start.result ≡ e.start + child_start (node_children x.green) c.args.index = omega (arith, c.from-start.ensures, c.from-offset.ensures, c.from.ensures, c.in-Some.ensures.some.0) in
+    let found = found_at d c.args.parent c.args.start c.args.node (c.args.parent + 1) x c.requires.draft r c.index.ensures in
+    let start : c.from-start.result ≡ e.start + child_start (node_children x.green) c.args.index = omega (arith, r.begins, c.from-start.ensures, c.from.ensures, c.from-2.ensures, c.in-Some.ensures.some.0) in
     let y : Entry = record {
       start = c.from-start.result;
       parent = c.args.parent;
@@ -87,4 +80,4 @@ returns-in_ok-push-in-Token c =
       next = refl;
     } in
     let token = ap (λ o. into_node (pointee o)) c.in-Token.is in
-    adds_token d c.args.parent c.args.index c.args.node c.from-start.result e x r.at r.named r.found c.requires.draft c.requires.place (pointee c.in-Some.found.1) c.in-Some.ensures.some.1 start new y gained refl refl c.none.ensures token
+    subst (λ s. AddsChild d new c.args.parent s c.args.node c.args.index) r.begins (adds_token d c.args.parent c.args.index c.args.node c.from-start.result e x r.at r.node found c.requires.draft c.requires.place (pointee c.in-Some.found.1) c.in-Some.ensures.some.1 start new y gained refl refl c.none.ensures token)

@@ -10,20 +10,20 @@ use Rattle.rowan_cursor.proofs.TableLemmas.{slice_get-some}
 use Rattle.rowan_cursor.proofs.FillLemmas.{IsDraft-more, GrowsBy-at, GrowsBy-none, GrowsBy-more, GrowsBy-all, child_place, greens-grown}
 use Rattle.rowan_cursor.proofs.table.draft.Draft.push_children.Goals as goal
 
-pub index-requires-2 : goal.index-requires-2
-index-requires-2 c =
+pub index-requires : goal.index-requires
+index-requires c =
     let d = c.args.self.now in
     let n = c.args.parent in
-    let y = c.index.result.now in
-    let here : slice_get d.entries.items n ≡ Some y = slice_get_read d.entries.items _ n y refl (within_entries d n c.requires.within) c.index.ensures in
+    let y = c.index-entry.result.now in
+    let here : slice_get d.entries.items n ≡ Some y = slice_get_read d.entries.items _ n y refl (within_entries d n c.requires.within) c.index-entry.ensures in
     omega (arith, c.requires.draft.nodes.there n y c.in-Some.node here (sym c.in-Some.ensures))
 
 pub returns-in_default-clause-grown : goal.returns-in_default-clause-grown
 returns-in_default-clause-grown c e at =
     let d = c.args.self.now in
     let n = c.args.parent in
-    let y = c.index.result.now in
-    let here : slice_get d.entries.items n ≡ Some y = slice_get_read d.entries.items _ n y refl (within_entries d n c.requires.within) c.index.ensures in
+    let y = c.index-entry.result.now in
+    let here : slice_get d.entries.items n ≡ Some y = slice_get_read d.entries.items _ n y refl (within_entries d n c.requires.within) c.index-entry.ensures in
     let bare : slice_get (entries_of d) n ≡ Some (told y None) = facts_at d.nodes.items d.entries.items n y here ∙ ap (λ o. Some (told y (inner_at d.nodes.items o))) (sym c.in_default.ensures) in
     let same : told y None ≡ e = same_Some (told y None) e (sym bare ∙ at) in
     sym (append-nil (map green_of (entries_of d))) ∙ ap (λ (f : Facts). map green_of (entries_of d) ++ map into_node (children_in (green_of f))) same
@@ -32,8 +32,8 @@ pub loop-index-init : goal.loop-index-init
 loop-index-init c =
     let d = c.args.self.now in
     let n = c.args.parent in
-    let y = c.index.result.now in
-    let here : slice_get d.entries.items n ≡ Some y = slice_get_read d.entries.items _ n y refl (within_entries d n c.requires.within) c.index.ensures in
+    let y = c.index-entry.result.now in
+    let here : slice_get d.entries.items n ≡ Some y = slice_get_read d.entries.items _ n y refl (within_entries d n c.requires.within) c.index-entry.ensures in
     let f = c.requires.draft in
     record {
       draft = record {
@@ -44,6 +44,7 @@ loop-index-init c =
       node = record {
         entry = y;
         at = here;
+        begins = refl;
         node = sym c.in-Some.ensures;
       };
       grown = λ e at. GrowsBy-none (entries_of c.args.self.now);
@@ -53,11 +54,11 @@ pub push_child-requires-clause-place : goal.push_child-requires-clause-place
 push_child-requires-clause-place c e at =
     let d = c.args.self.now in
     let n = c.args.parent in
-    let y = c.index.result.now in
-    let here : slice_get d.entries.items n ≡ Some y = slice_get_read d.entries.items _ n y refl (within_entries d n c.requires.within) c.index.ensures in
-    let x = c.index-2.result.now in
+    let y = c.index-entry.result.now in
+    let here : slice_get d.entries.items n ≡ Some y = slice_get_read d.entries.items _ n y refl (within_entries d n c.requires.within) c.index-entry.ensures in
+    let x = c.index.result.now in
     let k = c.in-Some.node in
-    let found : slice_get d.nodes.items k ≡ Some x = slice_get_read d.nodes.items _ k x refl (c.requires.draft.nodes.there n y k here (sym c.in-Some.ensures)) c.index-2.ensures in
+    let found : slice_get d.nodes.items k ≡ Some x = slice_get_read d.nodes.items _ k x refl (c.requires.draft.nodes.there n y k here (sym c.in-Some.ensures)) c.index.ensures in
     let told_here : slice_get (entries_of d) n ≡ Some (told y (Some x)) = node_above d n 0 k 0 y x here (sym c.in-Some.ensures) found in
     let ds = entries_of c.loop-index.self in
     let ts = children_in (green_of (told y (Some x))) in
@@ -69,18 +70,18 @@ pub loop-index-preserved : goal.loop-index-preserved
 loop-index-preserved c =
     let d = c.args.self.now in
     let n = c.args.parent in
-    let y = c.index.result.now in
-    let here : slice_get d.entries.items n ≡ Some y = slice_get_read d.entries.items _ n y refl (within_entries d n c.requires.within) c.index.ensures in
-    let x = c.index-2.result.now in
+    let y = c.index-entry.result.now in
+    let here : slice_get d.entries.items n ≡ Some y = slice_get_read d.entries.items _ n y refl (within_entries d n c.requires.within) c.index-entry.ensures in
+    let x = c.index.result.now in
     let k = c.in-Some.node in
-    let found : slice_get d.nodes.items k ≡ Some x = slice_get_read d.nodes.items _ k x refl (c.requires.draft.nodes.there n y k here (sym c.in-Some.ensures)) c.index-2.ensures in
+    let found : slice_get d.nodes.items k ≡ Some x = slice_get_read d.nodes.items _ k x refl (c.requires.draft.nodes.there n y k here (sym c.in-Some.ensures)) c.index.ensures in
     let told_here : slice_get (entries_of d) n ≡ Some (told y (Some x)) = node_above d n 0 k 0 y x here (sym c.in-Some.ensures) found in
     let ds = entries_of c.loop-index.self in
     let i = c.loop-index.index in
     let new = c.push_child.new.self in
     record {
       draft = subst (λ k. IsFilled (k + 1) new) c.in-Ok.ensures.1 c.in_ok-push_child.ensures.draft;
-      node = subst (λ k. IsInnerOf new k c.in-Some.node) c.in-Ok.ensures.1 c.in_ok-push_child.ensures.node;
+      node = subst (λ k. IsInnerOf new k y.start c.in-Some.node) c.in-Ok.ensures.1 c.in_ok-push_child.ensures.node;
       grown = λ e at.
           let ts = children_in (green_of e) in
           let same : told y (Some x) ≡ e = same_Some (told y (Some x)) e (sym told_here ∙ at) in
@@ -95,11 +96,11 @@ pub returns-clause-grown : goal.returns-clause-grown
 returns-clause-grown c e at =
     let d = c.args.self.now in
     let n = c.args.parent in
-    let y = c.index.result.now in
-    let here : slice_get d.entries.items n ≡ Some y = slice_get_read d.entries.items _ n y refl (within_entries d n c.requires.within) c.index.ensures in
-    let x = c.index-2.result.now in
+    let y = c.index-entry.result.now in
+    let here : slice_get d.entries.items n ≡ Some y = slice_get_read d.entries.items _ n y refl (within_entries d n c.requires.within) c.index-entry.ensures in
+    let x = c.index.result.now in
     let k = c.in-Some.node in
-    let found : slice_get d.nodes.items k ≡ Some x = slice_get_read d.nodes.items _ k x refl (c.requires.draft.nodes.there n y k here (sym c.in-Some.ensures)) c.index-2.ensures in
+    let found : slice_get d.nodes.items k ≡ Some x = slice_get_read d.nodes.items _ k x refl (c.requires.draft.nodes.there n y k here (sym c.in-Some.ensures)) c.index.ensures in
     let told_here : slice_get (entries_of d) n ≡ Some (told y (Some x)) = node_above d n 0 k 0 y x here (sym c.in-Some.ensures) found in
     let es = entries_of c.args.self.now in
     let ds = entries_of c.loop-index.self in

@@ -7,7 +7,7 @@ use Rattle.rowan_cursor.proofs.table.draft.Draft.push_children.Given as goal
 abbrev pub invariant-loop-index : goal.invariant-loop-index
 invariant-loop-index l = record {
   draft : IsFilled (l.parent + 1) l.self;
-  node : IsInnerOf l.self l.parent l.node;
+  node : IsInnerOf l.self l.parent l.entry.0 l.node;
   grown : (e : Facts) → slice_get (entries_of l.initial.self) l.parent ≡ Some e
       → GrowsBy (entries_of l.initial.self) (entries_of l.self) (take l.index (children_in (green_of e)));
 }
