@@ -1,4 +1,5 @@
 pub mod BuilderLemmas
+pub mod ByteLemmas
 pub mod CacheLemmas
 pub mod ChainLemmas
 pub mod ChainWalks

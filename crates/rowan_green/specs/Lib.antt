@@ -1,5 +1,6 @@
 pub mod Builder
 pub mod BuilderCoding
+pub mod Bytes
 pub mod Cache
 pub mod Chains
 pub mod CacheCoding

@@ -1,9 +1,10 @@
 //! The cache of green values: equal tokens, and equal nodes of few children, are stored once.
+mod bytes;
 mod chains;
 mod table;
 mod waiting;
 
-ghost use Rattle.std.specs.Prelude.{◌≡◌, ◌<◌, ◌≤◌, length, drop, IfOk, IfErr, OnOk, OnErr, true, Some};
+ghost use Rattle.std.specs.Prelude.{◌≡◌, ◌<◌, ◌≤◌, length, drop, IfOk, IfErr, IfSome, OnOk, OnErr, true, Some};
 ghost use Rattle.std.specs.List.{slice_get};
 ghost use Rattle.rowan_green.specs.declared.utility_types.NodeOrToken.TheVariants.{Node, Token};
 ghost use Rattle.rowan_green.specs.Term.{Term, token_of, node_of};
@@ -16,6 +17,7 @@ ghost use Rattle.rowan_green.specs.Waiting.{elements, numbers_of, IsSame, IsCutA
 use crate::fault::Fault;
 use crate::green::{GreenElement, GreenNode, GreenToken, SyntaxKind};
 use crate::utility_types::NodeOrToken;
+use bytes::ByteTokens;
 use std::alloc::{AllocError, Global};
 use std::marker::Model;
 use std::mem;
@@ -46,6 +48,7 @@ pub struct NodeCache {
     // The numbers of the children of the node that is looked up: kept from one call to the next for its memory.
     numbers: Vec<u32>,
     token_count: usize,
+    bytes: ByteTokens,
 }
 
 impl Model for NodeCache {
@@ -57,10 +60,12 @@ impl Model for NodeCache {
     ghost coded = { coded_cache };
 
     ghost use Rattle.rowan_green.specs.Tables.{IsCounted};
+    ghost use Rattle.rowan_green.specs.Bytes.{AreOfBytes};
 
     ghost view = { λ c. record { limit = c.limit; seen = c.table } };
 
-    ghost invariant = { λ c. IsCounted c.limit c.table c.token_count };
+    ghost invariant = { λ c. IsCounted c.limit c.table c.token_count
+        × AreOfBytes c.table c.bytes.newest.items };
 }
 
 impl NodeCache {
@@ -81,6 +86,7 @@ impl NodeCache {
             table: ValueTable::new(alloc),
             numbers: Vec::new(alloc),
             token_count: 0,
+            bytes: ByteTokens::new(alloc),
         }
     }
 
@@ -121,18 +127,37 @@ impl NodeCache {
         ensures kept { OnOk result (self.new ≡ intern self.old (Token (token_of kind.0 text.now))) }
         ensures unchanged { OnErr result (self.new ≡ self.old) }
     {
+        if let Some(number) = self.byte_token(kind, text) {
+            return Ok(interned_at(&self.table, number)?);
+        }
         let hash = table::token_hash(kind, text);
         if let Some(number) = self.table.token_number(hash, kind, text) {
             return Ok(interned_at(&self.table, number)?);
         }
         let token = GreenToken::new(self.alloc, kind, text)?;
         let kept = NodeOrToken::Token(token.clone()?);
+        self.bytes.reserve(text)?;
         let number = self.table.keep(hash, kept, &[])?;
+        self.bytes.set(text, number);
         self.token_count += 1;
         Ok(Interned {
             number: Some(number),
             element: NodeOrToken::Token(token),
         })
+    }
+
+    // The number of the token of a kind and a text, where that is one byte and no newer token has it as its text.
+    fn byte_token(&self, kind: SyntaxKind, text: &str) -> Option<u32>
+        ensures { let t = Token (token_of kind.0 text.now) in
+            IfSome result (λ n. slice_get self.now.seen n ≡ Some t) }
+    {
+        let Some(number) = self.bytes.number(text) else {
+            return None;
+        };
+        if self.table.value(number).kind() != kind {
+            return None;
+        }
+        Some(number)
     }
 
     // The node of a kind and the elements that wait from a place on, which it takes: the one that the cache keeps, or else a new

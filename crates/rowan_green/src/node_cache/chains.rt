@@ -76,6 +76,7 @@ impl Chains {
     pub(super) fn push(&mut self, hash: u32) -> Result<u32, AllocError>
         ensures ok { OnOk result (self.new.hashes ≡ self.old.hashes ++ hash ∷ []) }
         ensures place { IfOk result (λ n. n ≡ length self.old.hashes) }
+        ensures small { IfOk result (λ n. n < 4294967295) }
         ensures unchanged { OnErr result (self.new.hashes ≡ self.old.hashes) }
     {
         let place = self.hashes.len();

@@ -133,6 +133,7 @@ impl ValueTable {
         requires hash { hash ≡ key_hash element numbers.now }
         ensures ok { OnOk result (self.new ≡ self.old ++ element ∷ []) }
         ensures number { IfOk result (λ n. n ≡ length self.old) }
+        ensures small { IfOk result (λ n. n < 4294967295) }
         ensures unchanged { OnErr result (self.new ≡ self.old) }
     {
         let Ok(first_child) = u32::try_from(self.child_numbers.len()) else {

@@ -7,10 +7,12 @@ use Rattle.rowan_green.specs.Term.{NodeTerm, Term, node_of, node_children}
 use Rattle.rowan_green.specs.Fits.{AreWithin}
 use Rattle.rowan_green.specs.Cache.{CacheValue, intern, is_among, AreNumbered, ListsNumbers, gets_number}
 use Rattle.rowan_green.specs.Tables.{StandAt, IsCounted}
+use Rattle.rowan_green.specs.Bytes.{AreOfBytes}
 use Rattle.rowan_green.specs.Waiting.{elements, numbers_of}
 use Rattle.rowan_green.proofs.CacheLemmas.{slice_get-last, intern-known, intern-ineligible, intern-fresh, first_seen-fresh}
 use Rattle.rowan_green.proofs.NumberLemmas.{AreNumbered-drop, AreNumbered-length, is_eligible-kept, StandAt-elements, IsNumbered-none, IsNumbered-at}
 use Rattle.rowan_green.proofs.CountLemmas.{count_tokens-push}
+use Rattle.rowan_green.proofs.ByteLemmas.{AreOfBytes-grown}
 use Rattle.rowan_green.proofs.Terms.{terms-forest}
 use Rattle.rowan_green.proofs.node_cache.NodeCache.node.Goals as goal
 
@@ -131,10 +133,10 @@ invariant_of-self-2 c =
     let fresh = c.in_default.ensures.none ts (subst (λ ms. StandAt s.table ms ts) (sym c.as_slice-numbers.ensures.value) stand) refl in
     let made = c.in_ok-clone.ensures.cases ∙ c.in_ok-node-2.ensures.ok ∙ ap (node_of c.args.kind.0) c.elements_from.ensures in
     let grown : c.keep.new.self ≡ s.table ++ t ∷ [] = c.in_ok-number.ensures.ok ∙ ap (λ (n : NodeTerm). s.table ++ Node n ∷ []) made in
-    subst (λ us. IsCounted s.limit us s.token_count) (sym grown) (record {
-      first = first_seen-fresh s.limit s.table t c.self.invariant.first fit fresh;
-      counted = omega (arith, c.self.invariant.counted, count_tokens-push s.table t);
-    })
+    (subst (λ us. IsCounted s.limit us s.token_count) (sym grown) (record {
+      first = first_seen-fresh s.limit s.table t c.self.invariant.0.first fit fresh;
+      counted = omega (arith, c.self.invariant.0.counted, count_tokens-push s.table t);
+    }), subst (λ us. AreOfBytes us s.bytes.newest.items) (sym grown) (AreOfBytes-grown s.table t s.bytes.newest.items c.self.invariant.1))
 
 pub returns : goal.returns
 returns c =
