@@ -9,15 +9,15 @@ use Rattle.rowan_green.specs.View.{child_term}
 use Rattle.rowan_green.specs.Weave.{weave, AreInOrder}
 use Rattle.rowan_green.specs.Word.{Symbol, spelled}
 
--- a list of one element has the term of its first element alone, and of its last
+-- a list of one element has the term of its first element alone, and is its last one
 pub elements-first : (cs : List GreenChild) (c : GreenChild) (t : Term) → length cs ≡ 1 → c ≡ get_or cs 0 c → child_term c ≡ t → map child_term cs ≡ t ∷ []
 elements-first [] c t long e same = absurd (omega arith)
 elements-first (d ∷ []) c t long e same = ap (λ u. u ∷ []) (ap child_term (sym e) ∙ same)
 elements-first (d ∷ b ∷ cs) c t long e same = absurd (omega arith)
 
-pub elements-last : (cs ds : List GreenChild) (c : GreenChild) (t : Term) → length cs ≡ 1 → cs ≡ ds ++ c ∷ [] → child_term c ≡ t → map child_term cs ≡ t ∷ []
-elements-last cs [] c t long e same = ap (map child_term) e ∙ ap (λ u. u ∷ []) same
-elements-last cs (d ∷ ds) c t long e same = absurd (omega (arith, ap length e, length-append ds (c ∷ [])))
+pub only-last : (ts us : List Term) (u t : Term) → length ts ≡ 1 → ts ≡ us ++ u ∷ [] → u ≡ t → ts ≡ t ∷ []
+only-last ts [] u t long e same = e ∙ ap (λ v. v ∷ []) same
+only-last ts (v ∷ us) u t long e same = absurd (omega (arith, ap length e, length-append us (u ∷ [])))
 
 abbrev value : List Symbol → CacheValue → BuilderValue
 value w c = record { word = w; cache = c }

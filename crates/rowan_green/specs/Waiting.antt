@@ -1,12 +1,28 @@
 -- What waits in a builder: elements, with their numbers.
-use Rattle.std.specs.Prelude.{◌≡◌, ℕ, ◌<◌, List, map, take, Option, vec_len, vec_capacity}
+use Rattle.std.specs.Prelude.{◌≡◌, ℕ, ◌<◌, List, [], map, take, Option, None, Some, vec_len, vec_capacity}
+use Rattle.rowan_green.specs.declared.green.node.GreenChild.{GreenChild}
+use Rattle.rowan_green.specs.declared.green.node.block.ChildBlock.{ChildBlock}
 use Rattle.rowan_green.specs.declared.node_cache.waiting.Waiting.{Waiting}
 use Rattle.rowan_green.specs.Term.{Term}
 use Rattle.rowan_green.specs.View.{child_term}
 
+-- the block has room for one more child
+abbrev pub HasSpare : ChildBlock → Type 0
+HasSpare b = vec_len b.block.list < vec_capacity b.block.list
+
+-- the children in a block; where there is no block yet, there are none
+abbrev pub children_in : Option ChildBlock → List GreenChild
+children_in None = []
+children_in (Some b) = b.block.list.items
+
+-- there is a block, and it has room for one more child
+abbrev pub HasBlockWithSpare : Option ChildBlock → Type 0
+HasBlockWithSpare None = ⊥
+HasBlockWithSpare (Some b) = HasSpare b
+
 -- the terms of the elements
 abbrev pub elements : Waiting → List Term
-elements w = map child_term w.elements.items
+elements w = map child_term (children_in w.block)
 
 -- the number of each, where it has one
 abbrev pub numbers_of : Waiting → List (Option ℕ)
@@ -14,7 +30,7 @@ numbers_of w = w.numbers.items
 
 -- there is room for one more
 abbrev pub HasRoom : Waiting → Type 0
-HasRoom w = (vec_len w.elements < vec_capacity w.elements) × (vec_len w.numbers < vec_capacity w.numbers)
+HasRoom w = HasBlockWithSpare w.block × (vec_len w.numbers < vec_capacity w.numbers)
 
 -- the same waits
 abbrev pub IsSame : Waiting → Waiting → Type 0

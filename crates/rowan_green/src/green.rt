@@ -10,7 +10,7 @@ mod token_data;
 
 pub use children::Children;
 pub use element::{GreenElement, GreenElementRef};
-pub(crate) use node::GreenChild;
+pub(crate) use node::{ChildBlock, GreenChild};
 pub use node::{GreenNode, GreenNodeData};
 pub use token::{GreenToken, GreenTokenData};
 

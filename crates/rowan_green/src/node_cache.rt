@@ -12,7 +12,7 @@ ghost use Rattle.rowan_green.specs.Fits.{byte_limit, AreWithin, WhyNoNode};
 ghost use Rattle.rowan_green.specs.Word.{WhyNoToken};
 ghost use Rattle.rowan_green.specs.Cache.{empty_cache, first_seen, count_tokens, count_nodes, intern, IsNumbered, AreNumbered, ListsNumbers, gets_number};
 ghost use Rattle.rowan_green.specs.Tables.{KeepsLimits};
-ghost use Rattle.rowan_green.specs.Waiting.{elements, numbers_of, IsSame, IsCutAt};
+ghost use Rattle.rowan_green.specs.Waiting.{elements, numbers_of, HasRoom, IsSame, IsCutAt};
 
 use crate::fault::Fault;
 use crate::green::{GreenElement, GreenNode, GreenToken, SyntaxKind};
@@ -170,6 +170,7 @@ impl NodeCache {
     ) -> Result<Interned, Fault>
         requires within { first ≤ length (elements waiting.old) }
         requires numbered { AreNumbered self.old (elements waiting.old) (numbers_of waiting.old) }
+        requires room { HasRoom waiting.old }
 
         // The node, or why there is none.
         ensures ok { let ts = drop first (elements waiting.old) in
@@ -188,8 +189,7 @@ impl NodeCache {
         ensures all { OnErr result (IsSame waiting.old waiting.new) }
     {
         if !write_numbers(&mut self.numbers, self.limit, waiting.numbers_from(first))? {
-            let node = GreenNode::from_last(self.alloc, kind, &mut waiting.elements, first)?;
-            waiting.numbers.truncate(first);
+            let node = waiting.make_node(kind, first)?;
             return Ok(Interned {
                 number: None,
                 element: NodeOrToken::Node(node),

@@ -39,19 +39,18 @@ fn words(front: usize, item: usize, cap: usize) -> usize
     front + cap * item
 }
 
-// Moves the elements from `first` on to `to`, which is empty and has room for them.
-fn fill<T, A: Allocator>(to: &mut Vec<T, Lodged>, from: &mut Vec<T, A>, first: usize)
+// Moves the elements from `first` on to `to`, which is empty and has room for them, as one run of memory.
+fn fill<T>(to: &mut Vec<T, Lodged>, from: &mut Vec<T, Lodged>, first: usize)
     requires { (first ≤ vec_len from.old) × HasRoomFor (vec_len from.old - first) to.old
         × (to.old.items ≡ []) }
     ensures to { to.new.items ≡ drop first from.old.items }
     ensures from { from.new.items ≡ take first from.old.items }
-    ensures room { vec_capacity from.new ≡ vec_capacity from.old }
+    ensures from_in_place { IsInPlace from.old from.new }
     ensures in_place { IsInPlace to.old to.new }
 {
-    while from.len() > first {
-        to.push_reserved(from.take_last());
+    if from.len() > first {
+        to.append_tail(from, first);
     }
-    to.as_mut_slice().reverse();
 }
 
 // Memory for a front and `cap` items, or for one item where that is none.
@@ -167,13 +166,13 @@ impl<H, T, A: Allocator + Copy> Open<H, T, A> {
 }
 
 impl<H, T, A: Allocator> Front<H, T, A> {
-    /// The first owner of a block with the head and with the elements of `items` from `first` on, which leave the list. Refused for
-    /// want of memory, and for more than 4,294,967,295 items; the list is then as it was, and the head comes back. The block has
+    /// The first owner of a block with the head and with the elements of `items` from `first` on, which leave the list as one run of
+    /// memory. Refused for want of memory, and for more than 4,294,967,295 items; the list is then as it was, and the head comes back. The block has
     /// room for one item where it has none.
-    pub fn from_last<B: Allocator>(
+    pub fn from_last(
         alloc: A,
         head: H,
-        items: &mut Vec<T, B>,
+        items: &mut Vec<T, Lodged>,
         first: usize,
         front: usize,
         item: usize,
@@ -183,7 +182,7 @@ impl<H, T, A: Allocator> Front<H, T, A> {
         ensures ok { IfOk result (λ c. IsHeaded front item c × (head_of c ≡ head)
             × (items_of c ≡ drop first items.old.items)) }
         ensures left { OnOk result (items.new.items ≡ take first items.old.items) }
-        ensures room { vec_capacity items.new ≡ vec_capacity items.old }
+        ensures in_place { IsInPlace items.old items.new }
         ensures err { OnErr result (items.new ≡ items.old) }
         ensures value_returned { IfErr result (λ h. h ≡ head) }
     {

@@ -167,7 +167,8 @@ impl OwningBuilder {
         if self.finished.len() != 1 {
             return Err(Fault::NotOneElement);
         }
-        match self.finished.elements[0].as_ref() {
+        let elements = self.finished.elements_from(0);
+        match elements[0].as_ref() {
             NodeOrToken::Node(node) => Ok(node),
             NodeOrToken::Token(_) => Err(Fault::NotANode),
         }
@@ -187,7 +188,7 @@ impl OwningBuilder {
             mut finished,
             cache,
         } = self;
-        let Some(last) = finished.elements.pop() else {
+        let Some(last) = finished.pop() else {
             unreachable!()
         };
         match last {

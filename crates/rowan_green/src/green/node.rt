@@ -16,7 +16,7 @@ use crate::green::{Children, GreenElement, GreenElementRef, GreenToken, SyntaxKi
 use crate::steps::Steps;
 use crate::text::{TextRange, TextSize};
 use crate::utility_types::NodeOrToken;
-use block::ChildBlock;
+pub(crate) use block::ChildBlock;
 use rowan_counted::{CountBox, Counted};
 use rowan_headed::front::Front;
 use std::alloc::{AllocError, AllocFailed, Global};

@@ -1,19 +1,27 @@
 //! What a builder has finished, while it waits for its node.
-ghost use Rattle.std.specs.Prelude.{◌≡◌, ◌≤◌, [], ◌++◌, ◌∷◌, length, drop, map, OnOk};
+ghost use Rattle.std.specs.Prelude.{◌≡◌, ◌≤◌, [], ◌++◌, ◌∷◌, length, drop, map, IfOk, IfErr, IfSome, IsNone, OnOk, OnErr};
+ghost use Rattle.rowan_green.specs.Fits.{AreWithin, WhyNoNode};
+ghost use Rattle.rowan_green.specs.Term.{node_of};
 ghost use Rattle.rowan_green.specs.View.{child_term};
 ghost use Rattle.rowan_green.specs.Waiting.{elements, numbers_of, HasRoom, IsSame, IsCutAt};
 
-use crate::green::GreenChild;
+use crate::fault::Fault;
+use crate::green::{ChildBlock, GreenChild, GreenNode, SyntaxKind};
 use crate::node_cache::Interned;
 use crate::text::TextSize;
 use std::alloc::{AllocError, Global};
 
+// The number of elements for which there is room at first.
+const FIRST_ROOM: usize = 4;
+
 // The elements that wait for the node that will have them, and beside them their numbers in the cache. The elements lie as a
-// node has them, so that they move into one as a block; their offsets are not known yet.
+// node has them, in a block, so that they move into one as one run of memory; their offsets are not known yet. Before the first
+// one comes there is no block, and no memory is taken.
 #[derive(Drop)]
 pub(crate) struct Waiting {
-    pub(crate) elements: Vec<GreenChild>,
-    pub(crate) numbers: Vec<Option<u32>>,
+    alloc: Global,
+    block: Option<ChildBlock>,
+    numbers: Vec<Option<u32>>,
 }
 
 impl Waiting {
@@ -22,7 +30,8 @@ impl Waiting {
         ensures numbers { numbers_of result ≡ [] }
     {
         Waiting {
-            elements: Vec::new(alloc),
+            alloc,
+            block: None,
             numbers: Vec::new(alloc),
         }
     }
@@ -30,14 +39,20 @@ impl Waiting {
     pub(crate) fn len(&self) -> usize
         ensures { result ≡ length (elements self.now) }
     {
-        self.elements.len()
+        match &self.block {
+            Some(block) => block.len(),
+            None => 0,
+        }
     }
 
-    pub(super) fn elements_from(&self, place: usize) -> &[GreenChild]
+    pub(crate) fn elements_from(&self, place: usize) -> &[GreenChild]
         requires { place ≤ length (elements self.now) }
         ensures { map child_term result.now ≡ drop place (elements self.now) }
     {
-        self.elements.as_slice().split_at(place).1
+        match &self.block {
+            Some(block) => block.as_slice().split_at(place).1,
+            None => &[],
+        }
     }
 
     pub(super) fn numbers_from(&self, place: usize) -> &[Option<u32>]
@@ -53,7 +68,10 @@ impl Waiting {
         ensures same { IsSame self.old self.new }
         ensures room { OnOk result (HasRoom self.new) }
     {
-        self.elements.reserve(1)?;
+        match &mut self.block {
+            Some(block) => block.reserve()?,
+            None => self.block = Some(ChildBlock::with_capacity(self.alloc, FIRST_ROOM)?),
+        }
         self.numbers.reserve(1)?;
         Ok(())
     }
@@ -66,21 +84,55 @@ impl Waiting {
         ensures numbers { numbers_of self.new ≡ numbers_of self.old ++ interned.number ∷ [] }
     {
         let Interned { number, element } = interned;
-        // There is room, so neither is refused.
-        let _ = self
-            .elements
-            .push(GreenChild::new(TextSize::from(0), element));
-        let _ = self.numbers.push(number);
+        let Some(block) = &mut self.block else {
+            unreachable!()
+        };
+        block.push_reserved(GreenChild::new(TextSize::from(0), element));
+        self.numbers.push_reserved(number);
+    }
+
+    // The node of a kind and the elements from a place on, which move into it. A refused call leaves all as it was.
+    pub(super) fn make_node(&mut self, kind: SyntaxKind, first: usize) -> Result<GreenNode, Fault>
+        requires first { first ≤ length (elements self.old) }
+        requires room { HasRoom self.old }
+
+        // The node, or why there is none.
+        ensures ok { let ts = drop first (elements self.old) in
+            IfOk result (λ n. n ≡ node_of kind.0 ts) }
+        ensures within { OnOk result (AreWithin (drop first (elements self.old))) }
+        ensures err { IfErr result (WhyNoNode (drop first (elements self.old))) }
+
+        // What waits on.
+        ensures rest { OnOk result (IsCutAt first self.old self.new) }
+        ensures all { OnErr result (IsSame self.old self.new) }
+    {
+        let Some(block) = &mut self.block else {
+            unreachable!()
+        };
+        let node = GreenNode::from_last(self.alloc, kind, block, first)?;
+        self.numbers.truncate(first);
+        Ok(node)
     }
 
     pub(super) fn truncate(&mut self, place: usize)
         ensures { IsCutAt place self.old self.new }
     {
-        while self.elements.len() > place {
-            drop(self.elements.take_last());
-        }
-        while self.numbers.len() > place {
-            self.numbers.take_last();
+        self.numbers.truncate(place);
+        let Some(block) = &mut self.block else {
+            return;
+        };
+        block.truncate(place);
+    }
+
+    // The last element, which leaves without its number.
+    pub(crate) fn pop(&mut self) -> Option<GreenChild>
+        ensures some { IfSome result (λ child.
+            elements self.old ≡ elements self.new ++ child_term child ∷ []) }
+        ensures none { IsNone result → elements self.old ≡ [] }
+    {
+        match &mut self.block {
+            Some(block) => block.pop(),
+            None => None,
         }
     }
 }

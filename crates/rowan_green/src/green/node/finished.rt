@@ -1,8 +1,10 @@
 //! Nodes over the elements that a builder has finished.
-ghost use Rattle.std.specs.Prelude.{◌≡◌, ◌<◌, ◌≤◌, length, map, take, drop, IfOk, IfErr, OnOk, OnErr, vec_len, vec_capacity};
+ghost use Rattle.std.specs.Prelude.{◌≡◌, ◌<◌, ◌≤◌, length, map, take, drop, IfOk, IfErr, OnOk, OnErr, vec_len};
 ghost use Rattle.rowan_green.specs.Fits.{AreWithin, PassesLimit, WhyNoNode};
 ghost use Rattle.rowan_green.specs.Term.{node_of};
 ghost use Rattle.rowan_green.specs.View.{child_term, child_offset, AreSound};
+ghost use Rattle.rowan_green.specs.Waiting.{HasSpare};
+ghost use Rattle.rowan_headed.specs.Shape.{IsInPlace};
 
 use crate::fault::Fault;
 use crate::green::SyntaxKind;
@@ -11,6 +13,7 @@ use crate::green::node::{GreenChild, GreenNode, GreenNodeHead, NodeDraft};
 use crate::text::TextSize;
 use rowan_headed::front::Front;
 use std::alloc::Global;
+use std_alloc::vec::Lodged;
 
 impl GreenNode {
     // The node of a kind and these elements, which stay with the caller too.
@@ -28,33 +31,34 @@ impl GreenNode {
         Ok(draft.finish(kind)?)
     }
 
-    // The node of a kind and the elements of a list from a place on, which move into it as one block. A refused call leaves
-    // them in the list.
+    // The node of a kind and the elements in a block from a place on, which move into it as one run of memory. A refused call
+    // leaves them in the block.
     pub(crate) fn from_last(
         alloc: Global,
         kind: SyntaxKind,
-        elements: &mut Vec<GreenChild>,
+        elements: &mut ChildBlock,
         first: usize,
     ) -> Result<GreenNode, Fault>
-        requires { first ≤ length elements.old.items }
+        requires { first ≤ length elements.old.block.list.items }
 
         // The node, or why there is none.
-        ensures ok { let ts = map child_term elements.old.items in
+        ensures ok { let ts = map child_term elements.old.block.list.items in
             IfOk result (λ n. n ≡ node_of kind.0 (drop first ts)) }
-        ensures within { OnOk result (AreWithin (drop first (map child_term elements.old.items))) }
-        ensures err { IfErr result (WhyNoNode (drop first (map child_term elements.old.items))) }
+        ensures within { let ts = map child_term elements.old.block.list.items in
+            OnOk result (AreWithin (drop first ts)) }
+        ensures err { let ts = map child_term elements.old.block.list.items in
+            IfErr result (WhyNoNode (drop first ts)) }
 
-        // What is left in the list.
-        ensures rest { let terms = map child_term in
-            OnOk result (terms elements.new.items ≡ take first (terms elements.old.items)) }
-        ensures unchanged { let terms = map child_term in
-            OnErr result (terms elements.new.items ≡ terms elements.old.items) }
-        ensures room { vec_len elements.old < vec_capacity elements.old
-            → vec_len elements.new < vec_capacity elements.new }
+        // What is left in the block.
+        ensures rest { let terms = map child_term in OnOk result (terms elements.new.block.list.items
+            ≡ take first (terms elements.old.block.list.items)) }
+        ensures unchanged { let terms = map child_term in OnErr result
+            (terms elements.new.block.list.items ≡ terms elements.old.block.list.items) }
+        ensures room { HasSpare elements.old → HasSpare elements.new }
     {
-        let text_len = GreenChild::place(elements, first)?;
+        let text_len = GreenChild::place(&mut elements.block.list, first)?;
         let head = GreenNodeHead { kind, text_len };
-        match Front::from_last(alloc, head, elements, first, 2, 2) {
+        match Front::from_last(alloc, head, &mut elements.block.list, first, 2, 2) {
             Ok(data) => Ok(GreenNode { data }),
             Err(_head) => Err(Fault::Memory),
         }
@@ -63,13 +67,13 @@ impl GreenNode {
 
 impl GreenChild {
     // Gives each child of a list from a place on its offset, and says how long their text is, or which limit they pass.
-    fn place(children: &mut Vec<GreenChild>, first: usize) -> Result<TextSize, Fault>
+    fn place(children: &mut Vec<GreenChild, Lodged>, first: usize) -> Result<TextSize, Fault>
         requires { first ≤ length children.old.items }
         ensures ok { IfOk result (λ len. AreSound len (drop first children.new.items)) }
         ensures err { IfErr result (PassesLimit (drop first (map child_term children.old.items))) }
         ensures same { map child_term children.new.items ≡ map child_term children.old.items }
         ensures len { vec_len children.new ≡ vec_len children.old }
-        ensures capacity { vec_capacity children.new ≡ vec_capacity children.old }
+        ensures in_place { IsInPlace children.old children.new }
     {
         let mut text_len = TextSize::from(0);
         for index in first..children.len() {

@@ -79,7 +79,7 @@ returns-in-Some c =
       err = _;
       kept = intern-known cache c.in-Some.number t stands ∙ ap (λ v. intern v t) c.self.view_is;
       unchanged = _;
-      rest = c.truncate-in-Some.ensures;
+      rest = c.truncate.ensures;
       all = _;
     }
 
@@ -132,11 +132,13 @@ invariant_of-self-2 c =
     let stand = StandAt-elements cache ts os ns numbered (subst (λ ps. ListsNumbers ps ns) c.numbers_from.ensures (c.in_ok-write_numbers.ensures.numbers c.if-not-branch.false)) in
     let fresh = c.in_default.ensures.none ts (subst (λ ms. StandAt s.table ms ts) (sym c.as_slice-numbers.ensures.value) stand) refl in
     let made = c.in_ok-clone.ensures.cases ∙ c.in_ok-node-2.ensures.ok ∙ ap (node_of c.args.kind.0) c.elements_from.ensures in
-    let grown : c.keep.new.self ≡ s.table ++ t ∷ [] = c.in_ok-number.ensures.ok ∙ ap (λ (n : NodeTerm). s.table ++ Node n ∷ []) made in
-    (subst (λ us. IsCounted s.limit us s.token_count) (sym grown) (record {
-      first = first_seen-fresh s.limit s.table t c.self.invariant.0.first fit fresh;
-      counted = omega (arith, c.self.invariant.0.counted, count_tokens-push s.table t);
-    }), subst (λ us. AreOfBytes us s.bytes.newest.items) (sym grown) (AreOfBytes-grown s.table t s.bytes.newest.items c.self.invariant.1))
+    let grown : c.keep.new.self ≡ s.table ++ t ∷ [] = c.in_ok-number.ensures.ok ∙ ap (λ (n : NodeTerm). s.table ++ Node n ∷ []) made in (
+      subst (λ us. IsCounted s.limit us s.token_count) (sym grown) (record {
+        first = first_seen-fresh s.limit s.table t c.self.invariant.0.first fit fresh;
+        counted = omega (arith, c.self.invariant.0.counted, count_tokens-push s.table t);
+      }),
+      subst (λ us. AreOfBytes us s.bytes.newest.items) (sym grown) (AreOfBytes-grown s.table t s.bytes.newest.items c.self.invariant.1),
+    )
 
 pub returns : goal.returns
 returns c =

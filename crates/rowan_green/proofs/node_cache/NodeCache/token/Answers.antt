@@ -41,10 +41,11 @@ returns-in-Some-token_number-clause-kept c =
 
 pub invariant_of-self-in_err-number : goal.invariant_of-self-in_err-number
 invariant_of-self-in_err-number c =
-    let s = c.self.inside in
-    (subst (λ ts. IsCounted s.limit ts s.token_count) (sym c.in_err-number.ensures.unchanged) c.self.invariant.0,
-    subst (λ ts. AreOfBytes ts c.reserve.new.self.newest.items) (sym c.in_err-number.ensures.unchanged)
-    (AreOfBytes-from s.table s.bytes.newest.items c.reserve.new.self.newest.items c.self.invariant.1 c.reserve.ensures))
+    let s = c.self.inside in (
+      subst (λ ts. IsCounted s.limit ts s.token_count) (sym c.in_err-number.ensures.unchanged) c.self.invariant.0,
+      subst (λ ts. AreOfBytes ts c.reserve.new.self.newest.items) (sym c.in_err-number.ensures.unchanged)
+          (AreOfBytes-from s.table s.bytes.newest.items c.reserve.new.self.newest.items c.self.invariant.1 c.reserve.ensures),
+    )
 
 pub invariant_of-self-2 : goal.invariant_of-self-2
 invariant_of-self-2 c =
@@ -53,12 +54,14 @@ invariant_of-self-2 c =
     let is : c.in_ok-clone.field-0 ≡ token_of c.args.kind.0 c.args.text.now = c.in_ok-clone.ensures.cases ∙ c.in_ok-token.ensures.ok in
     let grown : c.keep.new.self ≡ s.table ++ t ∷ [] = c.in_ok-number.ensures.ok ∙ ap (λ u. s.table ++ Token u ∷ []) is in
     let fresh : is_among s.table t ≡ false = c.in_default-token_number.ensures.none refl in
-    let reserved = AreOfBytes-from s.table s.bytes.newest.items c.reserve.new.self.newest.items c.self.invariant.1 c.reserve.ensures in
-    (subst (λ ts. IsCounted s.limit ts (s.token_count + 1)) (sym grown) (record {
-      first = first_seen-fresh s.limit s.table t c.self.invariant.0.first refl fresh;
-      counted = omega (arith, c.self.invariant.0.counted, count_tokens-push s.table t);
-    }), subst (λ ts. AreOfBytes ts c.set.new.self.newest.items) (sym grown)
-    (AreOfBytes-set s.table c.args.kind.0 c.in_ok-number.number c.args.text.now c.reserve.new.self.newest.items c.set.new.self.newest.items reserved c.set.ensures c.in_ok-number.ensures.number))
+    let reserved = AreOfBytes-from s.table s.bytes.newest.items c.reserve.new.self.newest.items c.self.invariant.1 c.reserve.ensures in (
+      subst (λ ts. IsCounted s.limit ts (s.token_count + 1)) (sym grown) (record {
+        first = first_seen-fresh s.limit s.table t c.self.invariant.0.first refl fresh;
+        counted = omega (arith, c.self.invariant.0.counted, count_tokens-push s.table t);
+      }),
+      subst (λ ts. AreOfBytes ts c.set.new.self.newest.items) (sym grown)
+          (AreOfBytes-set s.table c.args.kind.0 c.in_ok-number.number c.args.text.now c.reserve.new.self.newest.items c.set.new.self.newest.items reserved c.set.ensures c.in_ok-number.ensures.number),
+    )
 
 pub returns-clause-number : goal.returns-clause-number
 returns-clause-number c =

@@ -1,4 +1,4 @@
-use Rattle.std.proofs.Common.{◌∷◌, [], refl, sym, ◌∙◌, ap, arith}
+use Rattle.std.proofs.Common.{◌∷◌, [], length, refl, sym, ◌∙◌, ap, arith}
 use Rattle.std.proofs.lemmas.List.{length-map}
 use Rattle.rowan_green.specs.declared.utility_types.NodeOrToken.TheVariants.{Node, Token}
 use Rattle.rowan_green.specs.Lent.{pointee}
@@ -11,8 +11,9 @@ use Rattle.rowan_green.proofs.builder.owning.OwningBuilder.tree.Goals as goal
 pub returns-in-Node-clause-ok : goal.returns-in-Node-clause-ok
 returns-in-Node-clause-ok c =
     let s = c.self.inside in
+    let cs = c.elements_from-elements.result.now in
     HasTerms-weave s.parents.items (elements s.finished) (Node c.in-Node.node.now ∷ []) c.args.self.now.word (ap (λ b. b.word) c.self.view_is)
-    (elements-first s.finished.elements.items c.index.result.now (Node c.in-Node.node.now) (omega (arith, c.if-len-ne1.false, c.len.ensures, length-map s.finished.elements.items child_term)) c.index.ensures (sym c.as_ref.ensures ∙ ap pointee c.in-Node.is))
+    (sym c.elements_from-elements.ensures ∙ elements-first cs c.index-elements-0.result (Node c.in-Node.node.now) (omega (arith, c.if-len-ne1.false, c.len.ensures, ap length c.elements_from-elements.ensures, length-map cs child_term)) c.index-elements-0.is (sym c.as_ref.ensures ∙ ap pointee c.in-Node.is))
 
 pub returns-then-len-ne1-clause-err : goal.returns-then-len-ne1-clause-err
 returns-then-len-ne1-clause-err c =
@@ -24,13 +25,9 @@ returns-then-len-ne1-clause-err c =
 
 pub returns-in-Token-clause-err : goal.returns-in-Token-clause-err
 returns-in-Token-clause-err c =
-    let s = c.self.inside in (
+    let s = c.self.inside in
+    let cs = c.elements_from-elements.result.now in (
       c.in-Token.field-0.now,
       HasTerms-weave s.parents.items (elements s.finished) (Token c.in-Token.field-0.now ∷ []) c.args.self.now.word (ap (λ b. b.word) c.self.view_is)
-          (elements-first s.finished.elements.items c.index.result.now (Token c.in-Token.field-0.now) (omega (arith, c.if-len-ne1.false, c.len.ensures, length-map s.finished.elements.items child_term)) c.index.ensures (sym c.as_ref.ensures ∙ ap pointee c.in-Token.is)),
+          (sym c.elements_from-elements.ensures ∙ elements-first cs c.index-elements-0.result (Token c.in-Token.field-0.now) (omega (arith, c.if-len-ne1.false, c.len.ensures, ap length c.elements_from-elements.ensures, length-map cs child_term)) c.index-elements-0.is (sym c.as_ref.ensures ∙ ap pointee c.in-Token.is)),
     )
-
-pub index-requires : goal.index-requires
-index-requires c =
-    let s = c.self.inside in
-    omega (arith, c.if-len-ne1.false, c.len.ensures, length-map s.finished.elements.items child_term, s.finished.elements.ok.0)

@@ -38,4 +38,5 @@ loop-index-preserved c =
       map-set_same child_term cs l.index new old (c.set_rel_offset.ensures.term ∙ ap child_term c.index_mut.ensures.value) ∙ l.invariant.1,
       l.invariant.2,
       l.invariant.3,
+      l.invariant.4,
     )
