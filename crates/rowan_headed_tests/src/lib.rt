@@ -1,10 +1,13 @@
 //! A tree whose nodes are one block each: a type that holds itself through a block of `rowan_headed`.
 #![tactic(auto)]
 
+mod loose;
+
 ghost use Rattle.std.specs.Prelude.{◌≡◌, ◌≤◌, drop, IfOk, OnOk, OnErr, take};
 ghost use Rattle.std.specs.Vec.{vec_len};
 ghost use Rattle.rowan_headed_tests.specs.View.{children_view};
 
+pub use loose::Loose;
 use rowan_counted::{CountBox, Counted};
 use rowan_headed::front::Front;
 use std::alloc::{AllocError, AllocFailed, Global};
@@ -53,22 +56,23 @@ impl Model for Node {
 }
 
 impl Node {
-    // A node with the children of a list from `first` on. A refused call leaves the list as it was.
+    // A node with the loose children from `first` on. A refused call leaves them.
     pub fn from_last(
         alloc: Global,
         head: Head,
-        children: &mut Vec<Child>,
+        loose: &mut Loose,
         first: usize,
     ) -> Result<Node, AllocError>
-        requires { first ≤ vec_len children.old }
-        ensures ok { IfOk result (λ n. n ≡ children_view (drop first children.old.items)) }
-        ensures left { OnOk result (children.new.items ≡ take first children.old.items) }
-        ensures err { OnErr result (children.new ≡ children.old) }
+        requires { first ≤ vec_len loose.old.block.list }
+        ensures ok { let children = loose.old.block.list.items in
+            IfOk result (λ n. n ≡ children_view (drop first children)) }
+        ensures left { OnOk result
+            (loose.new.block.list.items ≡ take first loose.old.block.list.items) }
+        ensures err { OnErr result (loose.new.block.list.items ≡ loose.old.block.list.items) }
     {
-        match Front::from_last(alloc, head, children, first, 2, 2) {
-            Ok(data) => Ok(Node { data }),
-            Err(_head) => Err(AllocError),
-        }
+        Ok(Node {
+            data: loose.split_off(alloc, head, first)?,
+        })
     }
 
     pub fn head(&self) -> Head {

@@ -14,7 +14,7 @@ fn leaf_sum(node: &Node) -> u64 {
 #[test]
 fn leaves_come_back(rt: HostRuntime) -> Result<(), AllocError> {
     let alloc = rt.alloc();
-    let mut list = Vec::new(alloc);
+    let mut list = Loose::with_capacity(alloc, 10)?;
     for k in 0..10u32 {
         list.push(Child::Leaf(k))?;
     }
@@ -32,14 +32,13 @@ fn leaves_come_back(rt: HostRuntime) -> Result<(), AllocError> {
     let copy = node.clone()?;
     drop(node);
     assert!(rt; leaf_sum(&copy) == 42);
-    drop(list);
     Ok(())
 }
 
 #[test]
 fn empty_nodes_are_nodes(rt: HostRuntime) -> Result<(), AllocError> {
     let alloc = rt.alloc();
-    let mut list = Vec::new(alloc);
+    let mut list = Loose::with_capacity(alloc, 2)?;
     let head = Head {
         kind: 1,
         text_len: 0,
@@ -47,14 +46,13 @@ fn empty_nodes_are_nodes(rt: HostRuntime) -> Result<(), AllocError> {
     let node = Node::from_last(alloc, head, &mut list, 0)?;
     assert!(rt; node.children().len() == 0);
     drop(node);
-    drop(list);
     Ok(())
 }
 
 #[test]
 fn deep_trees_are_dropped(rt: HostRuntime) -> Result<(), AllocError> {
     let alloc = rt.alloc();
-    let mut list = Vec::new(alloc);
+    let mut list = Loose::with_capacity(alloc, 2)?;
     let head = Head {
         kind: 1,
         text_len: 0,
@@ -65,7 +63,6 @@ fn deep_trees_are_dropped(rt: HostRuntime) -> Result<(), AllocError> {
         list.push(Child::Node(node))?;
     }
     assert!(rt; list.len() == 1);
-    drop(list);
     Ok(())
 }
 
