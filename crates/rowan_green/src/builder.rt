@@ -61,6 +61,8 @@ impl Model for Checkpoint {
 /// the one with a lent cache; one with its own cache is a `GreenNodeBuilder<'_, OwnCache>`. While a cache is lent the builder
 /// has what is in it, and the drop of the builder, or `finish`, gives it back.
 ///
+/// At most 4,294,967,295 finished elements wait for the nodes that will have them; a call that would add one more answers `Memory`.
+///
 /// A contract sees a builder as its word, which is the accepted calls as openings, leaves and closings, and the value of its
 /// cache. A refused call leaves both as they were. The text so far is that of the accepted tokens, in bytes of UTF-8: the clause
 /// `text` of each call says what becomes of it, and the finished tree has this text.

@@ -1,6 +1,5 @@
 use Rattle.std.proofs.Common.{◌≡◌, ◌≤◌, take}
 use Rattle.std.specs.Vec.{vec_len, vec_capacity}
-use Rattle.rowan_headed.specs.Shape.{IsOpen}
 use Rattle.rowan_green.proofs.green.node.block.ChildBlock.truncate.Given as goal
 
 abbrev pub invariant-loop-self : goal.invariant-loop-self
