@@ -1,8 +1,9 @@
 /* A heap that refuses one request for memory, in place of the toolchain's own.
  *
- * A request is a new block, or another size for a block. REFUSED_REQUEST in the environment is the number of the one that is
- * refused, counted from 1; without it none is. A refusal leaves a line in the program's output, where it stands between the
- * lines of the program, which are written without a buffer. A last line says where not every block was freed.
+ * A request is a new block, or a larger size for a block; a block that gives back what it does not use asks for nothing.
+ * REFUSED_REQUEST in the environment is the number of the one that is refused, counted from 1; without it none is. A refusal
+ * leaves a line in the program's output, where it stands between the lines of the program, which are written without a buffer. A
+ * last line says where not every block was freed.
  *
  * The toolchain's clang compiles this. It has no headers, so what is used of the C library is declared here.
  */
@@ -73,8 +74,7 @@ struct tried rattle_alloc(size_t size, size_t align)
 /* The block with another size, of which its first `kept` bytes stay. */
 struct tried rattle_realloc(void *block, size_t kept, size_t size, size_t align)
 {
-    (void)kept;
-    if (is_refused())
+    if (size > kept && is_refused())
         return none;
     void *moved = realloc(block, size ? size : align);
     if (!moved)

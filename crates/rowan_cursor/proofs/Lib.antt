@@ -13,7 +13,6 @@ pub mod OffsetLemmas
 pub mod PathLemmas
 pub mod PreorderLaws
 pub mod ReplaceLemmas
-pub mod RoomLemmas
 pub mod RowLemmas
 pub mod RowViews
 pub mod SameLemmas

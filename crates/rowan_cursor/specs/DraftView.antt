@@ -1,8 +1,7 @@
 -- A draft: a table that is still to be filled.
-use Rattle.std.specs.Borrow.{Bor}
 use Rattle.std.specs.Prelude.{◌≡◌, ℕ, ◌+◌, List, [], ◌∷◌, ◌++◌, length, Some, slice_get}
 use Rattle.rowan_green.specs.Fits.{FitsNode}
-use Rattle.rowan_green.specs.Term.{NodeTerm, node_children, node_size}
+use Rattle.rowan_green.specs.Term.{NodeTerm, node_children}
 use Rattle.rowan_cursor.specs.declared.table.entry.Entry.{Entry}
 use Rattle.rowan_cursor.specs.declared.table.entry.Inner.{Inner}
 use Rattle.rowan_cursor.specs.declared.table.draft.Draft.{Draft}
@@ -50,8 +49,3 @@ pub record GainsNode (old new : Draft) (start parent : ℕ) (n : NodeTerm) : Typ
   pub first : inner.first_child ≡ old.next_child
   pub next : new.next_child ≡ old.next_child + length (node_children n)
   pub fits : FitsNode n
-
--- how large the nodes of a list are together
-abbrev pub nodes_size : List (Bor NodeTerm) → ℕ
-nodes_size [] = 0
-nodes_size (n ∷ ns) = node_size n.now + nodes_size ns

@@ -5,7 +5,6 @@ mod draft;
 mod entry;
 mod events;
 mod replace;
-mod room;
 mod search;
 
 ghost use Rattle.rowan_cursor.specs.Table.{IsTable, AreNodes, all_facts};

@@ -3,12 +3,17 @@ ghost use Rattle.std.specs.Prelude.{◌≡◌};
 
 use super::Table;
 use super::entry::{Entry, Inner};
-use super::room::Room;
 use rowan_green::green::GreenNode;
 use rowan_green::link::Link;
 use rowan_green::text::TextSize;
 use rowan_green::utility_types::NodeOrToken;
 use std::alloc::{AllocError, Global};
+
+// For how many nodes and tokens there is room at first at least.
+const MIN_FIRST_ROOM: usize = 16;
+
+// And at most: 20 MB.
+const MAX_FIRST_ROOM: usize = 1 << 20;
 
 /// A table that is still to be filled. The entries get their children in order: those of one stand behind those of all before it.
 #[derive(Drop)]
@@ -33,10 +38,10 @@ impl Draft {
         ensures root { IfOk result (λ draft. root_node (entries_of draft) ≡ green) }
         ensures one { IfOk result (λ draft. length (entries_of draft) ≡ 1) }
     {
-        let room = Room::of(alloc, &green)?;
+        let room = first_room(green.text_len());
         let mut draft = Draft {
-            entries: Vec::with_capacity(alloc, room.entries as usize)?,
-            nodes: Vec::with_capacity(alloc, room.nodes as usize)?,
+            entries: Vec::with_capacity(alloc, room)?,
+            nodes: Vec::with_capacity(alloc, room / 2)?,
             next_child: 1,
         };
         draft.push_node(TextSize::from(0), 0, green)?;
@@ -152,7 +157,19 @@ impl Draft {
         requires whole { length (entries_of self) ≡ counts (entries_of self) + 1 }
         ensures { root_of result ≡ root_node (entries_of self) }
     {
-        let Draft { entries, nodes, .. } = self;
+        let Draft {
+            mut entries,
+            mut nodes,
+            ..
+        } = self;
+        entries.shrink_to_fit();
+        nodes.shrink_to_fit();
         Table { entries, nodes }
     }
+}
+
+// For how many nodes and tokens a table asks for room at first: one for each byte of the text, which is more than most trees
+// have, so that its lists need not grow. They do where that is too little, and give back what is left over at the end.
+fn first_room(text_len: TextSize) -> usize {
+    (u32::from(text_len) as usize).clamp(MIN_FIRST_ROOM, MAX_FIRST_ROOM)
 }

@@ -71,6 +71,7 @@ impl Table {
 
     // The only child that can be the one at a range; none, if there are no children. By halves: it reads entries alone, which
     // stand side by side. Counts the comparisons.
+    #[inline(always)]
     fn only_child_at(&self, parent: &Place, range: TextRange, steps: &mut Steps) -> Option<Place>
         requires place { IsPlace self.now parent.now }
         requires from { parent.now.range.start ≤ range.start }
@@ -107,7 +108,9 @@ impl Table {
         Some(Place { number, range })
     }
 
-    // The child at a range of the root's text. Counts the comparisons.
+    // The child at a range of the root's text. Counts the comparisons. Inlined, so that a search that goes down the tree makes no
+    // call for each node, and where nobody reads the count there is none.
+    #[inline(always)]
     fn child_in(&self, parent: &Place, range: TextRange, steps: &mut Steps) -> Option<Place>
         requires { IsPlace self.now parent.now }
 
