@@ -9,11 +9,11 @@ use rowan_green::text::TextSize;
 use rowan_green::utility_types::NodeOrToken;
 use std::alloc::{AllocError, Global};
 
-// For how many nodes and tokens there is room at first at least.
-const MIN_FIRST_ROOM: usize = 16;
+// For how many bytes of text a table asks for room at first, at least.
+const MIN_FIRST_BYTES: usize = 16;
 
-// And at most: 20 MB.
-const MAX_FIRST_ROOM: usize = 1 << 20;
+// And at most: for 27 MB of memory.
+const MAX_FIRST_BYTES: usize = 1 << 21;
 
 /// A table that is still to be filled. The entries get their children in order: those of one stand behind those of all before it.
 #[derive(Drop)]
@@ -38,10 +38,11 @@ impl Draft {
         ensures root { IfOk result (λ draft. root_node (entries_of draft) ≡ green) }
         ensures one { IfOk result (λ draft. length (entries_of draft) ≡ 1) }
     {
-        let room = first_room(green.text_len());
+        let bytes = first_bytes(green.text_len());
         let mut draft = Draft {
-            entries: Vec::with_capacity(alloc, room)?,
-            nodes: Vec::with_capacity(alloc, room / 2)?,
+            // Three nodes and tokens in four bytes, and one of them a node, are more than most trees have.
+            entries: Vec::with_capacity(alloc, bytes - bytes / 4)?,
+            nodes: Vec::with_capacity(alloc, bytes / 4)?,
             next_child: 1,
         };
         draft.push_node(TextSize::from(0), 0, green)?;
@@ -162,14 +163,24 @@ impl Draft {
             mut nodes,
             ..
         } = self;
-        entries.shrink_to_fit();
-        nodes.shrink_to_fit();
+        give_back(&mut entries);
+        give_back(&mut nodes);
         Table { entries, nodes }
     }
 }
 
-// For how many nodes and tokens a table asks for room at first: one for each byte of the text, which is more than most trees
-// have, so that its lists need not grow. They do where that is too little, and give back what is left over at the end.
-fn first_room(text_len: TextSize) -> usize {
-    (u32::from(text_len) as usize).clamp(MIN_FIRST_ROOM, MAX_FIRST_ROOM)
+// For how many bytes of text a table asks for room at first: for all of a text, so that its lists need not grow. They do where
+// the text has more nodes and tokens than there is room for, or more bytes.
+fn first_bytes(text_len: TextSize) -> usize {
+    (u32::from(text_len) as usize).clamp(MIN_FIRST_BYTES, MAX_FIRST_BYTES)
+}
+
+// Gives back what a list has left over, where it fills less than half of its room. Else the room stays: a block that got smaller
+// would make the allocator take the one of the next table from the system again, page by page.
+fn give_back<T>(list: &mut Vec<T>)
+    ensures { list.new.items ≡ list.old.items }
+{
+    if list.len() < list.capacity() / 2 {
+        list.shrink_to_fit();
+    }
 }

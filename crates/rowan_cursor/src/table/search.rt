@@ -13,7 +13,6 @@ use super::Table;
 use rowan_green::steps::Steps;
 use rowan_green::text::{TextRange, TextSize};
 use rowan_green::utility_types::TokenAtOffset;
-use std::cmp::Ordering;
 
 /// An entry, and where its text lies.
 #[derive(Clone, Copy)]
@@ -97,10 +96,12 @@ impl Table {
             let number = children.start + middle;
             let own = self.child_range(number, children.end, end);
             steps.compare();
-            match own.ordering(range) {
-                Ordering::Less => low = middle + 1,
-                Ordering::Equal => return Some(Place { number, range: own }),
-                Ordering::Greater => high = middle,
+            if own.end() <= range.start() {
+                low = middle + 1;
+            } else if range.end() <= own.start() {
+                high = middle;
+            } else {
+                return Some(Place { number, range: own });
             }
         }
         let number = children.start + low.saturating_sub(1);
@@ -144,6 +145,7 @@ impl Table {
     }
 
     // The place of the element that covers a range, of those at and below a place.
+    #[inline(always)]
     fn covering(&self, top: &Place, range: TextRange) -> Place
         requires { IsPlace self.now top.now }
         ensures covers { let here = path_at self.now top.now.number in

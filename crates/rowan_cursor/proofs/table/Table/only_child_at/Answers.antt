@@ -1,4 +1,4 @@
-use Rattle.std.proofs.Common.{◌≡◌, ◌≢◌, ℕ, ◌+◌, ◌-◌, ◌/◌, ◌<◌, ◌≤◌, ap, sym, refl, subst, arith}
+use Rattle.std.proofs.Common.{◌≡◌, ◌≢◌, ℕ, ◌+◌, ◌-◌, ◌/◌, ◌<◌, ◌≤◌, ap, sym, refl, subst, rules, arith}
 use Rattle.rowan_green.specs.declared.utility_types.NodeOrToken.TheVariants.{Node}
 use Rattle.rowan_green.specs.Path.{subterm, offset}
 use Rattle.rowan_green.specs.Search.{IsOnlyChoice}
@@ -48,12 +48,12 @@ child_range-own-requires c =
     let here = at_middle c.requires.place c.child_numbers-children.ensures.row c.loop-low.invariant.0 c.loop-low-test.true in
     here.up _ c.end-end.ensures.offset
 
-pub loop-low-preserved-in-Less : goal.loop-low-preserved-in-Less
-loop-low-preserved-in-Less c =
+pub loop-low-preserved-then-le : goal.loop-low-preserved-then-le
+loop-low-preserved-then-le c =
     let here = at_middle c.requires.place c.child_numbers-children.ensures.row c.loop-low.invariant.0 c.loop-low-test.true in
     let lies = place_lies here c.child_range-own.ensures in
-    let less = c.in-Less.ensures.less.0 refl in (
-      narrowed-less _ _ _ _ _ _ c.loop-low.invariant.0 (omega (arith, c.loop-low-test.true)) (omega (arith, less, lies.1)),
+    let ends : c.end.result ≤ c.start.result = search rules in (
+      narrowed-less _ _ _ _ _ _ c.loop-low.invariant.0 (omega (arith, c.loop-low-test.true)) (omega (arith, ends, c.end.ensures.offset, c.start.ensures.offset, lies.1)),
       IsCounted-step _ _ _ _ _ _ c.loop-low.invariant.1 (omega (arith, c.loop-low-test.true)) (omega arith) c.compare.ensures.comparisons c.compare.ensures.grows,
       omega arith,
     )
@@ -63,33 +63,35 @@ loop-low-preserved c =
     let here = at_middle c.requires.place c.child_numbers-children.ensures.row c.loop-low.invariant.0 c.loop-low-test.true in
     let lies = place_lies here c.child_range-own.ensures in
     let from = from_start c.requires.place c.requires.from in
-    let greater = c.in-Greater.ensures.greater.0 refl in (
-      narrowed-greater _ _ _ _ _ _ c.loop-low.invariant.0 (omega arith) (omega (arith, c.loop-low-test.true)) (omega (arith, greater.0, lies.1, from)) (omega (arith, greater.1, lies.0)),
+    let behind : c.start.result < c.end.result = search rules in
+    let starts : c.end-else-le.result ≤ c.start-else-le.result = search rules in (
+      narrowed-greater _ _ _ _ _ _ c.loop-low.invariant.0 (omega arith) (omega (arith, c.loop-low-test.true)) (omega (arith, behind, c.end.ensures.offset, c.start.ensures.offset, lies.1, from)) (omega (arith, starts, c.end-else-le.ensures.offset, c.start-else-le.ensures.offset, lies.0)),
       IsCounted-step _ _ _ _ _ _ c.loop-low.invariant.1 (omega (arith, c.loop-low-test.true)) (omega arith) c.compare.ensures.comparisons c.compare.ensures.grows,
       omega arith,
     )
 
-pub returns-in-Equal-clause-only : goal.returns-in-Equal-clause-only
-returns-in-Equal-clause-only c =
+pub returns-else-le-2-clause-only : goal.returns-else-le-2-clause-only
+returns-else-le-2-clause-only c =
     let here = at_middle c.requires.place c.child_numbers-children.ensures.row c.loop-low.invariant.0 c.loop-low-test.true in
     let lies = place_lies here c.child_range-own.ensures in
     let from = from_start c.requires.place c.requires.from in
-    let over = c.in-Equal.ensures.equal.0 refl in
+    let behind : c.start.result < c.end.result = search rules in
+    let over : c.start-else-le.result < c.end-else-le.result = search rules in
     only_range_child _ c.args.range _ _ _ here.path here.count from
-    (λ ordered. overlap-choice _ _ _ _ ordered (omega (arith, over.0, lies.1, from)) (omega (arith, over.1, lies.0, from)))
+    (λ ordered. overlap-choice _ _ _ _ ordered (omega (arith, behind, c.end.ensures.offset, c.start.ensures.offset, lies.1, from)) (omega (arith, over, c.end-else-le.ensures.offset, c.start-else-le.ensures.offset, lies.0, from)))
 
-pub returns-in-Equal-clause-place : goal.returns-in-Equal-clause-place
-returns-in-Equal-clause-place c =
+pub returns-else-le-2-clause-place : goal.returns-else-le-2-clause-place
+returns-else-le-2-clause-place c =
     let here = at_middle c.requires.place c.child_numbers-children.ensures.row c.loop-low.invariant.0 c.loop-low-test.true in
     record { within = here.within; lies = c.child_range-own.ensures }
 
-pub returns-in-Equal-clause-later : goal.returns-in-Equal-clause-later
-returns-in-Equal-clause-later c =
+pub returns-else-le-2-clause-later : goal.returns-else-le-2-clause-later
+returns-else-le-2-clause-later c =
     let here = at_middle c.requires.place c.child_numbers-children.ensures.row c.loop-low.invariant.0 c.loop-low-test.true in
     here.later
 
-pub returns-in-Equal-clause-counts : goal.returns-in-Equal-clause-counts
-returns-in-Equal-clause-counts c =
+pub returns-else-le-2-clause-counts : goal.returns-else-le-2-clause-counts
+returns-else-le-2-clause-counts c =
     let counted = IsCounted-step _ _ 0 _ _ _ c.loop-low.invariant.1 (omega (arith, c.loop-low-test.true)) (omega arith) c.compare.ensures.comparisons c.compare.ensures.grows in
     record { most = omega (arith, counted.most); least = λ _ below. omega arith; grows = omega arith; visits = omega arith }
 
