@@ -1,5 +1,6 @@
 -- A draft: a table that is still to be filled.
-use Rattle.std.specs.Prelude.{◌≡◌, ℕ, ◌+◌, List, [], ◌∷◌, ◌++◌, length, Some, slice_get}
+use Rattle.std.specs.Prelude.{◌≡◌, ℕ, ◌+◌, ◌≤◌, List, [], ◌∷◌, ◌++◌, length, Some, slice_get}
+use Rattle.std.specs.Vec.{vec_len, vec_capacity}
 use Rattle.rowan_green.specs.Fits.{FitsNode}
 use Rattle.rowan_green.specs.Term.{NodeTerm, node_children}
 use Rattle.rowan_cursor.specs.declared.table.entry.Entry.{Entry}
@@ -49,3 +50,18 @@ pub record GainsNode (old new : Draft) (start parent : ℕ) (n : NodeTerm) : Typ
   pub first : inner.first_child ≡ old.next_child
   pub next : new.next_child ≡ old.next_child + length (node_children n)
   pub fits : FitsNode n
+
+-- the lists have room for so many more
+pub record HasRoom (d : Draft) (count : ℕ) : Type 0 where
+  pub entries : vec_len d.entries + count ≤ vec_capacity d.entries
+  pub nodes : vec_len d.nodes + count ≤ vec_capacity d.nodes
+
+-- one place was taken of the room, at most
+abbrev pub TakesPlace : Draft → Draft → Type 0
+TakesPlace old new = (count : ℕ) → HasRoom old (count + 1) → HasRoom new count
+
+-- the entries and the nodes are as they were
+pub record IsKept (old new : Draft) : Type 0 where
+  pub entries : new.entries.items ≡ old.entries.items
+  pub nodes : new.nodes.items ≡ old.nodes.items
+  pub next : new.next_child ≡ old.next_child

@@ -1,5 +1,5 @@
 //! Filling a table: level by level, in one pass.
-ghost use Rattle.std.specs.Prelude.{◌≡◌};
+ghost use Rattle.std.specs.Prelude.{◌≡◌, ◌≤◌};
 
 use super::Table;
 use super::entry::{Entry, Inner};
@@ -28,7 +28,7 @@ impl Draft {
     ghost use Rattle.std.specs.Prelude.{◌≡◌, ◌+◌, ◌<◌, Some, IfOk, OnOk, length, take, slice_get};
     ghost use Rattle.rowan_green.specs.Lent.{pointee};
     ghost use Rattle.rowan_green.specs.Term.{node_children};
-    ghost use Rattle.rowan_cursor.specs.DraftView.{IsFilled, IsInnerOf, AddsChild, GainsNode, entries_of};
+    ghost use Rattle.rowan_cursor.specs.DraftView.{IsFilled, IsInnerOf, AddsChild, GainsNode, HasRoom, IsKept, TakesPlace, entries_of};
     ghost use Rattle.rowan_cursor.specs.Table.{IsNextIndex, GainsChildren, counts, root_node};
     ghost use Rattle.rowan_cursor.specs.TableView.{root_of};
 
@@ -56,7 +56,16 @@ impl Draft {
         self.entries.len()
     }
 
-    // Adds the entry of a node. Refused, too, where there are no more numbers.
+    // Makes room for so many nodes and tokens more, of which all may be nodes.
+    fn reserve(&mut self, additional: usize) -> Result<(), AllocError>
+        ensures kept { IsKept self.old self.new }
+        ensures room { OnOk result (HasRoom self.new additional) }
+    {
+        self.entries.reserve(additional)?;
+        self.nodes.reserve(additional)
+    }
+
+    // Adds the entry of a node, for which there is room. Refused where there are no more numbers.
     #[inline(always)]
     fn push_node(
         &mut self,
@@ -64,7 +73,9 @@ impl Draft {
         parent: u32,
         green: GreenNode,
     ) -> Result<(), AllocError>
-        ensures { OnOk result (GainsNode self.old self.new start parent green) }
+        requires { HasRoom self.old 1 }
+        ensures gained { OnOk result (GainsNode self.old self.new start parent green) }
+        ensures room { OnOk result (TakesPlace self.old self.new) }
     {
         let text_len = green.text_len();
         let first_child = self.next_child;
@@ -75,16 +86,16 @@ impl Draft {
         if number >= u32::MAX as usize {
             return Err(AllocError);
         }
-        self.nodes.push(Inner {
+        self.nodes.push_reserved(Inner {
             green,
             text_len,
             first_child,
-        })?;
-        self.entries.push(Entry {
+        });
+        self.entries.push_reserved(Entry {
             start,
             parent,
             node: Link::to(number as u32),
-        })?;
+        });
         self.next_child = next_child;
         Ok(())
     }
@@ -110,13 +121,15 @@ impl Draft {
             return Err(AllocError);
         };
         let count = self.nodes[node as usize].green.children().len() as u32;
+        self.reserve(count as usize)?;
         for index in 0..count {
             self.push_child(above, entry.start, node, index)?;
         }
         Ok(())
     }
 
-    // Adds the child at an index of a node whose text starts there. The child's number is the next. A node is shared.
+    // Adds the child at an index of a node whose text starts there, for which there is room. The child's number is the next. A node
+    // is shared.
     #[inline(always)]
     fn push_child(
         &mut self,
@@ -129,9 +142,11 @@ impl Draft {
         requires draft { IsFilled (parent + 1) self.old }
         requires place { IsNextIndex (entries_of self.old) parent index }
         requires node { IsInnerOf self.old parent start node }
+        requires room { HasRoom self.old 1 }
 
         // this one is added
-        ensures { OnOk result (AddsChild self.old self.new parent start node index) }
+        ensures added { OnOk result (AddsChild self.old self.new parent start node index) }
+        ensures room { OnOk result (TakesPlace self.old self.new) }
     {
         let Some(found) = self.nodes[node as usize].green.child_ref(index as usize) else {
             unreachable!();
@@ -142,13 +157,14 @@ impl Draft {
                 let child = child.clone()?;
                 self.push_node(start, parent, child)
             }
-            NodeOrToken::Token(_) => Ok(
-                self.entries.push(Entry {
+            NodeOrToken::Token(_) => {
+                self.entries.push_reserved(Entry {
                     start,
                     parent,
                     node: Link::none(),
-                })?,
-            ),
+                });
+                Ok(())
+            }
         }
     }
 
@@ -171,7 +187,9 @@ impl Draft {
 
 // For how many bytes of text a table asks for room at first: for all of a text, so that its lists need not grow. They do where
 // the text has more nodes and tokens than there is room for, or more bytes.
-fn first_bytes(text_len: TextSize) -> usize {
+fn first_bytes(text_len: TextSize) -> usize
+    ensures { 16 ≤ result }
+{
     (u32::from(text_len) as usize).clamp(MIN_FIRST_BYTES, MAX_FIRST_BYTES)
 }
 

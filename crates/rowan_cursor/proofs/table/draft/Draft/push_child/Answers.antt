@@ -43,8 +43,14 @@ overflow_add-from c =
     let above = node_above d c.args.parent c.args.index c.args.node 0 e x r.at r.node found in
     omega (arith, r.begins, c.from.ensures, c.from-2.ensures, c.in-Some.ensures.some.0, start_within (c.args.parent + 1) (entries_of d) c.requires.draft.draft c.args.parent (told e (Some x)) x.green above refl c.args.index)
 
-pub returns-in_ok-child-in-Node : goal.returns-in_ok-child-in-Node
-returns-in_ok-child-in-Node c =
+pub push_node-requires : goal.push_node-requires
+push_node-requires c = c.requires.room
+
+pub push_reserved-requires : goal.push_reserved-requires
+push_reserved-requires c = omega (arith, c.requires.room.entries)
+
+pub returns-in_ok-child-in-Node-clause-added : goal.returns-in_ok-child-in-Node-clause-added
+returns-in_ok-child-in-Node-clause-added c =
     let d = c.args.self.now in
     let r = c.requires.node in
     let e = r.entry in
@@ -54,10 +60,19 @@ returns-in_ok-child-in-Node c =
     let shared = ap (λ o. into_node (pointee o)) c.in-Node.is ∙ ap (λ m. Some m) (sym c.in_ok-child-in-Node.ensures.cases) in
     on_ok c.push_node.result
     (λ g. subst (λ s. AddsChild d c.push_node.new.self c.args.parent s c.args.node c.args.index) r.begins (adds_node d c.args.parent c.args.index c.args.node c.from-start.result e x r.at r.node found c.requires.draft c.requires.place (pointee c.in-Some.found.1) c.in-Some.ensures.some.1 start c.push_node.new.self c.in_ok-child-in-Node.child g shared))
-    c.push_node.ensures
+    c.push_node.ensures.gained
 
-pub returns-in_ok-push-in-Token : goal.returns-in_ok-push-in-Token
-returns-in_ok-push-in-Token c =
+pub returns-in_ok-child-in-Node-clause-room : goal.returns-in_ok-child-in-Node-clause-room
+returns-in_ok-child-in-Node-clause-room c = c.push_node.ensures.room
+
+pub returns-in-Token-clause-room : goal.returns-in-Token-clause-room
+returns-in-Token-clause-room c = λ count h. record {
+  entries = omega (arith, h.entries, c.push_reserved.ensures.len, c.push_reserved.ensures.capacity);
+  nodes = omega (arith, h.nodes);
+}
+
+pub returns-in-Token-clause-added : goal.returns-in-Token-clause-added
+returns-in-Token-clause-added c =
     let d = c.args.self.now in
     let r = c.requires.node in
     let e = r.entry in
@@ -70,12 +85,12 @@ returns-in_ok-push-in-Token c =
       node = c.none.result;
     } in
     let new : Draft = record {
-      entries = c.push.new.self;
+      entries = c.push_reserved.new.self;
       nodes = d.nodes;
       next_child = d.next_child;
     } in
     let gained : GainsEntry d new y = record {
-      entries = c.in_ok-push-in-Token.ensures.items;
+      entries = c.push_reserved.ensures.items;
       nodes = refl;
       next = refl;
     } in
