@@ -92,7 +92,8 @@ impl GreenNode {
     {
         let new_children = replace_with.into_iter();
         let kept = self.child_count() - (range.end - range.start);
-        let mut draft = self.draft_before(range.start, kept)?;
+        let room = kept.saturating_add(new_children.size_hint().0);
+        let mut draft = self.draft_before(range.start, room.min(u32::MAX as usize))?;
         for element in new_children {
             draft.push(element)?;
         }
