@@ -1,11 +1,8 @@
 -- A node is larger than its children together, and a list of children than each of them.
-use Rattle.std.proofs.Common.{◌≡◌, ℕ, ◌+◌, ◌*◌, ◌≤◌, ◌<◌, zero, suc, List, [], ◌∷◌, ◌++◌, length, get_or, map, refl, ap, arith}
+use Rattle.std.proofs.Common.{◌≡◌, ℕ, ◌+◌, ◌≤◌, ◌<◌, zero, suc, List, [], ◌∷◌, ◌++◌, length, get_or, map, refl, ap, arith}
 use Rattle.rowan_green.specs.declared.green.node.GreenChild.{GreenChild}
-use Rattle.rowan_green.specs.declared.green.node.GreenChild.TheVariants.{Node, Token}
+use Rattle.rowan_green.specs.declared.green.node.block.ChildBlock.{ChildBlock}
 use Rattle.rowan_green.specs.Term.{NodeTerm, node, Forest, empty, node_then, token_then, node_children, node_size, forest_size, terms}
-use denote.Param.Weighed.{most, w_this}
-use Rattle.rowan_green.specs.declared.green.node.GreenNode.TheView.{size}
-use Rattle.rowan_green.specs.declared.green.node.GreenNode.TheDeep.{size-GreenChild}
 use Rattle.rowan_green.specs.View.{child_term}
 use Rattle.rowan_green.specs.Sizes.{term_size, terms_size, children_size, kept_size}
 use Rattle.std.specs.Mem.{manually_drop_value}
@@ -23,28 +20,16 @@ pub children_size-append : (cs ds : List GreenChild) → children_size (cs ++ ds
 children_size-append [] ds = omega arith
 children_size-append (c ∷ cs) ds = omega (arith, children_size-append cs ds)
 
-kept_size-append : (ms ns : List (ManuallyDrop NodeTerm)) → kept_size (ms ++ ns) ≡ kept_size ms + kept_size ns
-kept_size-append [] ns = omega arith
-kept_size-append (m ∷ ms) ns = omega (arith, kept_size-append ms ns)
+kept_size-append : (bs cs : List (ManuallyDrop ChildBlock)) → kept_size (bs ++ cs) ≡ kept_size bs + kept_size cs
+kept_size-append [] cs = omega arith
+kept_size-append (b ∷ bs) cs = omega (arith, kept_size-append bs cs)
 
 -- the last of a list left it, or came to it
-pub kept-last : (short long : List (ManuallyDrop NodeTerm)) (m : ManuallyDrop NodeTerm) → long ≡ short ++ m ∷ [] → kept_size long ≡ kept_size short + node_size (manually_drop_value m)
-kept-last short long m e = omega (arith, ap kept_size e, kept_size-append short (m ∷ []))
+pub kept-last : (short long : List (ManuallyDrop ChildBlock)) (b : ManuallyDrop ChildBlock) → long ≡ short ++ b ∷ [] → kept_size long ≡ kept_size short + children_size (manually_drop_value b).block.list.items + 1
+kept-last short long b e = omega (arith, ap kept_size e, kept_size-append short (b ∷ []))
 
 pub children_size-last : (short long : List GreenChild) (c : GreenChild) → long ≡ short ++ c ∷ [] → children_size long ≡ children_size short + term_size (child_term c)
 children_size-last short long c e = omega (arith, ap children_size e, children_size-append short (c ∷ []))
-
-pub size_is : (n : NodeTerm) → size n ≡ node_size n
-size_is n = refl
-
-size_le-term : (c : GreenChild) → size-GreenChild c ≤ 3 * term_size (child_term c) + 1
-size_le-term (Node at n) = omega arith
-size_le-term (Token at t) = omega arith
-
--- no child in the list is deeper than all of them together
-pub most_le-children_size : (cs : List GreenChild) → most (w_this.weight GreenChild size-GreenChild) cs ≤ 3 * children_size cs + 1
-most_le-children_size [] = omega arith
-most_le-children_size (c ∷ cs) = omega (arith, size_le-term c, most_le-children_size cs)
 
 pub term_size_le-children_size : (cs : List GreenChild) (i : ℕ) (d : GreenChild) → i < length cs → term_size (child_term (get_or cs i d)) ≤ children_size cs
 term_size_le-children_size [] i d h = absurd (omega arith)

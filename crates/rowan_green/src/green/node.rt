@@ -19,11 +19,11 @@ use crate::utility_types::NodeOrToken;
 pub(crate) use block::ChildBlock;
 use rowan_counted::{CountBox, Counted};
 use rowan_headed::front::Front;
-use std::alloc::{AllocError, AllocFailed, Global};
+use std::alloc::{AllocError, Global};
 use std::fmt::{self, Display};
 use std::hash::{Hash, Hasher};
 use std::marker::Model;
-use std::mem::{ManuallyDrop, size_of};
+use std::mem::size_of;
 
 /// An inner part of a tree: a kind and a list of children. A clone shares them, and is an `Err` where the node cannot be shared
 /// once more, since the count of its owners is full.
@@ -319,55 +319,27 @@ impl GreenNode {
     }
 }
 
-// A loop over a list of the nodes that are still to be dropped, so that a deep tree does not run out of stack. A node of tokens
-// alone asks for no memory.
+// Where the node has other owners, this is a step of their count and no call. Else its block is dropped, by a loop.
 impl Drop for GreenNode {
-    #[cycle(drop)]
+    #[inline(always)]
     fn drop(self) {
-        let mut rest = Vec::new(self.allocator());
-        self.drop_into(&mut rest);
-        while let Some(node) = rest.pop() {
-            ManuallyDrop::into_inner(node).drop_into(&mut rest);
+        if let Some(block) = self.release() {
+            drop(block);
         }
     }
 }
 
 impl GreenNode {
-    ghost use Rattle.rowan_green.specs.Sizes.{kept_size};
+    ghost use Rattle.rowan_green.specs.Sizes.{children_size};
 
-    // Drops the node, but for the nodes among its children, which go to the end of the list. Where the memory for that is refused,
-    // they are dropped, too.
-    #[cycle(drop)]
-    fn drop_into(self, rest: &mut Vec<ManuallyDrop<GreenNode>>)
-        ensures { kept_size rest.new.items < kept_size rest.old.items + node_size self }
+    // Gives this owner up. The last one gets the block of the children.
+    #[inline(always)]
+    fn release(self) -> Option<ChildBlock>
+        ensures { IfSome result (λ b. children_size b.block.list.items < node_size self) }
     {
         let GreenNode { data } = self;
-        let Some((_head, mut block)) = Front::release(data, 2, 2) else {
-            return;
-        };
-        while block.list.len() > 0 {
-            match block.list.take_last() {
-                GreenChild::Node { node, .. } => GreenNode::put_off(node, rest),
-                GreenChild::Token { token, .. } => drop(token),
-            }
-        }
-        block.free(2, 2);
-    }
-
-    // Puts the node to the end of the list, or drops it where the memory for that is refused.
-    #[cycle(drop)]
-    fn put_off(self, rest: &mut Vec<ManuallyDrop<GreenNode>>)
-        ensures { kept_size rest.new.items ≤ kept_size rest.old.items + node_size self }
-    {
-        // What is put off is dropped when its turn comes.
-        let node = unsafe { ManuallyDrop::new_unchecked(self) };
-        match rest.push(node) {
-            Ok(()) => {}
-            Err(refused) => {
-                let AllocFailed { value } = refused;
-                drop(ManuallyDrop::into_inner(value));
-            }
-        }
+        let (_head, block) = Front::release(data, 2, 2)?;
+        Some(ChildBlock { block })
     }
 }
 

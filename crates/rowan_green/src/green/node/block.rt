@@ -1,4 +1,5 @@
-//! The block of a node that is being made: its children go straight into the memory that the node will have.
+//! The block of a node that is being made, whose children go straight into the memory that the node will have, and how a block is
+//! dropped.
 ghost use Rattle.std.specs.Prelude.{◌≡◌, ◌<◌, ◌≤◌, [], ◌∷◌, ◌++◌, length, take, max, OnOk, OnErr, IfOk, IfSome, IsNone};
 ghost use Rattle.std.specs.Vec.{vec_len, vec_capacity};
 ghost use Rattle.rowan_headed.specs.Shape.{IsOpen, IsHeaded, head_of, items_of, room_of};
@@ -6,21 +7,68 @@ ghost use Rattle.rowan_headed.specs.Shape.{IsOpen, IsHeaded, head_of, items_of, 
 use super::{GreenChild, GreenNodeHead};
 use rowan_counted::Counted;
 use rowan_headed::front::{Front, Open};
-use std::alloc::{AllocError, Global};
+use std::alloc::{AllocError, AllocFailed, Global};
+use std::mem::ManuallyDrop;
 
-/// The children of a node that has no head yet, or those that wait for their nodes.
+/// The children of a node that has no head yet, those that wait for their nodes, or those that the last owner of a node left.
 pub(crate) struct ChildBlock {
     pub(crate) block: Open<GreenNodeHead, GreenChild, Global>,
     pub(crate) ghost shape: { IsOpen 2 2 block },
 }
 
+// A loop over a list of the blocks that are still to be dropped, so that a deep tree does not run out of stack. A block whose nodes
+// all have other owners asks for no memory. It stands apart, so that a node's drop stays small where it is inlined.
 impl Drop for ChildBlock {
+    #[cycle(drop)]
+    #[inline(never)]
     fn drop(self) {
+        let mut rest = Vec::new(self.block.alloc);
+        self.drop_into(&mut rest);
+        while let Some(block) = rest.pop() {
+            ManuallyDrop::into_inner(block).drop_into(&mut rest);
+        }
+    }
+}
+
+impl ChildBlock {
+    ghost use Rattle.std.specs.Prelude.{◌+◌};
+    ghost use Rattle.rowan_green.specs.Sizes.{children_size, kept_size};
+
+    // Drops the block with its children. Where that was the last owner of a node, the node's own block goes to the end of the list.
+    #[cycle(drop)]
+    fn drop_into(self, rest: &mut Vec<ManuallyDrop<ChildBlock>>)
+        ensures { kept_size rest.new.items
+            ≤ kept_size rest.old.items + children_size self.block.list.items }
+    {
         let ChildBlock { mut block } = self;
         while block.list.len() > 0 {
-            drop(block.list.take_last());
+            match block.list.take_last() {
+                GreenChild::Node { node, .. } => {
+                    if let Some(inner) = node.release() {
+                        inner.put_off(rest);
+                    }
+                }
+                GreenChild::Token { token, .. } => drop(token),
+            }
         }
         block.free(2, 2);
+    }
+
+    // Puts the block to the end of the list, or drops it where the memory for that is refused.
+    #[cycle(drop)]
+    fn put_off(self, rest: &mut Vec<ManuallyDrop<ChildBlock>>)
+        ensures { kept_size rest.new.items
+            ≤ kept_size rest.old.items + children_size self.block.list.items + 1 }
+    {
+        // What is put off is dropped when its turn comes.
+        let block = unsafe { ManuallyDrop::new_unchecked(self) };
+        match rest.push(block) {
+            Ok(()) => {}
+            Err(refused) => {
+                let AllocFailed { value } = refused;
+                drop(ManuallyDrop::into_inner(value));
+            }
+        }
     }
 }
 
