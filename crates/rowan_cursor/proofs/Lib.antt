@@ -4,6 +4,7 @@ pub mod ClimbLemmas
 pub mod CoverLemmas
 pub mod EndLemmas
 pub mod EventLemmas
+pub mod DraftLemmas
 pub mod FillLemmas
 pub mod FoldLemmas
 pub mod InnerLemmas

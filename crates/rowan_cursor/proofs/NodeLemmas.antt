@@ -6,15 +6,15 @@ use Rattle.std.proofs.lemmas.List.Sums.{sum_by-append, sum_by_more}
 use Rattle.std.proofs.lemmas.Option.{slice_get_within, get_or_from_slice_get, none-some, same_Some}
 use Rattle.rowan_green.specs.Lent.{into_node}
 use Rattle.rowan_green.specs.Search.{child_start}
-use Rattle.rowan_green.specs.Term.{NodeTerm, Term, node_children}
+use Rattle.rowan_green.specs.Fits.{FitsNode}
+use Rattle.rowan_green.specs.Term.{Term, node_children}
 use Rattle.rowan_green.proofs.CacheLemmas.{slice_get-cases, slice_get-grown, slice_get-last}
 use Rattle.rowan_green.proofs.TableLemmas.{at_map}
 use Rattle.rowan_cursor.specs.declared.table.entry.Entry.{Entry}
 use Rattle.rowan_cursor.specs.declared.table.entry.Inner.{Inner}
-use Rattle.rowan_cursor.specs.declared.table.draft.Draft.{Draft}
-use Rattle.rowan_cursor.specs.DraftView.{entries_of, IsFilled, IsInnerOf, AddsChild, GainsEntry, GainsNode}
-use Rattle.rowan_cursor.specs.Table.{Facts, IsDraft, AreNodes, IsNextIndex, GainsChild, first_after, inner_at, told, facts_of, all_facts, counts, child_counts, children_in, green_of}
-use Rattle.rowan_cursor.proofs.FillLemmas.{IsNextChild, IsDraft-push, IsDraft-one, next_child}
+use Rattle.rowan_cursor.specs.DraftView.{ArePlanned}
+use Rattle.rowan_cursor.specs.Table.{Facts, IsDraft, AreNodes, first_after, inner_at, told, facts_of, all_facts, counts, child_counts, children_in, green_of}
+use Rattle.rowan_cursor.proofs.FillLemmas.{IsNextChild, IsDraft-push, IsDraft-more, IsDraft-one, next_child}
 use Rattle.rowan_cursor.proofs.TableLemmas.{slice_get-some}
 
 -- ---- what entries tell
@@ -37,7 +37,7 @@ all_facts-grown ns x (e ∷ es) there =
 
 -- ---- where the children of a node end
 
-child_counts-more : (ns : List Inner) (k : ℕ) (x : Inner) → slice_get ns k ≡ Some x → child_counts (take (k + 1) ns) ≡ child_counts (take k ns) + length (node_children x.green)
+pub child_counts-more : (ns : List Inner) (k : ℕ) (x : Inner) → slice_get ns k ≡ Some x → child_counts (take (k + 1) ns) ≡ child_counts (take k ns) + length (node_children x.green)
 child_counts-more ns k x at =
     sum_by_more (λ (y : Inner). length (node_children y.green)) ns k x (slice_get_within ns k x at)
     ∙ ap (λ (y : Inner). child_counts (take k ns) + length (node_children y.green)) (get_or_from_slice_get ns k x x at)
@@ -71,7 +71,7 @@ first_last ns x first k y here same =
     ap (λ (z : Inner). z.first_child) (sym same) ∙ first
     ∙ ap (λ ms. child_counts ms + 1) (sym (take-append-le k ns (x ∷ []) (omega (arith, here)) ∙ take_all k ns (omega (arith, here))))
 
-told_node : (ns : List Inner) (es : List Entry) (x : Inner) (e : Entry) → AreNodes ns es → e.node ≡ Some (length ns) → all_facts (ns ++ x ∷ []) (es ++ e ∷ []) ≡ all_facts ns es ++ told e (Some x) ∷ []
+pub told_node : (ns : List Inner) (es : List Entry) (x : Inner) (e : Entry) → AreNodes ns es → e.node ≡ Some (length ns) → all_facts (ns ++ x ∷ []) (es ++ e ∷ []) ≡ all_facts ns es ++ told e (Some x) ∷ []
 told_node ns es x e t number =
     map-append (facts_of (ns ++ x ∷ [])) es (e ∷ []) ∙ ap (λ fs. fs ++ facts_of (ns ++ x ∷ []) e ∷ []) (all_facts-grown ns x es t.there)
     ∙ ap (λ o. all_facts ns es ++ told e o ∷ []) (ap (inner_at (ns ++ x ∷ [])) number ∙ slice_get-last ns x)
@@ -91,104 +91,61 @@ AreNodes-node ns es x e t number first = record {
   all = omega (arith, ap counts (told_node ns es x e t number), sum_by-append (λ (f : Facts). length (children_in (green_of f))) (all_facts ns es) (told e (Some x) ∷ []), sum_by-append (λ (y : Inner). length (node_children y.green)) ns (x ∷ []), t.all);
 }
 
--- ---- a draft with one more entry
+-- ---- first entries and nodes of a table, with one more entry
 
-pub within_entries : (d : Draft) (n : ℕ) → n < length (entries_of d) → n < length d.entries.items
-within_entries d n h = omega (arith, h, length-map d.entries.items (facts_of d.nodes.items))
+facts_count : (ns : List Inner) (es : List Entry) → length (all_facts ns es) ≡ length es
+facts_count ns es = length-map es (facts_of ns)
 
-pub entries_token : (old new : Draft) (e : Entry) → GainsEntry old new e → e.node ≡ None → entries_of new ≡ entries_of old ++ told e None ∷ []
-entries_token old new e g bare =
-    ap (λ ns. all_facts ns new.entries.items) g.nodes ∙ ap (all_facts old.nodes.items) g.entries
-    ∙ map-append (facts_of old.nodes.items) old.entries.items (e ∷ []) ∙ ap (λ o. entries_of old ++ told e (inner_at old.nodes.items o) ∷ []) bare
+pub told_token : (ns : List Inner) (es : List Entry) (e : Entry) → e.node ≡ None → all_facts ns (es ++ e ∷ []) ≡ all_facts ns es ++ told e None ∷ []
+told_token ns es e bare =
+    map-append (facts_of ns) es (e ∷ []) ∙ ap (λ o. all_facts ns es ++ told e (inner_at ns o) ∷ []) bare
 
-pub filled_token : (done : ℕ) (old new : Draft) (e : Entry) (p : Facts) → IsFilled done old → GainsEntry old new e → e.node ≡ None → IsNextChild (entries_of old) p (told e None) → e.parent < done → done ≤ length (entries_of old)
-    → IsFilled done new
-filled_token done old new e p f g bare next above there = record {
-  draft = subst (IsDraft done) (sym (entries_token old new e g bare)) (IsDraft-push done (entries_of old) p (told e None) f.draft next above there);
-  nodes = subst (λ es. AreNodes new.nodes.items es) (sym g.entries) (subst (λ ns. AreNodes ns (old.entries.items ++ e ∷ [])) (sym g.nodes) (AreNodes-token old.nodes.items old.entries.items e f.nodes bare));
-  next = g.next ∙ f.next ∙ ap (λ ns. child_counts ns + 1) (sym g.nodes);
+draft_grown : (ns ms : List Inner) (es : List Entry) (e : Entry) (p y : Facts) → ArePlanned ns es → IsNextChild (all_facts ns es) p y → y.parent < length es → all_facts ms (es ++ e ∷ []) ≡ all_facts ns es ++ y ∷ []
+    → IsDraft (length (es ++ e ∷ [])) (all_facts ms (es ++ e ∷ []))
+draft_grown ns ms es e p y t next above told_too =
+    let more : length es + 1 ≡ length (es ++ e ∷ []) = omega (arith, length-append es (e ∷ [])) in
+    let pushed = IsDraft-push (length es) (all_facts ns es) p y t.draft next above (omega (arith, facts_count ns es)) in
+    subst (λ n. IsDraft n (all_facts ms (es ++ e ∷ []))) more
+    (subst (IsDraft (length es + 1)) (sym told_too) (IsDraft-more (length es) (all_facts ns es ++ y ∷ []) pushed))
+
+planned_token : (ns : List Inner) (es : List Entry) (e : Entry) (p : Facts) → ArePlanned ns es → e.node ≡ None → IsNextChild (all_facts ns es) p (told e None) → e.parent < length es → ArePlanned ns (es ++ e ∷ [])
+planned_token ns es e p t bare next above = record {
+  draft = draft_grown ns ns es e p (told e None) t next above (told_token ns es e bare);
+  nodes = AreNodes-token ns es e t.nodes bare;
 }
 
-pub entries_node : (done : ℕ) (old new : Draft) (start parent : ℕ) (n : NodeTerm) → IsFilled done old → (g : GainsNode old new start parent n) → entries_of new ≡ entries_of old ++ told g.entry (Some g.inner) ∷ []
-entries_node done old new start parent n f g =
-    ap (λ ns. all_facts ns new.entries.items) g.nodes ∙ ap (all_facts (old.nodes.items ++ g.inner ∷ [])) g.entries
-    ∙ told_node old.nodes.items old.entries.items g.inner g.entry f.nodes g.number
-
-pub nodes_node : (done : ℕ) (old new : Draft) (start parent : ℕ) (n : NodeTerm) → AreNodes old.nodes.items old.entries.items → old.next_child ≡ child_counts old.nodes.items + 1 → (g : GainsNode old new start parent n)
-    → AreNodes new.nodes.items new.entries.items × (new.next_child ≡ child_counts new.nodes.items + 1)
-nodes_node done old new start parent n t next g = (
-  subst (λ es. AreNodes new.nodes.items es) (sym g.entries) (subst (λ ns. AreNodes ns (old.entries.items ++ g.entry ∷ [])) (sym g.nodes) (AreNodes-node old.nodes.items old.entries.items g.inner g.entry t g.number (g.first ∙ next))),
-  omega (arith, g.next, next, ap (λ (m : NodeTerm). length (node_children m)) g.green, ap child_counts g.nodes, sum_by-append (λ (y : Inner). length (node_children y.green)) old.nodes.items (g.inner ∷ [])),
-)
-
-pub filled_node : (done : ℕ) (old new : Draft) (start parent : ℕ) (n : NodeTerm) (p : Facts) → IsFilled done old → (g : GainsNode old new start parent n) → IsNextChild (entries_of old) p (told g.entry (Some g.inner)) → parent < done → done ≤ length (entries_of old)
-    → IsFilled done new
-filled_node done old new start parent n p f g next above there =
-    let is = nodes_node done old new start parent n f.nodes f.next g in
-    record {
-      draft = subst (IsDraft done) (sym (entries_node done old new start parent n f g)) (IsDraft-push done (entries_of old) p (told g.entry (Some g.inner)) f.draft next (omega (arith, g.above, above)) there);
-      nodes = is.0;
-      next = is.1;
-    }
+planned_inner : (ns : List Inner) (es : List Entry) (x : Inner) (e : Entry) (p : Facts) → ArePlanned ns es → e.node ≡ Some (length ns) → x.first_child ≡ child_counts ns + 1 → IsNextChild (all_facts ns es) p (told e (Some x)) → e.parent < length es
+    → ArePlanned (ns ++ x ∷ []) (es ++ e ∷ [])
+planned_inner ns es x e p t number first next above = record {
+  draft = draft_grown ns (ns ++ x ∷ []) es e p (told e (Some x)) t next above (told_node ns es x e t.nodes number);
+  nodes = AreNodes-node ns es x e t.nodes number first;
+}
 
 -- ---- the next child of an entry
 
-module _ (d : Draft) (parent i k start : ℕ) (e : Entry) (x : Inner) (at : slice_get d.entries.items parent ≡ Some e) (named : e.node ≡ Some k) (found : slice_get d.nodes.items k ≡ Some x) where
-  pub node_above : slice_get (entries_of d) parent ≡ Some (told e (Some x))
+module _ (ns : List Inner) (es : List Entry) (parent i k start : ℕ) (e : Entry) (x : Inner) (at : slice_get es parent ≡ Some e) (named : e.node ≡ Some k) (found : slice_get ns k ≡ Some x) where
+  pub node_above : slice_get (all_facts ns es) parent ≡ Some (told e (Some x))
   node_above =
-      facts_at d.nodes.items d.entries.items parent e at ∙ ap (λ o. Some (told e o)) (ap (inner_at d.nodes.items) named ∙ found)
+      facts_at ns es parent e at ∙ ap (λ o. Some (told e o)) (ap (inner_at ns) named ∙ found)
 
-  module _ (f : IsFilled (parent + 1) d) (next : IsNextIndex (entries_of d) parent i) (u : Term) (child : slice_get (node_children x.green) i ≡ Some u) (from : start ≡ e.start + child_start (node_children x.green) i) where
-    is_next : (y : Facts) → y.parent ≡ parent → y.start ≡ start → green_of y ≡ into_node u → y.first_child ≡ first_after (entries_of d) (green_of y) → IsNextChild (entries_of d) (told e (Some x)) y
+  module _ (t : ArePlanned ns es) (place : length es ≡ x.first_child + i) (u : Term) (child : slice_get (node_children x.green) i ≡ Some u) (from : start ≡ e.start + child_start (node_children x.green) i) where
+    is_next : (y : Facts) → y.parent ≡ parent → y.start ≡ start → green_of y ≡ into_node u → y.first_child ≡ first_after (all_facts ns es) (green_of y) → IsNextChild (all_facts ns es) (told e (Some x)) y
     is_next y above begins content first =
-        next_child (parent + 1) (entries_of d) f.draft (told e (Some x)) y x.green i u (ap (slice_get (entries_of d)) above ∙ node_above) refl (next (told e (Some x)) node_above).1 child content (begins ∙ from) first
+        next_child (length es) (all_facts ns es) t.draft (told e (Some x)) y x.green i u (ap (slice_get (all_facts ns es)) above ∙ node_above) refl (omega (arith, place, facts_count ns es)) child content (begins ∙ from) first
 
-    gains : (new : Draft) (y : Facts) → entries_of new ≡ entries_of d ++ y ∷ [] → green_of y ≡ into_node u → GainsChild (entries_of d) (entries_of new) parent i
-    gains new y grown content p t above is =
-        let same : told e (Some x) ≡ p = same_Some (told e (Some x)) p (sym node_above ∙ above) in
-        let one : slice_get (children_in (green_of p)) i ≡ Some u = ap (λ (q : Facts). slice_get (children_in (green_of q)) i) (sym same) ∙ child in
-        record {
-          row = y ∷ [];
-          grown = grown;
-          greens = ap (λ g. g ∷ []) (content ∙ ap into_node (same_Some u t (sym one ∙ is)));
-        }
+    earlier : parent < length es
+    earlier = slice_get_within es parent e at
 
-    there : parent + 1 ≤ length (entries_of d)
-    there = omega (arith, slice_get_within (entries_of d) parent (told e (Some x)) node_above)
+    module _ (y : Entry) (begins : y.start ≡ start) (above : y.parent ≡ parent) where
+      pub adds_token : y.node ≡ None → into_node u ≡ None → ArePlanned ns (es ++ y ∷ [])
+      adds_token bare token =
+          planned_token ns es y (told e (Some x)) t bare (is_next (told y None) above begins (sym token) refl) (omega (arith, above, earlier))
 
-    still : (new : Draft) (y : Entry) → new.entries.items ≡ d.entries.items ++ y ∷ [] → IsInnerOf new parent e.start k
-    still new y grown = record {
-      entry = e;
-      at = ap (λ es. slice_get es parent) grown ∙ slice_get-grown d.entries.items (y ∷ []) parent e at;
-      begins = refl;
-      node = named;
-    }
-
-    module _ (new : Draft) (y : Entry) (g : GainsEntry d new y) (begins : y.start ≡ start) (above : y.parent ≡ parent) (bare : y.node ≡ None) (token : into_node u ≡ None) where
-      pub adds_token : AddsChild d new parent e.start k i
-      adds_token = record {
-        draft = filled_token (parent + 1) d new y (told e (Some x)) f g bare (is_next (told y None) above begins (sym token) refl) (omega (arith, above)) there;
-        node = still new y g.entries;
-        grown = gains new (told y None) (entries_token d new y g bare) (sym token);
-      }
-
-    module _ (new : Draft) (n : NodeTerm) (g : GainsNode d new start parent n) (node : into_node u ≡ Some n) where
-      content : green_of (told g.entry (Some g.inner)) ≡ into_node u
-      content = ap (λ m. Some m) g.green ∙ sym node
-
-      pub adds_node : AddsChild d new parent e.start k i
-      adds_node = record {
-        draft = filled_node (parent + 1) d new start parent n (told e (Some x)) f g (is_next (told g.entry (Some g.inner)) g.above g.begins content (omega (arith, g.first, f.next, f.nodes.all))) (omega arith) there;
-        node = still new g.entry g.entries;
-        grown = gains new (told g.entry (Some g.inner)) (entries_node (parent + 1) d new start parent n f g) content;
-      }
+      pub adds_node : (z : Inner) → y.node ≡ Some (length ns) → z.first_child ≡ child_counts ns + 1 → into_node u ≡ Some z.green → ArePlanned (ns ++ z ∷ []) (es ++ y ∷ [])
+      adds_node z number first node =
+          planned_inner ns es z y (told e (Some x)) t number first (is_next (told y (Some z)) above begins (sym node) (omega (arith, first, t.nodes.all))) (omega (arith, above, earlier))
 
 -- ---- the root alone
-
-pub record IsAlone (d : Draft) : Type 0 where
-  pub entries : d.entries.items ≡ []
-  pub nodes : d.nodes.items ≡ []
-  pub next : d.next_child ≡ 1
 
 AreNodes-none : AreNodes [] []
 AreNodes-none = record {
@@ -197,31 +154,16 @@ AreNodes-none = record {
   all = refl;
 }
 
-none_before : (d : Draft) → IsAlone d → AreNodes d.nodes.items d.entries.items × (d.next_child ≡ child_counts d.nodes.items + 1)
-none_before d a = (
-  subst (λ es. AreNodes d.nodes.items es) (sym a.entries) (subst (λ ns. AreNodes ns []) (sym a.nodes) AreNodes-none),
-  a.next ∙ ap (λ ns. child_counts ns + 1) (sym a.nodes),
-)
-
-module _ (old new : Draft) (n : NodeTerm) (a : IsAlone old) (g : GainsNode old new 0 0 n) where
-  pub root_alone : entries_of new ≡ told g.entry (Some g.inner) ∷ []
-  root_alone =
-      ap (λ ns. all_facts ns new.entries.items) g.nodes ∙ ap (all_facts (old.nodes.items ++ g.inner ∷ [])) g.entries
-      ∙ told_node old.nodes.items old.entries.items g.inner g.entry (none_before old a).0 g.number
-      ∙ ap (λ es. all_facts old.nodes.items es ++ told g.entry (Some g.inner) ∷ []) a.entries
-
-  pub filled_root : IsFilled 0 new
-  filled_root =
-      let is = nodes_node 0 old new 0 0 n (none_before old a).0 (none_before old a).1 g in
-      record {
-        draft = subst (IsDraft 0) (sym root_alone)
-            (IsDraft-one (told g.entry (Some g.inner)) n
-            (record {
-              green = ap (λ m. Some m) g.green;
-              start = g.begins;
-              fits = g.fits;
-              first = g.first ∙ a.next;
-            }));
-        nodes = is.0;
-        next = is.1;
-      }
+pub planned_root : (x : Inner) (y : Entry) → FitsNode x.green → x.first_child ≡ 1 → y.start ≡ 0 → y.node ≡ Some 0 → ArePlanned (x ∷ []) (y ∷ [])
+planned_root x y fits first begins number =
+    let told_too : all_facts (x ∷ []) (y ∷ []) ≡ told y (Some x) ∷ [] = ap (λ o. told y (inner_at (x ∷ []) o) ∷ []) number in
+    record {
+      draft = subst (IsDraft 1) (sym told_too) (IsDraft-more 0 (told y (Some x) ∷ [])
+          (IsDraft-one (told y (Some x)) x.green (record {
+            green = refl;
+            start = begins;
+            fits = fits;
+            first = first;
+          })));
+      nodes = AreNodes-node [] [] x y AreNodes-none number first;
+    }

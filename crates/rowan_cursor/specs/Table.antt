@@ -173,27 +173,3 @@ pub record Describes (es : List Facts) (n : ℕ) (e : Facts) : Type 0 where
   pub children :
       IsRow es e.first_child (e.first_child + length (entry_children e))
       (child_paths (root_node es) (entry_path es n))
-
--- the entries that were added are those of these terms, in this order
-pub record GrowsBy (old new : List Facts) (ts : List Term) : Type 0 where
-  pub row : List Facts
-  pub grown : new ≡ old ++ row
-  pub greens : map green_of row ≡ map into_node ts
-
--- the child at this index of the entry with this number is the next to get an entry
-abbrev pub IsNextIndex : List Facts → ℕ → ℕ → Type 0
-IsNextIndex es n i =
-    (e : Facts) → slice_get es n ≡ Some e
-    → (i < length (entry_children e)) × (length es ≡ e.first_child + i)
-
--- an entry was added for the child at this index of the entry with this number
-abbrev pub GainsChild : List Facts → List Facts → ℕ → ℕ → Type 0
-GainsChild old new n i =
-    (e : Facts) (t : Term) → slice_get old n ≡ Some e
-    → slice_get (entry_children e) i ≡ Some t → GrowsBy old new (t ∷ [])
-
--- entries were added for all children of the entry with this number
-abbrev pub GainsChildren : List Facts → List Facts → ℕ → Type 0
-GainsChildren old new n =
-    (e : Facts) → slice_get old n ≡ Some e
-    → map green_of new ≡ map green_of old ++ map into_node (entry_children e)

@@ -43,11 +43,9 @@ impl Table {
     pub(crate) fn new(alloc: Global, green: GreenNode) -> Result<Table, AllocError>
         ensures { IfOk result (λ table. root_of table ≡ green) }
     {
-        let mut draft = Draft::new(alloc, green)?;
-        let mut done = 0;
-        while done < draft.len() {
-            draft.push_children(done)?;
-            done += 1;
+        let mut draft = Draft::new(alloc, &green)?;
+        while let Some(parent) = draft.next() {
+            draft.push_children(&parent)?;
         }
         Ok(draft.finish())
     }

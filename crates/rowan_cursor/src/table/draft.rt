@@ -8,6 +8,7 @@ use rowan_green::link::Link;
 use rowan_green::text::TextSize;
 use rowan_green::utility_types::NodeOrToken;
 use std::alloc::{AllocError, Global};
+use std::mem::size_of;
 
 // For how many bytes of text a table asks for room at first, at least.
 const MIN_FIRST_BYTES: usize = 16;
@@ -15,45 +16,69 @@ const MIN_FIRST_BYTES: usize = 16;
 // And at most: for 27 MB of memory.
 const MAX_FIRST_BYTES: usize = 1 << 21;
 
-/// A table that is still to be filled. The entries get their children in order: those of one stand behind those of all before it.
-#[derive(Drop)]
-pub(super) struct Draft {
-    entries: Vec<Entry>,
-    nodes: Vec<Inner>,
-    // The number that the next node's first child will have.
-    next_child: u32,
+/// A node that has an entry, and whose children have none yet.
+#[derive(Clone, Copy)]
+pub(super) struct Waiting<'a> {
+    node: &'a GreenNode,
+    // Where its text starts, and the number of its entry.
+    start: TextSize,
+    number: u32,
 }
 
-impl Draft {
-    ghost use Rattle.std.specs.Prelude.{◌≡◌, ◌+◌, ◌<◌, Some, IfOk, OnOk, length, take, slice_get};
-    ghost use Rattle.rowan_green.specs.Lent.{pointee};
+// Beside a table its nodes wait while it is filled, so they have to be small.
+const _: () = prove!(size_of::<Waiting<'_>>() == 16);
+
+/// A table that is still to be filled. All nodes that have entries stand in a list, in the order of these, and wait for those of their
+/// children. A node's block is read once, when its turn comes: then it gets its place in the table's list of nodes, and its children
+/// get entries, behind those of all nodes before it.
+#[derive(Drop)]
+pub(super) struct Draft<'a> {
+    entries: Vec<Entry>,
+    nodes: Vec<Inner>,
+    waiting: Vec<Waiting<'a>>,
+}
+
+impl<'a> Draft<'a> {
+    ghost use Rattle.std.specs.Prelude.{◌≡◌, ◌+◌, ◌<◌, IfOk, OnOk, IfSome, IsNone, length};
     ghost use Rattle.rowan_green.specs.Term.{node_children};
-    ghost use Rattle.rowan_cursor.specs.DraftView.{IsFilled, IsInnerOf, AddsChild, GainsNode, HasRoom, IsKept, TakesPlace, entries_of};
-    ghost use Rattle.rowan_cursor.specs.Table.{IsNextIndex, GainsChildren, counts, root_node};
+    ghost use Rattle.rowan_cursor.specs.DraftView.{IsFilled, HasTheirs, IsNext, IsNextIndex, AddsChild, HasRoom, IsKept, TakesPlace, entries_of, size_left};
+    ghost use Rattle.rowan_cursor.specs.Table.{root_node};
     ghost use Rattle.rowan_cursor.specs.TableView.{root_of};
 
     /// The entry of the root alone.
-    pub(super) fn new(alloc: Global, green: GreenNode) -> Result<Draft, AllocError>
-        ensures draft { IfOk result (IsFilled 0) }
-        ensures root { IfOk result (λ draft. root_node (entries_of draft) ≡ green) }
-        ensures one { IfOk result (λ draft. length (entries_of draft) ≡ 1) }
+    pub(super) fn new(alloc: Global, root: &'a GreenNode) -> Result<Draft<'a>, AllocError>
+        ensures draft { IfOk result IsFilled }
+        ensures children { IfOk result HasTheirs }
+        ensures root { IfOk result (λ draft. root_node (entries_of draft) ≡ root.now) }
     {
-        let bytes = first_bytes(green.text_len());
+        let bytes = first_bytes(root.text_len());
         let mut draft = Draft {
             // Three nodes and tokens in four bytes, and one of them a node, are more than most trees have.
             entries: Vec::with_capacity(alloc, bytes - bytes / 4)?,
             nodes: Vec::with_capacity(alloc, bytes / 4)?,
-            next_child: 1,
+            waiting: Vec::with_capacity(alloc, bytes / 4)?,
         };
-        draft.push_node(TextSize::from(0), 0, green)?;
+        let start = TextSize::from(0);
+        draft.waiting.push_reserved(Waiting {
+            node: root,
+            start,
+            number: 0,
+        });
+        draft.entries.push_reserved(Entry {
+            start,
+            parent: 0,
+            node: Link::to(0),
+        });
         Ok(draft)
     }
 
-    /// How many entries there are.
-    pub(super) fn len(&self) -> usize
-        ensures { result ≡ length (entries_of self.now) }
+    /// The next node whose children get entries.
+    pub(super) fn next(&self) -> Option<Waiting<'a>>
+        ensures some { IfSome result (IsNext self.now) }
+        ensures none { IsNone result
+            → length self.now.waiting.items ≤ length self.now.nodes.items }
     {
-        self.entries.len()
+        self.waiting.get(self.nodes.len()).copied()
     }
 
     // Makes room for so many nodes and tokens more, of which all may be nodes.
@@ -62,117 +87,84 @@ impl Draft {
         ensures room { OnOk result (HasRoom self.new additional) }
     {
         self.entries.reserve(additional)?;
-        self.nodes.reserve(additional)
+        self.waiting.reserve(additional)
     }
 
-    // Adds the entry of a node, for which there is room. Refused where there are no more numbers.
-    #[inline(always)]
-    fn push_node(
-        &mut self,
-        start: TextSize,
-        parent: u32,
-        green: GreenNode,
-    ) -> Result<(), AllocError>
-        requires { HasRoom self.old 1 }
-        ensures gained { OnOk result (GainsNode self.old self.new start parent green) }
-        ensures room { OnOk result (TakesPlace self.old self.new) }
+    /// Gives the next node its place, and its children their entries. Refused, too, where there are no more numbers.
+    pub(super) fn push_children(&mut self, parent: &Waiting<'a>) -> Result<(), AllocError>
+        requires draft { IsFilled self.old }
+        requires children { HasTheirs self.old }
+        requires next { IsNext self.old parent.now }
+        ensures draft { OnOk result (IsFilled self.new) }
+        ensures children { OnOk result (HasTheirs self.new) }
+        ensures root { OnOk result
+            (root_node (entries_of self.new) ≡ root_node (entries_of self.old)) }
+        ensures less { OnOk result (size_left self.new < size_left self.old) }
     {
-        let text_len = green.text_len();
-        let first_child = self.next_child;
-        let Some(next_child) = first_child.checked_add(green.children().len() as u32) else {
+        let first_child = self.entries.len();
+        let count = parent.node.children().len();
+        let Some(end) = first_child.checked_add(count) else {
             return Err(AllocError);
         };
-        let number = self.nodes.len();
-        if number >= u32::MAX as usize {
+        if end > u32::MAX as usize {
             return Err(AllocError);
         }
-        self.nodes.push_reserved(Inner {
-            green,
-            text_len,
-            first_child,
-        });
-        self.entries.push_reserved(Entry {
-            start,
-            parent,
-            node: Link::to(number as u32),
-        });
-        self.next_child = next_child;
-        Ok(())
-    }
-
-    /// Adds the children of the next entry.
-    pub(super) fn push_children(&mut self, parent: usize) -> Result<(), AllocError>
-        // the children of the entries before this one are there, and no others
-        requires within { parent < length (entries_of self.old) }
-        requires draft { IsFilled parent self.old }
-        requires place { length (entries_of self.old)
-            ≡ counts (take parent (entries_of self.old)) + 1 }
-
-        // this one's children are added
-        ensures draft { OnOk result (IsFilled (parent + 1) self.new) }
-        ensures grown { OnOk result
-            (GainsChildren (entries_of self.old) (entries_of self.new) parent) }
-    {
-        let entry = self.entries[parent];
-        let Some(node) = entry.node.number() else {
-            return Ok(());
-        };
-        let Ok(above) = u32::try_from(parent) else {
-            return Err(AllocError);
-        };
-        let count = self.nodes[node as usize].green.children().len() as u32;
-        self.reserve(count as usize)?;
+        self.nodes.push(Inner {
+            green: parent.node.clone()?,
+            text_len: parent.node.text_len(),
+            first_child: first_child as u32,
+        })?;
+        self.reserve(count)?;
         for index in 0..count {
-            self.push_child(above, entry.start, node, index)?;
+            self.push_child(parent, index);
         }
         Ok(())
     }
 
-    // Adds the child at an index of a node whose text starts there, for which there is room. The child's number is the next. A node
-    // is shared.
+    // Adds the entry of the child at an index of a node, for which there is room. The child's number is the next.
     #[inline(always)]
-    fn push_child(
-        &mut self,
-        parent: u32,
-        start: TextSize,
-        node: u32,
-        index: u32,
-    ) -> Result<(), AllocError>
-        // the children before this one are there
-        requires draft { IsFilled (parent + 1) self.old }
-        requires place { IsNextIndex (entries_of self.old) parent index }
-        requires node { IsInnerOf self.old parent start node }
+    fn push_child(&mut self, parent: &Waiting<'a>, index: usize)
+        requires draft { IsFilled self.old }
+        requires place { IsNextIndex self.old parent.now index }
+        requires index { index < length (node_children parent.now.node.now) }
+        requires number { length self.old.entries.items < 4294967295 }
         requires room { HasRoom self.old 1 }
-
-        // this one is added
-        ensures added { OnOk result (AddsChild self.old self.new parent start node index) }
-        ensures room { OnOk result (TakesPlace self.old self.new) }
+        ensures added { AddsChild self.old self.new parent.now.node.now index }
+        ensures room { TakesPlace self.old self.new }
     {
-        let Some(found) = self.nodes[node as usize].green.child_ref(index as usize) else {
+        let Some(found) = parent.node.child_ref(index) else {
             unreachable!();
         };
-        let start = TextSize::from(u32::from(start) + u32::from(found.0));
+        let start = TextSize::from(u32::from(parent.start) + u32::from(found.0));
         match found.1 {
-            NodeOrToken::Node(child) => {
-                let child = child.clone()?;
-                self.push_node(start, parent, child)
-            }
-            NodeOrToken::Token(_) => {
+            NodeOrToken::Node(node) => {
+                let place = Link::to(self.waiting.len() as u32);
+                let number = self.entries.len() as u32;
+                self.waiting.push_reserved(Waiting {
+                    node,
+                    start,
+                    number,
+                });
                 self.entries.push_reserved(Entry {
                     start,
-                    parent,
-                    node: Link::none(),
+                    parent: parent.number,
+                    node: place,
                 });
-                Ok(())
             }
+            NodeOrToken::Token(_) => self.entries.push_reserved(Entry {
+                start,
+                parent: parent.number,
+                node: Link::none(),
+            }),
         }
     }
 
-    /// The table, where all children of each entry are there.
+    /// The table, where no node waits.
     pub(super) fn finish(self) -> Table
-        requires draft { IsFilled (length (entries_of self)) self }
-        requires whole { length (entries_of self) ≡ counts (entries_of self) + 1 }
-        ensures { root_of result ≡ root_node (entries_of self) }
+        requires draft { IsFilled self }
+        requires children { HasTheirs self }
+        requires done { length self.waiting.items ≤ length self.nodes.items }
+        ensures { root_of result ≡ root_node (entries_of self.entry) }
     {
         let Draft {
             mut entries,
