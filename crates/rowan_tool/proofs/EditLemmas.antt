@@ -14,6 +14,7 @@ use Rattle.rowan_green.specs.Term.{NodeTerm, node_text}
 use Rattle.rowan_green.proofs.Terms.{Fits-len}
 use Rattle.rowan_cursor.specs.Cursor.{Cursor}
 use Rattle.rowan_cursor.specs.Replacement.{with_replacement}
+use Rattle.rowan_tool.specs.Ancestors.{IsReparseAt, WhyNoReparseAt}
 use Rattle.rowan_tool.specs.Grammar.{IsParse, IsOneList, IsBalanced}
 use Rattle.rowan_tool.specs.Reparse.{IsReparse, WhyNoReparse, Edit, edits_of, edited, text_after, IsListIn, IsListAt, HasNoList, IsEdit, AreEdits, WhyNoEdit, WhyNoEdits}
 use Rattle.rowan_tool.proofs.FitLemmas.{parse-fits}
@@ -77,7 +78,7 @@ one-list new utf8 b =
     let tree = parse-exists new utf8 in
     let list = balanced-is-one-list new tree.0 tree.1 b in (list.0, list.2)
 
-pub edit-refused : (text new : List ℕ) (tree : NodeTerm) (span : Span) (c : Cursor) (e : Fault) → IsParse text tree → IsListAt tree span c → IsUtf8 new → WhyNoReparse c new e → e ≢ Memory → WhyNoEdit text (span, new) e
+edit-refused : (text new : List ℕ) (tree : NodeTerm) (span : Span) (c : Cursor) (e : Fault) → IsParse text tree → IsListAt tree span c → IsUtf8 new → WhyNoReparse c new e → e ≢ Memory → WhyNoEdit text (span, new) e
 edit-refused text new tree span c NotOneList h l utf8 why other = (list-in text tree span c h l, why)
 edit-refused text new tree span c TextTooLong h l utf8 why other = (
   list-in text tree span c h l,
@@ -144,10 +145,10 @@ next-edit (y ∷ given) (suc i) x h e =
     let r = next-edit given i x (omega (arith, h)) e in
     record { next = ap (λ es. edit_of y ∷ es) r.next; all = ap (λ es. edit_of y ∷ es) r.all }
 
-pub edited-next : {Z : Type 0} (text : List ℕ) (given : List (Span × String Z)) (i : ℕ) (x : Span × String Z) (new : List ℕ) (tree n : NodeTerm) (c : Cursor) → i < length given → x ≡ get_or given i x → new ≡ string_bytes x.1
-    → IsEdited text (take i (edits_of given)) tree → IsListAt tree x.0 c → IsReparse c new n → IsEdited text (take (i + 1) (edits_of given)) n
-edited-next text given i x new tree n c here is spelt h l r =
-    let more = edited-more text (take i (edits_of given)) x.0 new tree n c h l r in
+pub edited-next : {Z : Type 0} (text : List ℕ) (given : List (Span × String Z)) (i : ℕ) (x : Span × String Z) (new : List ℕ) (tree n : NodeTerm) → i < length given → x ≡ get_or given i x → new ≡ string_bytes x.1
+    → IsEdited text (take i (edits_of given)) tree → IsReparseAt tree x.0 new n → IsEdited text (take (i + 1) (edits_of given)) n
+edited-next text given i x new tree n here is spelt h r =
+    let more = edited-more text (take i (edits_of given)) x.0 new tree n r.list h r.at r.reparse in
     let same : (take i (edits_of given) ++ (x.0, new) ∷ []) ≡ take (suc i) (edits_of given) = ap (λ bs. take i (edits_of given) ++ (x.0, bs) ∷ []) spelt ∙ sym (next-edit given i x here is).next in
     let one : suc i ≡ i + 1 = omega arith in
     subst (λ es. IsEdited text es n) (same ∙ ap (λ k. take k (edits_of given)) one) more
@@ -180,18 +181,25 @@ refused-next text given i x tree e limit here is h why = inr (
 )
 
 -- since no list has the range
-pub refused-range : {Z : Type 0} (text : List ℕ) (given : List (Span × String Z)) (i : ℕ) (x : Span × String Z) (tree : NodeTerm) (e : Fault) → length text ≤ byte_limit → i < length given → x ≡ get_or given i x
+refused-range : {Z : Type 0} (text : List ℕ) (given : List (Span × String Z)) (i : ℕ) (x : Span × String Z) (tree : NodeTerm) (e : Fault) → length text ≤ byte_limit → i < length given → x ≡ get_or given i x
     → IsEdited text (take i (edits_of given)) tree → HasNoList tree x.0 e → WhyNoEdits text (edits_of given) e
 refused-range text given i x tree e limit here is h none =
     let before = text_after text (take i (edits_of given)) in
     refused-next text given i x tree e limit here is h (subst (WhyNoEdit before (edit_of x)) (sym none.0) (none.1 before h.parse))
 
 -- since the list is not parsed anew
-pub refused-list : {Z : Type 0} (text : List ℕ) (given : List (Span × String Z)) (i : ℕ) (x : Span × String Z) (new : List ℕ) (tree : NodeTerm) (c : Cursor) (e : Fault) → length text ≤ byte_limit → i < length given → x ≡ get_or given i x → new ≡ string_bytes x.1
+refused-list : {Z : Type 0} (text : List ℕ) (given : List (Span × String Z)) (i : ℕ) (x : Span × String Z) (new : List ℕ) (tree : NodeTerm) (c : Cursor) (e : Fault) → length text ≤ byte_limit → i < length given → x ≡ get_or given i x → new ≡ string_bytes x.1
     → IsEdited text (take i (edits_of given)) tree → IsListAt tree x.0 c → WhyNoReparse c new e → e ≢ Memory → WhyNoEdits text (edits_of given) e
 refused-list text given i x new tree c e limit here is spelt h l why other =
     refused-next text given i x tree e limit here is h
     (edit-refused (text_after text (take i (edits_of given))) (string_bytes x.1) tree x.0 c e h.parse l (IsUtf8-string_bytes x.1) (subst (λ bs. WhyNoReparse c bs e) spelt why) other)
+
+pub refused-edit : {Z : Type 0} (text : List ℕ) (given : List (Span × String Z)) (i : ℕ) (x : Span × String Z) (new : List ℕ) (tree : NodeTerm) (e : Fault) → length text ≤ byte_limit → i < length given → x ≡ get_or given i x → new ≡ string_bytes x.1
+    → IsEdited text (take i (edits_of given)) tree → WhyNoReparseAt tree x.0 new e → e ≢ Memory → WhyNoEdits text (edits_of given) e
+refused-edit text given i x new tree e limit here is spelt h why other = elim (why other) [
+  | inl none ↦ refused-range text given i x tree e limit here is h none
+  | inr l ↦ refused-list text given i x new tree l.0 e limit here is spelt h l.1 l.2 other
+]
 
 -- a text that is accepted is within the limit
 pub accepted-within : {X : Type 0} (r : Result X Fault) (x : X) (text : List ℕ) → r ≡ Ok x → (byte_limit < length text → r ≡ Err TextTooLong) → length text ≤ byte_limit

@@ -1,3 +1,4 @@
+pub mod AncestorLemmas
 pub mod AskedLemmas
 pub mod BalanceLemmas
 pub mod EditLemmas

@@ -8,10 +8,10 @@ use Rattle.rowan_green.specs.declared.fault.Fault.{Fault}
 use Rattle.rowan_green.specs.declared.fault.Fault.TheVariants.{TextTooLong, TooManyChildren, CheckpointPast, CheckpointBefore, NothingOpen, NotOneElement, NotANode, OtherKind, NotFound, Memory, UnknownMark, NotOneList}
 use Rattle.rowan_green.specs.declared.utility_types.NodeOrToken.TheVariants.{Node, Token}
 use Rattle.rowan_green.specs.Edits.{spliced}
-use Rattle.rowan_green.specs.Fits.{Fits}
+use Rattle.rowan_green.specs.Fits.{Fits, FitsNode}
 use Rattle.rowan_green.specs.Path.{Path, subterm_of, subterm, range, put}
 use Rattle.rowan_green.specs.Term.{TokenTerm, NodeTerm, node, node_kind, node_children, Forest, empty, node_then, token_then, Term, terms, term_kind, term_text, node_text}
-use Rattle.rowan_green.proofs.PutLimits.{Fits-put}
+use Rattle.rowan_green.proofs.PutLimits.{Fits-subterm, Fits-put}
 use Rattle.rowan_green.proofs.Terms.{Fits-len}
 use Rattle.rowan_cursor.specs.Cursor.{Cursor, term_at, kind, text_range}
 use Rattle.rowan_cursor.specs.Replacement.{IsReplacement, WhyNoReplacement, with_replacement}
@@ -43,6 +43,10 @@ pub node-child : (text : List ℕ) (tree list : NodeTerm) → IsParse text tree 
 node-child text tree list h b e =
     let one = one-child text tree (Node list) h b e in
     let same : one.0 ≡ list = (let is = one.1 in cc) in subst (IsOneList text) same one.2
+
+-- the first child of a tree within the limits is within them
+pub first-fits : (tree list : NodeTerm) → slice_get (node_children tree) 0 ≡ Some (Node list) → FitsNode tree → FitsNode list
+first-fits tree list e fits = Fits-subterm (Node tree) (0 ∷ []) (Node list) (ap (λ o. subterm_of o []) e) fits
 
 -- a text is one list
 pub one-list_one : (text : List ℕ) (m n : NodeTerm) → IsOneList text m → IsOneList text n → m ≡ n

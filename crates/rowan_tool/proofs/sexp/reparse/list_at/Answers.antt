@@ -1,31 +1,61 @@
-use Rattle.std.proofs.Common.{sym, ◌∙◌, ap, subst, Some}
-use Rattle.rowan.proofs.PointerLemmas.{finds-node, finds-token, finds-none, finds-smaller}
-use Rattle.rowan_tool.proofs.ListSearch.{HasNone, search-goes-on, search-ends, search-ends-token, has-no-list}
+use Rattle.std.proofs.Common.{◌≡◌, ◌∙◌, sym, ap, subst, length, List, ◌∷◌, [], ◌++◌, ◌+◌, Some, arith}
+use Rattle.std.specs.Prelude.{slice_get}
+use Rattle.rowan_green.specs.declared.utility_types.NodeOrToken.TheVariants.{Node, Token}
+use Rattle.rowan_green.specs.Lent.{pointee}
+use Rattle.rowan_green.specs.Term.{node_children}
+use Rattle.rowan.proofs.ChainLemmas.{size_at}
+use Rattle.rowan_tool.specs.declared.sexp.reparse.Ancestor.{Ancestor}
+use Rattle.rowan_tool.specs.Ancestors.{path_below}
+use Rattle.rowan_tool.proofs.AncestorLemmas.{IsDescending, descent-begins, descent-goes-on, descent-smaller, child-before, descent-ends, descent-ends-token, list-found}
 use Rattle.rowan_tool.proofs.sexp.reparse.list_at.Goals as goal
 
-pub loop-range-smaller : goal.loop-range-smaller
-loop-range-smaller c =
-    let node = c.loop-range.node in
-    finds-smaller c.args.range node c.in-Node.child (finds-node c.args.range node c.in-Node.child c.in_ok-child.field-0 c.in_ok-child.ensures.ok (c.in-Some.is ∙ ap (λ e. Some e) c.in-Node.is))
+pub loop-node-init : goal.loop-node-init
+loop-node-init c =
+    subst (λ xs. IsDescending c.args.green.now c.args.range xs c.args.green.now c.args.range) (sym c.new-ancestors.ensures.items) (descent-begins c.args.green.now c.args.range)
 
-pub loop-range-preserved : goal.loop-range-preserved
-loop-range-preserved c =
-    let node = c.loop-range.node in
-    let f = finds-node c.args.range node c.in-Node.child c.in_ok-child.field-0 c.in_ok-child.ensures.ok (c.in-Some.is ∙ ap (λ e. Some e) c.in-Node.is) in (
-      search-goes-on c.args.range node c.in-Node.child c.loop-range.invariant.0 (sym c.is_list_at.ensures ∙ c.loop-range-test.true) f,
-      f.root ∙ c.loop-range.invariant.1,
-    )
-
--- no child
 pub returns-in_default-clause-err : goal.returns-in_default-clause-err
 returns-in_default-clause-err c = λ _.
-    let node = c.loop-range.node in
-    let none = finds-none c.args.range node c.in_ok-child.field-0 c.in_ok-child.ensures.ok c.in_default.is in
-    has-no-list c.args.green.now c.args.range (subst (λ t. HasNone t c.args.range) c.loop-range.invariant.1 (search-ends c.args.range node c.loop-range.invariant.0 (sym c.is_list_at.ensures ∙ c.loop-range-test.true) none))
+    let node = c.loop-node.node.now in
+    descent-ends c.args.green.now c.args.range c.loop-node.ancestors.items node c.loop-node.within c.loop-node.invariant (sym c.loop-node-test.ensures) (c.in_default.ensures.none (search))
 
--- a token
 pub returns-in_default-child-clause-err : goal.returns-in_default-child-clause-err
 returns-in_default-child-clause-err c = λ _.
-    let node = c.loop-range.node in
-    let token = finds-token c.args.range node c.in_default-child.field-0 c.in_ok-child.field-0 c.in_ok-child.ensures.ok (c.in-Some.is ∙ ap (λ e. Some e) c.in_default-child.is) in
-    has-no-list c.args.green.now c.args.range (subst (λ t. HasNone t c.args.range) c.loop-range.invariant.1 (search-ends-token c.args.range node c.loop-range.invariant.0 (sym c.is_list_at.ensures ∙ c.loop-range-test.true) token))
+    let node = c.loop-node.node.now in
+    let token = c.in_default-child.field-0.now in
+    let child : slice_get (node_children node) c.in-Some.index ≡ Some (Token token) = c.in-Some.ensures.some.2 ∙ ap (λ e. Some (pointee e)) ((search) ∙ c.in_default-child.is) in
+    descent-ends-token c.args.green.now c.args.range c.loop-node.ancestors.items node c.loop-node.within c.in-Some.index token c.loop-node.invariant (sym c.loop-node-test.ensures) c.in-Some.ensures.some.0 child
+
+pub counted_from-within-requires : goal.counted_from-within-requires
+counted_from-within-requires c =
+    let before = child-before (node_children c.loop-node.node.now) c.loop-node.within.start c.loop-node.within.end c.in-Some.index c.in-Some.start c.in-Some.ensures.some.0 c.in-Some.ensures.some.1 in
+    grind (arith, before)
+
+pub loop-node-smaller : goal.loop-node-smaller
+loop-node-smaller c =
+    let a : Ancestor = record { node = c.loop-node.node; index = c.in-Some.index } in
+    omega (
+      arith,
+      ap (λ xs. size_at c.args.green.now (path_below xs)) c.in_ok-push.ensures.items,
+      descent-smaller c.args.green.now c.args.range c.loop-node.ancestors.items a c.loop-node.within c.loop-node.invariant c.in-Some.ensures.some.0,
+    )
+
+pub loop-node-preserved : goal.loop-node-preserved
+loop-node-preserved c =
+    let a : Ancestor = record { node = c.loop-node.node; index = c.in-Some.index } in
+    let child = c.in-Node.child.now in
+    let is : slice_get (node_children a.node.now) a.index ≡ Some (Node child) = c.in-Some.ensures.some.2 ∙ ap (λ e. Some (pointee e)) (let same : c.in-Some.child ≡ Node c.in-Node.child = cc in same) in
+    let next = c.counted_from-within.result in
+    subst (λ xs. IsDescending c.args.green.now c.args.range xs child next) (sym c.in_ok-push.ensures.items)
+    (descent-goes-on c.args.green.now c.args.range c.loop-node.ancestors.items a c.loop-node.within child next c.loop-node.invariant (sym c.loop-node-test.ensures) record {
+      at = c.in-Some.ensures.some.0;
+      child = is;
+      start = grind (arith, c.in-Some.ensures.some.1, c.counted_from-within.ensures.start);
+      end = grind (arith, c.in-Some.ensures.some.1, c.counted_from-within.ensures.end);
+    })
+
+pub returns-clause-ok : goal.returns-clause-ok
+returns-clause-ok c =
+    list-found c.args.green.now c.args.range c.loop-node.ancestors.items c.loop-node.node.now c.loop-node.within c.loop-node.invariant (sym c.loop-node-test.ensures)
+
+pub returns-clause-ancestors : goal.returns-clause-ancestors
+returns-clause-ancestors c = c.loop-node.invariant.ancestors

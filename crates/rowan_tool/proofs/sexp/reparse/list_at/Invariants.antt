@@ -1,11 +1,10 @@
-use Rattle.std.proofs.Common.{◌≡◌}
 use Rattle.rowan.proofs.ChainLemmas.{size_at}
-use Rattle.rowan_tool.proofs.ListSearch.{IsSearching}
+use Rattle.rowan_tool.specs.Ancestors.{path_below}
+use Rattle.rowan_tool.proofs.AncestorLemmas.{IsDescending}
 use Rattle.rowan_tool.proofs.sexp.reparse.list_at.Given as goal
 
--- the search has come to a node of the tree
-abbrev pub invariant-loop-range : goal.invariant-loop-range
-invariant-loop-range l = IsSearching l.node.root l.range l.node.path × (l.node.root ≡ l.green)
+abbrev pub invariant-loop-node : goal.invariant-loop-node
+invariant-loop-node l = IsDescending l.fn.green l.fn.range l.ancestors.items l.node l.within
 
-abbrev pub decreases-loop-range : goal.decreases-loop-range
-decreases-loop-range l = size_at l.node.root l.node.path
+abbrev pub decreases-loop-node : goal.decreases-loop-node
+decreases-loop-node l = size_at l.fn.green (path_below l.ancestors.items)
