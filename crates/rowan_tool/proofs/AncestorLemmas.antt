@@ -18,8 +18,7 @@ use Rattle.rowan_green.proofs.PutLemmas.{put-child}
 use Rattle.rowan_green.proofs.PutLimits.{unfit-put}
 use Rattle.rowan_green.proofs.SearchLemmas.{has-range}
 use Rattle.rowan_cursor.specs.Cursor.{Cursor, kind}
-use Rattle.rowan_cursor.specs.Moves.{children_of, is_node, is_node_at}
-use Rattle.rowan_cursor.specs.Replacement.{with_replacement}
+use Rattle.rowan_cursor.specs.Moves.{children_of, is_node}
 use Rattle.rowan_cursor.specs.Search.{IsRangeChild}
 use Rattle.rowan_cursor.proofs.PathLemmas.{offset-child, subterm-child}
 use Rattle.rowan.specs.Pointer.{is_node_of}

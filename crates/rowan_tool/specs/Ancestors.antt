@@ -1,4 +1,4 @@
--- The nodes above a list, from the root on, each with the index of its child on the way to the list; and the list at a range that is
+-- The nodes above a list, from the root on, each with the index of its child on the way to the list; and the list at a range,
 -- parsed anew in its tree.
 use Rattle.std.specs.Prelude.{◌≡◌, ◌≢◌, ◌⊎◌, ℕ, List, ◌∷◌, ◌++◌, map, Some}
 use Rattle.rowan_green.specs.declared.fault.Fault.{Fault}

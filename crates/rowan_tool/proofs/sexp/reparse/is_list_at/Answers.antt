@@ -1,5 +1,4 @@
 use Rattle.std.proofs.Common.{◌≡◌, ◌+◌, ap, ◌∙◌}
-use Rattle.rowan_green.specs.Span.{Span}
 use Rattle.rowan_green.specs.Term.{node_len}
 use Rattle.rowan_tool.specs.Casts.{is_list}
 use Rattle.rowan_tool.specs.Sexp.{kind_of}
