@@ -1,5 +1,5 @@
 //! The builder over a cache of its own: all that a builder does to its word.
-ghost use Rattle.std.specs.Prelude.{◌≡◌, ◌<◌, length, IfOk, IfErr, OnOk, OnErr};
+ghost use Rattle.std.specs.Prelude.{◌≡◌, ◌<◌, [], ◌++◌, ◌∷◌, length, IfOk, IfErr, OnOk, OnErr};
 ghost use Rattle.rowan_green.specs.declared.utility_types.NodeOrToken.TheVariants.{Node, Token};
 ghost use Rattle.rowan_green.specs.Builder.{new_builder, adds, opens, FinishesNode, WrapsAt};
 ghost use Rattle.rowan_green.specs.Fits.{byte_limit};
@@ -94,7 +94,7 @@ impl OwningBuilder {
         ensures unchanged { OnErr result (self.new ≡ self.old) }
     {
         let first_child = self.finished.len();
-        self.parents.push(OpenNode { kind, first_child })?;
+        open(&mut self.parents, OpenNode { kind, first_child })?;
         Ok(())
     }
 
@@ -146,10 +146,11 @@ impl OwningBuilder {
         if place < innermost_place(self.parents.as_slice()) {
             return Err(Fault::CheckpointBefore);
         }
-        self.parents.push(OpenNode {
+        let node = OpenNode {
             kind,
             first_child: place,
-        })?;
+        };
+        open(&mut self.parents, node)?;
         Ok(())
     }
 
@@ -196,6 +197,20 @@ impl OwningBuilder {
             GreenChild::Token { .. } => unreachable!(),
         }
     }
+}
+
+// Opens a node inside those that are open. A tree has many nodes, so the list is asked for room where it has none, and is not where it
+// has.
+#[inline(always)]
+fn open(parents: &mut Vec<OpenNode>, node: OpenNode) -> Result<(), AllocError>
+    ensures items { OnOk result (parents.new.items ≡ parents.old.items ++ node ∷ []) }
+    ensures unchanged { OnErr result (parents.new.items ≡ parents.old.items) }
+{
+    if parents.len() == parents.capacity() {
+        parents.reserve(1)?;
+    }
+    parents.push_reserved(node);
+    Ok(())
 }
 
 // The place of the innermost open node, or 0.

@@ -72,8 +72,10 @@ impl Waiting {
             Some(block) => block.reserve()?,
             None => self.block = Some(ChildBlock::with_capacity(self.alloc, FIRST_ROOM)?),
         }
-        self.numbers.reserve(1)?;
-        Ok(())
+        if self.numbers.len() < self.numbers.capacity() {
+            return Ok(());
+        }
+        self.numbers.reserve(1)
     }
 
     // Inlined, so that what is pushed need not be in memory first.

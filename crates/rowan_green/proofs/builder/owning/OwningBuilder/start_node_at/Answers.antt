@@ -29,13 +29,13 @@ returns-then-place-innermost_place-clause-past c = λ h.
     let s = c.self.inside in
     absurd (not_IsPast s.parents.items (elements s.finished) c.args.self.now.word c.args.checkpoint (ap (λ b. b.word) c.self.view_is) (omega (arith, c.if-place-len.false, c.checkpoint.view_is)) h)
 
-pub returns-in_err-push-clause-past : goal.returns-in_err-push-clause-past
-returns-in_err-push-clause-past c = λ h.
+pub returns-in_err-open-clause-past : goal.returns-in_err-open-clause-past
+returns-in_err-open-clause-past c = λ h.
     let s = c.self.inside in
     absurd (not_IsPast s.parents.items (elements s.finished) c.args.self.now.word c.args.checkpoint (ap (λ b. b.word) c.self.view_is) (omega (arith, c.if-place-len.false, c.checkpoint.view_is)) h)
 
-pub returns-in_err-push-clause-before : goal.returns-in_err-push-clause-before
-returns-in_err-push-clause-before c = λ b.
+pub returns-in_err-open-clause-before : goal.returns-in_err-open-clause-before
+returns-in_err-open-clause-before c = λ b.
     let s = c.self.inside in
     let place = c.innermost_place.ensures ∙ ap (λ ps. place_of_innermost 0 ps) c.as_slice.ensures.value in
     absurd (not_IsBeforeOpening s.parents.items (elements s.finished) c.args.self.now.word c.args.checkpoint (ap (λ b. b.word) c.self.view_is) c.self.invariant.0 (omega (arith, place, c.if-place-innermost_place.false, c.checkpoint.view_is)) b)
@@ -57,7 +57,7 @@ invariant_of-self-2 c =
     let o : OpenNode = record { kind = c.args.kind; first_child = c.checkpoint.inside.place } in
     let place = c.innermost_place.ensures ∙ ap (λ ps. place_of_innermost 0 ps) c.as_slice.ensures.value in
     let P : List OpenNode → Type 0 = λ os. AreInOrder 0 os (length (elements s.finished)) in (
-      subst P (sym c.in_ok-push.ensures.items)
+      subst P (sym c.in_ok-open.ensures.items)
           (AreInOrder-push 0 s.parents.items o (length (elements s.finished))
           (AreInOrder-last 0 s.parents.items (length (elements s.finished)) o.first_child c.self.invariant.0 (omega (arith, place, c.if-place-innermost_place.false)))
           (omega (arith, c.if-place-len.false))),
@@ -69,11 +69,11 @@ returns-clause-ok c =
     let s = c.self.inside in
     let o : OpenNode = record { kind = c.args.kind; first_child = c.checkpoint.inside.place } in
     let place = c.innermost_place.ensures ∙ ap (λ ps. place_of_innermost 0 ps) c.as_slice.ensures.value in
-    let new = spelled (weave 0 c.push.new.self.items (elements s.finished)) in
+    let new = spelled (weave 0 c.open.new.parents.items (elements s.finished)) in
     record {
       wraps =
           subst (λ p. Wraps c.args.self.now.word p c.args.kind.0 new) c.checkpoint.view_is
-          (Wraps-weave s.parents.items (elements s.finished) o c.args.self.now.word new (ap (λ b. b.word) c.self.view_is) (ap (λ os. spelled (weave 0 os (elements s.finished))) (sym c.in_ok-push.ensures.items)) c.self.invariant.0
+          (Wraps-weave s.parents.items (elements s.finished) o c.args.self.now.word new (ap (λ b. b.word) c.self.view_is) (ap (λ os. spelled (weave 0 os (elements s.finished))) (sym c.in_ok-open.ensures.items)) c.self.invariant.0
           (omega (arith, place, c.if-place-innermost_place.false)) (omega (arith, c.if-place-len.false)));
       same_cache = ap (λ b. b.cache) c.self.view_is;
     }
