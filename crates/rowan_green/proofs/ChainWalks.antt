@@ -1,9 +1,9 @@
 -- A walk along a chain of places, to the first with a hash.
-use Rattle.std.proofs.Common.{◌≡◌, ℕ, zero, suc, ◌<◌, ◌≤◌, List, [], ◌∷◌, length, map, get_or, Option, Some, None, refl, sym, ◌∙◌, ap, inl, inr, arith}
+use Rattle.std.proofs.Common.{◌≡◌, ℕ, zero, suc, ◌<◌, ◌≤◌, List, [], ◌∷◌, length, map, Option, Some, None, refl, sym, ◌∙◌, ap, inl, inr, arith}
 use Rattle.std.specs.List.{slice_get}
 use Rattle.std.proofs.lemmas.Bool.{cases_eq}
 use Rattle.std.proofs.lemmas.List.{length-map}
-use Rattle.std.proofs.lemmas.Option.{slice_get_within, get_or_from_slice_get}
+use Rattle.std.proofs.lemmas.Option.{slice_get_within}
 use Rattle.rowan_green.specs.Chains.{bucket, IsUpTo, IsNewest, IsOnChain, AreLinked}
 use Rattle.rowan_green.proofs.TableLemmas.{at_map, left_before}
 
@@ -11,11 +11,6 @@ at_within : {X : Type 0} (xs : List X) (n : ℕ) → n < length xs → (x : X) �
 at_within [] n within = absurd (omega (arith, within))
 at_within (x ∷ xs) zero within = (x, refl)
 at_within (x ∷ xs) (suc n) within = at_within xs n (omega (arith, within))
-
-pub read_at : (xs : List ℕ) (n : ℕ) → n < length xs → slice_get xs n ≡ Some (get_or xs n 0)
-read_at xs n within =
-    let p = at_within xs n within in
-    p.1 ∙ ap (λ x. Some x) (sym (get_or_from_slice_get xs n p.0 0 p.1))
 
 -- the next place is in the bucket, and each place with the hash is there or before it
 pub record IsAheadOn (bs hashes : List ℕ) (bound b hash : ℕ) (next : Option ℕ) : Type 0 where

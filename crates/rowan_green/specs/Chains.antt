@@ -2,11 +2,19 @@
 use Rattle.std.specs.Prelude.{◌≡◌, ℕ, ◌-◌, ◌<◌, ◌≤◌, List, length, map, Option, Some, None, bit_and, refl}
 use Rattle.std.specs.Coded.{Coded, code_by, coded×, coded_ℕ, coded_list}
 use Rattle.std.specs.List.{slice_get}
+use Rattle.rowan_green.specs.declared.node_cache.chains.Place.{Place}
 
 -- what a contract sees of chains: the hash of each place, and how many buckets there are
 pub record ChainsValue : Type 0 where
   pub hashes : List ℕ
   pub count : ℕ
+
+-- the hashes of places, and the links to the older ones
+abbrev pub hashes_of : List Place → List ℕ
+hashes_of ps = map (λ p. p.hash) ps
+
+abbrev pub older_of : List Place → List (Option ℕ)
+older_of ps = map (λ p. p.older) ps
 
 abbrev pub bucket : ℕ → ℕ → ℕ
 bucket count hash = bit_and hash (count - 1)

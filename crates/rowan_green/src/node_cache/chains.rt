@@ -1,7 +1,7 @@
 //! Places by their hashes: the places whose hashes have one bucket are a chain, the newest first.
 ghost use Rattle.std.specs.Prelude.{◌≡◌, ◌+◌, ◌<◌, List, ℕ, [], ◌++◌, ◌∷◌, length, map, replicate, Option, None, Some, IfOk, OnOk, OnErr};
 ghost use Rattle.std.specs.List.{slice_get};
-ghost use Rattle.rowan_green.specs.Chains.{bucket, IsNewest, IsOnChain, AreLinked};
+ghost use Rattle.rowan_green.specs.Chains.{bucket, hashes_of, older_of, IsNewest, IsOnChain, AreLinked};
 
 use crate::link::Link;
 use std::alloc::{AllocError, Global};
@@ -13,14 +13,19 @@ const MAX_PLACES: usize = u32::MAX as usize;
 // The number of buckets that the first place takes. It is doubled as the places grow, so it is a power of two.
 const FIRST_BUCKETS: usize = 16;
 
+// A place: its hash, and the newest of the older places in its bucket. A walk along a chain needs both of each, so they lie side by side.
+#[derive(Clone, Copy)]
+pub(crate) struct Place {
+    pub(crate) hash: u32,
+    pub(crate) older: Link,
+}
+
 #[derive(Drop)]
 pub(super) struct Chains {
     alloc: Global,
-    hashes: Vec<u32>,
+    places: Vec<Place>,
     // The newest place of each bucket. There are no fewer buckets than places.
     newest: Vec<Link>,
-    // Of each place, the newest of the older ones in its bucket.
-    older: Vec<Link>,
 }
 
 impl Model for Chains {
@@ -31,11 +36,12 @@ impl Model for Chains {
 
     ghost coded = { coded_chains };
 
-    ghost use Rattle.rowan_green.specs.Chains.{AreChains};
+    ghost use Rattle.rowan_green.specs.Chains.{hashes_of, older_of, AreChains};
 
-    ghost view = { λ c. record { hashes = c.hashes.items; count = length c.newest.items } };
+    ghost view = { λ c. record { hashes = hashes_of c.places.items; count = length c.newest.items } };
 
-    ghost invariant = { λ c. AreChains c.hashes.items c.newest.items c.older.items };
+    ghost invariant = { λ c.
+        AreChains (hashes_of c.places.items) c.newest.items (older_of c.places.items) };
 }
 
 impl Chains {
@@ -44,9 +50,8 @@ impl Chains {
     {
         Chains {
             alloc,
-            hashes: Vec::new(alloc),
+            places: Vec::new(alloc),
             newest: Vec::new(alloc),
-            older: Vec::new(alloc),
         }
     }
 
@@ -58,7 +63,7 @@ impl Chains {
             return None;
         }
         let first = self.newest[bucket(hash, self.newest.len())];
-        place_with(hash, self.hashes.as_slice(), self.older.as_slice(), first)
+        place_with(hash, self.places.as_slice(), first)
     }
 
     // The newest of the places that are older than this one and have its hash.
@@ -67,9 +72,8 @@ impl Chains {
         ensures { (hash : ℕ) → slice_get self.now.hashes place ≡ Some hash
             → IsNewest self.now.hashes place hash result }
     {
-        let hash = self.hashes[place as usize];
-        let next = self.older[place as usize];
-        place_with(hash, self.hashes.as_slice(), self.older.as_slice(), next)
+        let here = &self.places[place as usize];
+        place_with(here.hash, self.places.as_slice(), here.older)
     }
 
     // Adds a place with this hash, and says which. A refused call leaves the places as they were.
@@ -79,14 +83,12 @@ impl Chains {
         ensures small { IfOk result (λ n. n < 4294967295) }
         ensures unchanged { OnErr result (self.new.hashes ≡ self.old.hashes) }
     {
-        let place = self.hashes.len();
+        let place = self.places.len();
         if place >= MAX_PLACES {
             return Err(AllocError);
         }
         self.make_room()?;
-        self.hashes.reserve(1)?;
-        add_link(&mut self.newest, &mut self.older, hash)?;
-        self.hashes.push(hash)?;
+        add_place(&mut self.newest, &mut self.places, hash)?;
         Ok(place as u32)
     }
 
@@ -96,19 +98,18 @@ impl Chains {
         ensures hashes { self.new.hashes ≡ self.old.hashes }
         ensures room { OnOk result (length self.old.hashes < self.new.count) }
     {
-        let places = self.hashes.len();
-        if places < self.newest.len() {
+        let old = self.places.as_slice();
+        if old.len() < self.newest.len() {
             return Ok(());
         }
-        let buckets = buckets_for(places);
+        let buckets = buckets_for(old.len());
         let mut newest = no_places(self.alloc, buckets)?;
-        let mut older = Vec::with_capacity(self.alloc, buckets)?;
-        let hashes = self.hashes.as_slice();
-        for hash in hashes {
-            add_link(&mut newest, &mut older, *hash)?;
+        let mut places = Vec::with_capacity(self.alloc, buckets)?;
+        for place in old {
+            add_place(&mut newest, &mut places, place.hash)?;
         }
         self.newest = newest;
-        self.older = older;
+        self.places = places;
         Ok(())
     }
 }
@@ -133,37 +134,40 @@ fn no_places(alloc: Global, count: usize) -> Result<Vec<Link>, AllocError>
     Ok(newest)
 }
 
-// Links the next place, which has this hash. A refused call changes neither list.
-fn add_link(newest: &mut Vec<Link>, older: &mut Vec<Link>, hash: u32) -> Result<(), AllocError>
+// Adds a place with this hash to its chain. A refused call changes neither list.
+fn add_place(newest: &mut Vec<Link>, places: &mut Vec<Place>, hash: u32) -> Result<(), AllocError>
     requires some { 0 < length newest.old.items }
-    requires small { length older.old.items < 4294967295 }
-    ensures ok { OnOk result ((hs : List ℕ) → AreLinked hs newest.old.items older.old.items
-        → AreLinked (hs ++ hash ∷ []) newest.new.items older.new.items) }
+    requires small { length places.old.items < 4294967295 }
+    ensures ok { OnOk result (AreLinked (hashes_of places.old.items) newest.old.items (older_of places.old.items)
+        → AreLinked (hashes_of places.new.items) newest.new.items (older_of places.new.items)) }
+    ensures hashes { OnOk result (hashes_of places.new.items ≡ hashes_of places.old.items ++ hash ∷ []) }
     ensures len { length newest.new.items ≡ length newest.old.items }
     ensures newest { OnErr result (newest.new.items ≡ newest.old.items) }
-    ensures older { OnErr result (older.new.items ≡ older.old.items) }
+    ensures places { OnErr result (places.new.items ≡ places.old.items) }
 {
-    let place = older.len() as u32;
+    let number = places.len() as u32;
     let bucket = bucket(hash, newest.len());
-    older.push(newest[bucket])?;
-    newest[bucket] = Link::to(place);
+    let older = newest[bucket];
+    places.push(Place { hash, older })?;
+    newest[bucket] = Link::to(number);
     Ok(())
 }
 
 // The first place with this hash on the chain that goes on here.
-fn place_with(hash: u32, hashes: &[u32], older: &[Link], next: Link) -> Option<u32>
-    requires { IsOnChain hashes.now older.now next }
-    ensures { (newest : List (Option ℕ)) (bound : ℕ) → AreLinked hashes.now newest older.now
+fn place_with(hash: u32, places: &[Place], next: Link) -> Option<u32>
+    requires { IsOnChain (hashes_of places.now) (older_of places.now) next }
+    ensures { (newest : List (Option ℕ)) (bound : ℕ) → AreLinked (hashes_of places.now) newest (older_of places.now)
         → let count = length newest in
-        IsNewest (map (bucket count) hashes.now) bound (bucket count hash) next
-        → IsNewest hashes.now bound hash result }
+        IsNewest (map (bucket count) (hashes_of places.now)) bound (bucket count hash) next
+        → IsNewest (hashes_of places.now) bound hash result }
 {
     let mut next = next.number();
-    while let Some(place) = next {
-        if hashes[place as usize] == hash {
-            return Some(place);
+    while let Some(number) = next {
+        let place = &places[number as usize];
+        if place.hash == hash {
+            return Some(number);
         }
-        next = older[place as usize].number();
+        next = place.older.number();
     }
     None
 }

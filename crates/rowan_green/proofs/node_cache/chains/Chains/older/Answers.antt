@@ -1,43 +1,47 @@
 use Rattle.std.proofs.Common.{◌≡◌, ◌<◌, length, map, Some, refl, sym, ◌∙◌, ap, subst, arith}
 use Rattle.std.specs.List.{slice_get}
+use Rattle.std.proofs.lemmas.List.{length-map}
 use Rattle.std.proofs.lemmas.Option.{slice_get_read}
-use Rattle.rowan_green.specs.Chains.{bucket, IsNewest, IsOnChain, AreLinked}
+use Rattle.rowan_green.specs.declared.node_cache.chains.Place.{Place}
+use Rattle.rowan_green.specs.Chains.{bucket, hashes_of, older_of, IsNewest, IsOnChain, AreLinked}
 use Rattle.rowan_green.proofs.ChainWalks.{IsOnChain-older, IsNewest-older}
+use Rattle.rowan_green.proofs.TableLemmas.{at_map}
 use Rattle.rowan_green.proofs.node_cache.chains.Chains.older.Goals as goal
+
+pub index-here-requires : goal.index-here-requires
+index-here-requires c =
+    let ps = c.self.inside.places.items in
+    let below : c.args.place < length (hashes_of ps) = subst (λ v. c.args.place < length v.hashes) (sym c.self.view_is) c.requires in
+    omega (arith, below, length-map ps (λ (p : Place). p.hash), c.self.inside.places.ok.0)
 
 pub place_with-requires : goal.place_with-requires
 place_with-requires c =
-    let s = c.self.inside in
-    let older = s.older.items in
-    let linked = c.self.invariant.linked in
-    let o = c.index-next.result.now in
-    let below : c.args.place < length s.hashes.items = subst (λ v. c.args.place < length v.hashes) (sym c.self.view_is) c.requires in
-    let within : c.args.place < length older = omega (arith, below, linked.count) in
-    let at : slice_get older c.args.place ≡ Some o = slice_get_read older (length older) c.args.place o refl within c.index-next.ensures in
-    subst (λ hs. IsOnChain hs c.as_slice-2.result.now o) (sym c.as_slice.ensures.value)
-    (subst (λ os. IsOnChain s.hashes.items os o) (sym c.as_slice-2.ensures.value) (IsOnChain-older s.hashes.items s.newest.items older linked c.args.place o at))
+    let ps = c.self.inside.places.items in
+    let p : Place = c.index-here.result.now in
+    let below : c.args.place < length (hashes_of ps) = subst (λ v. c.args.place < length v.hashes) (sym c.self.view_is) c.requires in
+    let within : c.args.place < length ps = omega (arith, below, length-map ps (λ (q : Place). q.hash)) in
+    let at : slice_get ps c.args.place ≡ Some p = slice_get_read ps (length ps) c.args.place p refl within c.index-here.ensures in
+    subst (λ qs. IsOnChain (hashes_of qs) (older_of qs) p.older) (sym c.as_slice.ensures.value)
+    (IsOnChain-older (hashes_of ps) c.self.inside.newest.items (older_of ps) c.self.invariant.linked c.args.place p.older (at_map (λ (q : Place). q.older) ps c.args.place p at))
 
 pub returns : goal.returns
 returns c = λ hash given.
     let s = c.self.inside in
-    let hashes = s.hashes.items in
+    let ps = s.places.items in
     let newest = s.newest.items in
-    let older = s.older.items in
     let linked = c.self.invariant.linked in
     let place = c.args.place in
-    let h = c.index-hash.result.now in
-    let o = c.index-next.result.now in
-    let below : place < length hashes = subst (λ v. place < length v.hashes) (sym c.self.view_is) c.requires in
-    let within : place < length older = omega (arith, below, linked.count) in
-    let at : slice_get hashes place ≡ Some h = slice_get_read hashes (length hashes) place h refl below c.index-hash.ensures in
-    let at_older : slice_get older place ≡ Some o = slice_get_read older (length older) place o refl within c.index-next.ensures in
-    let both : Some h ≡ Some hash = sym at ∙ ap (λ v. slice_get v.hashes place) c.self.view_is ∙ given in
-    let same : h ≡ hash = cc in
-    let next = IsNewest-older hashes newest older linked place h o at at_older in
-    let links = subst (λ hs. AreLinked hs newest c.as_slice-2.result.now) (sym c.as_slice.ensures.value)
-    (subst (λ os. AreLinked hashes newest os) (sym c.as_slice-2.ensures.value) linked) in
-    let found = c.place_with.ensures newest place links
-    (subst (λ hs. IsNewest (map (bucket (length newest)) hs) place (bucket (length newest) h) o) (sym c.as_slice.ensures.value) next) in
+    let p : Place = c.index-here.result.now in
+    let below : place < length (hashes_of ps) = subst (λ v. place < length v.hashes) (sym c.self.view_is) c.requires in
+    let within : place < length ps = omega (arith, below, length-map ps (λ (q : Place). q.hash)) in
+    let at : slice_get ps place ≡ Some p = slice_get_read ps (length ps) place p refl within c.index-here.ensures in
+    let at_hash : slice_get (hashes_of ps) place ≡ Some p.hash = at_map (λ (q : Place). q.hash) ps place p at in
+    let both : Some p.hash ≡ Some hash = sym at_hash ∙ ap (λ v. slice_get v.hashes place) c.self.view_is ∙ given in
+    let same : p.hash ≡ hash = cc in
+    let next = IsNewest-older (hashes_of ps) newest (older_of ps) linked place p.hash p.older at_hash (at_map (λ (q : Place). q.older) ps place p at) in
+    let found = c.place_with.ensures newest place
+    (subst (λ qs. AreLinked (hashes_of qs) newest (older_of qs)) (sym c.as_slice.ensures.value) linked)
+    (subst (λ qs. IsNewest (map (bucket (length newest)) (hashes_of qs)) place (bucket (length newest) p.hash) p.older) (sym c.as_slice.ensures.value) next) in
     subst (λ k. IsNewest c.args.self.now.hashes place k c.place_with.result) same
-    (subst (λ v. IsNewest v.hashes place h c.place_with.result) c.self.view_is
-    (subst (λ hs. IsNewest hs place h c.place_with.result) c.as_slice.ensures.value found))
+    (subst (λ v. IsNewest v.hashes place p.hash c.place_with.result) c.self.view_is
+    (subst (λ qs. IsNewest (hashes_of qs) place p.hash c.place_with.result) c.as_slice.ensures.value found))
