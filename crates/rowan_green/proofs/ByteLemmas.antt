@@ -23,7 +23,7 @@ ComesFrom-none old count = record {
       absurd cc;
 }
 
-set_cases : {X : Type 0} (xs : List X) (i : ℕ) (x : X) (n : ℕ) (y : X) → slice_get (set xs i x) n ≡ Some y → (slice_get xs n ≡ Some y) ⊎ ((n ≡ i) × (x ≡ y))
+pub set_cases : {X : Type 0} (xs : List X) (i : ℕ) (x : X) (n : ℕ) (y : X) → slice_get (set xs i x) n ≡ Some y → (slice_get xs n ≡ Some y) ⊎ ((n ≡ i) × (x ≡ y))
 set_cases [] i x n y e = inl e
 set_cases (z ∷ xs) zero x zero y e = inr (refl, cc)
 set_cases (z ∷ xs) zero x (suc n) y e = inl e

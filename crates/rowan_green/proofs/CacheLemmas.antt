@@ -178,6 +178,11 @@ first_seen-Contains limit ts t = (
   (λ p. Contains-is_among (first_seen limit ts) t (is_among-fold limit [] ts t ∙ rw (is_among-Contains ts t p.0, p.1) refl)),
 )
 
+-- what is kept is eligible
+pub kept_is_eligible : (limit : ℕ) (seen : List Term) (place : ℕ) (t : Term) → first_seen limit seen ≡ seen → slice_get seen place ≡ Some t → is_eligible limit t ≡ true
+kept_is_eligible limit seen place t first at =
+    ((first_seen-Contains limit seen t).0 (subst (λ ts. Contains ts t) (sym first) (Contains-is_among seen t (is_among-at seen place t at)))).1
+
 -- ---- a cache that was asked for a term
 
 pub intern-known : (cache : CacheValue) (place : ℕ) (t : Term) → slice_get cache.seen place ≡ Some t → cache ≡ intern cache t

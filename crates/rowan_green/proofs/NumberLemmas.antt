@@ -1,8 +1,9 @@
 -- Elements with their numbers: the numbers stay right while a cache grows, and a node of elements is eligible exactly where
 -- there are few enough of them and each has a number.
-use Rattle.std.proofs.Common.{◌≡◌, ℕ, Bool, true, false, ◌&&◌, List, [], ◌∷◌, ◌++◌, map, take, drop, zero, suc, length, Option, Some, None, refl, sym, ◌∙◌, ap, subst}
+use Rattle.std.proofs.Common.{◌≡◌, ℕ, ◌<◌, Bool, true, false, ◌&&◌, List, [], ◌∷◌, ◌++◌, map, take, drop, zero, suc, length, get_or, Option, Some, None, refl, sym, ◌∙◌, ap, subst, arith}
 use Rattle.std.specs.Prelude.{nat_le, is_some}
 use Rattle.std.specs.List.{list_all, slice_get}
+use Rattle.std.proofs.lemmas.Option.{slice_get_within}
 use Rattle.rowan_green.specs.declared.node_cache.Interned.{Interned}
 use Rattle.rowan_green.specs.declared.utility_types.NodeOrToken.TheVariants.{Node, Token}
 use Rattle.rowan_green.specs.Term.{Term, forest, node_of}
@@ -102,6 +103,22 @@ StandAt-elements cache (t ∷ ts) (o ∷ os) (n ∷ ns) h e =
     let here : o ≡ Some n = cc in
     let rest : os ≡ map (λ n. Some n) ns = cc in
     ((subst (λ p. HasNumber cache t p) here h.0).1, StandAt-elements cache ts os ns h.1 rest)
+
+-- the only number is one of those of a list
+pub StandAt-only : (seen : List Term) (n : ℕ) (ts : List Term) → StandAt seen (n ∷ []) ts → n < length seen
+StandAt-only seen n [] s = absurd s
+StandAt-only seen n (t ∷ ts) s = slice_get_within seen n t s.0
+
+-- a list of one item
+pub only_item : (os : List (Option ℕ)) → length os ≡ 1 → os ≡ get_or os 0 None ∷ []
+only_item [] one = absurd (omega (arith, one))
+only_item (o ∷ []) one = refl
+only_item (o ∷ p ∷ os) one = absurd (omega (arith, one))
+
+pub only_number : (ns : List ℕ) → length ns ≡ 1 → ns ≡ get_or ns 0 0 ∷ []
+only_number [] one = absurd (omega (arith, one))
+only_number (n ∷ []) one = refl
+only_number (n ∷ m ∷ ns) one = absurd (omega (arith, one))
 
 pub StandAt-length : (seen : List Term) (ns : List ℕ) (ts : List Term) → StandAt seen ns ts → length ns ≡ length ts
 StandAt-length seen [] [] h = refl

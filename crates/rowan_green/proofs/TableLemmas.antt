@@ -6,17 +6,20 @@ use Rattle.std.specs.Cmp.Lexicographic.{pointwise, bytes_decides}
 use Rattle.std.proofs.lemmas.Bool.{cases_eq, false≢true, and_parts, and_from, both_ways, false_from_ne_true}
 use Rattle.std.proofs.lemmas.Bool.Decides.{Decides-eqb}
 use Rattle.std.proofs.lemmas.List.{length-map, length-append, map-append, take-append-le, drop-append-le, length-drop, take_all}
+use Rattle.std.proofs.Math.ListN.{set}
 use Rattle.std.proofs.Math.Seq.{drop-append_seam}
-use Rattle.std.proofs.lemmas.Option.{slice_get_within}
+use Rattle.std.proofs.lemmas.Option.{slice_get_within, none-some, same_Some}
 use Rattle.rowan_green.specs.declared.node_cache.table.Kept.{Kept}
+use Rattle.rowan_green.specs.declared.node_cache.table.Kept.TheVariants as kept
 use Rattle.rowan_green.specs.declared.utility_types.NodeOrToken.TheVariants.{Node, Token}
-use Rattle.rowan_green.specs.Term.{NodeTerm, node, Term, token_of, node_of, node_kind, node_children}
+use Rattle.rowan_green.specs.Term.{NodeTerm, node, Term, token_of, node_of, node_kind, node_children, term_kind}
 use Rattle.rowan_green.specs.Same.{same_term, same_term-decides}
 use Rattle.rowan_green.specs.Path.{term_children}
 use Rattle.rowan_green.specs.Cache.{is_among}
 use Rattle.rowan_green.specs.Chains.{ChainsValue, IsUpTo, IsNewest}
-use Rattle.rowan_green.specs.Tables.{token_hash, node_hash, key_hash, child_numbers, is_node_by, hash_of, hashes, kept_of, kept_term, first_number, kept_terms, StandAt, KeepsLimits, IsKept, IsIndexed}
-use Rattle.rowan_green.proofs.CacheLemmas.{slice_get-cases, place_from_is_among, StandsOnce-push}
+use Rattle.rowan_green.specs.Tables.{token_hash, node_hash, key_hash, child_numbers, is_node_by, hash_of, hashes, kept_of, kept_term, first_number, kept_terms, kept_parent, with_parent, StandAt, KeepsLimits, IsKept, IsIndexed}
+use Rattle.rowan_green.proofs.ByteLemmas.{set_cases}
+use Rattle.rowan_green.proofs.CacheLemmas.{slice_get-cases, slice_get-grown, slice_get-last, place_from_is_among, StandsOnce-push}
 use Rattle.rowan_green.proofs.NumberLemmas.{StandAt-terms, StandAt-numbers, StandAt-grown, StandAt-length}
 use Rattle.rowan_green.proofs.Terms.{terms-forest, forest-terms}
 
@@ -35,6 +38,11 @@ from_map f (x ∷ xs) (suc n) y e = from_map f xs n y e
 same_maps : {X Y : Type 0} (f g : X → Y) (xs : List X) → ((n : ℕ) (x : X) → slice_get xs n ≡ Some x → f x ≡ g x) → map f xs ≡ map g xs
 same_maps f g [] h = refl
 same_maps f g (x ∷ xs) h = ap (λ y. y ∷ map f xs) (h 0 x refl) ∙ ap (λ ys. g x ∷ ys) (same_maps f g xs (λ n. h (suc n)))
+
+map-set : {X Y : Type 0} (f : X → Y) (xs : List X) (n : ℕ) (x y : X) → slice_get xs n ≡ Some x → f y ≡ f x → map f (set xs n y) ≡ map f xs
+map-set f [] n x y at same = refl
+map-set f (z ∷ xs) zero x y at same = let is : z ≡ x = cc in ap (λ w. w ∷ map f xs) (same ∙ ap f (sym is))
+map-set f (z ∷ xs) (suc n) x y at same = ap (λ ys. f z ∷ ys) (map-set f xs n x y at same)
 
 -- ---- a search along a chain
 
@@ -124,6 +132,10 @@ kept_of-first : (first : ℕ) (t : Term) → first_number (kept_of first t) ≤ 
 kept_of-first first (Node n) = omega arith
 kept_of-first first (Token t) = omega arith
 
+kept_of-parent : (first : ℕ) (t : Term) → kept_parent (kept_of first t) ≡ None
+kept_of-parent first (Node n) = refl
+kept_of-parent first (Token t) = refl
+
 no_numbers : (seen : List Term) (numbers : List ℕ) → StandAt seen numbers [] → [] ≡ numbers
 no_numbers seen [] s = refl
 no_numbers seen (n ∷ ns) s = absurd s
@@ -134,6 +146,33 @@ kept_of-numbers seen all numbers (Node n) stand =
     let count = length (node_children n) in
     ap (λ ns. take count ns) (drop-append_seam all numbers) ∙ take_all count numbers (omega (arith, StandAt-length seen numbers (node_children n) stand))
 kept_of-numbers seen all numbers (Token t) stand = no_numbers seen numbers stand
+
+-- ---- a value whose newest parent is another one
+
+with_parent-term : (n : ℕ) (k : Kept) → kept_term (with_parent n k) ≡ kept_term k
+with_parent-term n (kept.Token p t) = refl
+with_parent-term n (kept.Node first m) = refl
+
+with_parent-numbers : (all : List ℕ) (n : ℕ) (k : Kept) → child_numbers all (with_parent n k) ≡ child_numbers all k
+with_parent-numbers all n (kept.Token p t) = refl
+with_parent-numbers all n (kept.Node first m) = refl
+
+with_parent-hash : (all : List ℕ) (n : ℕ) (k : Kept) → hash_of all (with_parent n k) ≡ hash_of all k
+with_parent-hash all n (kept.Token p t) = refl
+with_parent-hash all n (kept.Node first m) = refl
+
+with_parent-parent : (n : ℕ) (k : Kept) (p : ℕ) → kept_parent (with_parent n k) ≡ Some p → n ≡ p
+with_parent-parent n (kept.Token q t) p e = same_Some n p e
+with_parent-parent n (kept.Node first m) p e = absurd (none-some p e)
+
+with_parent-kept : (seen : List Term) (all : List ℕ) (n : ℕ) (k : Kept) → IsKept seen all k → IsKept seen all (with_parent n k)
+with_parent-kept seen all n (kept.Token p t) q = record { fits = q.fits; room = q.room; children = q.children }
+with_parent-kept seen all n (kept.Node first m) q = q
+
+-- what has children is a node
+over_is_node : (all : List ℕ) (kind c : ℕ) (k : Kept) → child_numbers all k ≡ c ∷ [] → term_kind (kept_term k) ≡ kind → is_node_by all kind (c ∷ []) k (kept_term k) ≡ true
+over_is_node all kind c (kept.Token p t) only is = absurd cc
+over_is_node all kind c (kept.Node first n) only is = is_node_by-same all kind (c ∷ []) (kept.Node first n) n is only
 
 -- ---- what a search finds
 
@@ -175,10 +214,62 @@ module _ {ks : List Kept} {all : List ℕ} {chains : ChainsValue} (h : IsIndexed
         let on : is_node_by all kind numbers k (kept_term k) ≡ true = subst (λ u. is_node_by all kind numbers k u ≡ true) (sym q.2) (is_node_by-same all kind numbers k (node_of kind ts) refl same) in
         both_ways (is_node_by all kind numbers k (kept_term k)) (none p.0 k q.1) on)
 
+  -- ---- parents
+
+  module _ (c p : ℕ) (j : Kept) (at : slice_get ks c ≡ Some j) (parent : kept_parent j ≡ Some p) where
+    parent_numbers : slice_get (map (child_numbers all) ks) p ≡ Some (c ∷ [])
+    parent_numbers = h.parents.over c p (at_map kept_parent ks c j at ∙ ap (λ o. Some o) parent)
+
+    pub parent_within : p < length ks
+    parent_within = omega (arith, slice_get_within (map (child_numbers all) ks) p (c ∷ []) parent_numbers, length-map ks (child_numbers all))
+
+    pub parent_found : (k : Kept) (kind : ℕ) (ts : List Term) → slice_get ks p ≡ Some k → term_kind (kept_term k) ≡ kind → StandAt seen (c ∷ []) ts → slice_get seen p ≡ Some (Node (node_of kind ts))
+    parent_found k kind ts at_p is stand =
+        let only : child_numbers all k ≡ c ∷ [] = same_Some (child_numbers all k) (c ∷ []) (sym (at_map (child_numbers all) ks p k at_p) ∙ parent_numbers) in
+        node_found kind (c ∷ []) ts stand p k at_p (over_is_node all kind c k only is)
+
+  module _ (child number : ℕ) (k : Kept) (at : slice_get ks child ≡ Some k) (over : slice_get (map (child_numbers all) ks) number ≡ Some (child ∷ [])) where
+    abbrev pub linked : List Kept
+    linked = set ks child (with_parent number k)
+
+    pub linked_terms : kept_terms linked ≡ seen
+    linked_terms = map-set kept_term ks child k (with_parent number k) at (with_parent-term number k)
+
+    linked_numbers : map (child_numbers all) linked ≡ map (child_numbers all) ks
+    linked_numbers = map-set (child_numbers all) ks child k (with_parent number k) at (with_parent-numbers all number k)
+
+    linked_kept : (n : ℕ) (j : Kept) → slice_get linked n ≡ Some j → IsKept seen all j
+    linked_kept n j at_j =
+        elim (set_cases ks child (with_parent number k) n j at_j) [
+          | inl old ↦ h.kept n j old
+          | inr p ↦ subst (λ (i : Kept). IsKept seen all i) p.1 (with_parent-kept seen all number k (h.kept child k at))
+        ]
+
+    linked_over : (c p : ℕ) (j : Kept) → slice_get linked c ≡ Some j → kept_parent j ≡ Some p → slice_get (map (child_numbers all) ks) p ≡ Some (c ∷ [])
+    linked_over c p j at_j is =
+        elim (set_cases ks child (with_parent number k) c j at_j) [
+          | inl old ↦ h.parents.over c p (at_map kept_parent ks c j old ∙ ap (λ o. Some o) is)
+          | inr r ↦
+              let same : number ≡ p = with_parent-parent number k p (ap kept_parent r.1 ∙ is) in
+              ap (slice_get (map (child_numbers all) ks)) (sym same) ∙ over ∙ ap (λ (i : ℕ). Some (i ∷ [])) (sym r.0)
+        ]
+
+    pub IsIndexed-parent : IsIndexed linked all chains
+    IsIndexed-parent = record {
+      once = subst (λ ts. (i j : ℕ) (t : Term) → slice_get ts i ≡ Some t → slice_get ts j ≡ Some t → i ≡ j) (sym linked_terms) h.once;
+      kept = λ n j at_j. subst (λ ts. IsKept ts all j) (sym linked_terms) (linked_kept n j at_j);
+      hashed = h.hashed ∙ sym (map-set (hash_of all) ks child k (with_parent number k) at (with_parent-hash all number k));
+      parents = record {
+        over = λ c p at_c.
+            let q = from_map kept_parent linked c (Some p) at_c in
+            ap (λ ns. slice_get ns p) linked_numbers ∙ linked_over c p q.0 q.1 q.2;
+      };
+    }
+
   -- ---- one more value
 
   pub IsIndexed-unchanged : (chains' : ChainsValue) → chains'.hashes ≡ chains.hashes → IsIndexed ks all chains'
-  IsIndexed-unchanged chains' e = record { once = h.once; kept = h.kept; hashed = e ∙ h.hashed }
+  IsIndexed-unchanged chains' e = record { once = h.once; kept = h.kept; hashed = e ∙ h.hashed; parents = h.parents }
 
   module _ (hash : ℕ) (element : Term) (numbers : List ℕ) (chains' : ChainsValue) (fresh : is_among seen element ≡ false) (fits : KeepsLimits element)
       (stand : StandAt seen numbers (term_children element)) (is_hash : hash ≡ key_hash element numbers) (pushed : chains'.hashes ≡ chains.hashes ++ hash ∷ []) where
@@ -233,9 +324,31 @@ module _ {ks : List Kept} {all : List ℕ} {chains : ChainsValue} (h : IsIndexed
               })
         ]
 
+    grown_numbers : map (child_numbers (all ++ numbers)) (ks ++ new ∷ []) ≡ map (child_numbers all) ks ++ child_numbers (all ++ numbers) new ∷ []
+    grown_numbers =
+        map-append (child_numbers (all ++ numbers)) ks (new ∷ [])
+        ∙ ap (λ ns. ns ++ child_numbers (all ++ numbers) new ∷ []) (same_maps (child_numbers (all ++ numbers)) (child_numbers all) ks (λ n k at. old_numbers k (h.kept n k at).room))
+
+    parents-push : (c p : ℕ) → slice_get (map kept_parent (ks ++ new ∷ [])) c ≡ Some (Some p) → slice_get (map (child_numbers (all ++ numbers)) (ks ++ new ∷ [])) p ≡ Some (c ∷ [])
+    parents-push c p at =
+        elim (slice_get-cases (map kept_parent ks) (kept_parent new) c (Some p) (ap (λ os. slice_get os c) (sym (map-append kept_parent ks (new ∷ []))) ∙ at)) [
+          | inl old ↦
+              ap (λ ns. slice_get ns p) grown_numbers
+              ∙ slice_get-grown (map (child_numbers all) ks) (child_numbers (all ++ numbers) new ∷ []) p (c ∷ []) (h.parents.over c p old)
+          | inr q ↦ absurd (none-some p (sym (kept_of-parent (length all) element) ∙ q.1))
+        ]
+
+    -- the new value stands at the end, over the children with these numbers
+    pub new_over : (child : ℕ) → numbers ≡ child ∷ [] → slice_get (map (child_numbers (all ++ numbers)) (ks ++ new ∷ [])) (length ks) ≡ Some (child ∷ [])
+    new_over child only =
+        ap (λ ns. slice_get ns (length ks)) grown_numbers
+        ∙ ap (slice_get (map (child_numbers all) ks ++ child_numbers (all ++ numbers) new ∷ [])) (sym (length-map ks (child_numbers all)))
+        ∙ slice_get-last (map (child_numbers all) ks) (child_numbers (all ++ numbers) new) ∙ ap (λ ns. Some ns) (new_numbers ∙ only)
+
     pub IsIndexed-push : IsIndexed (ks ++ new ∷ []) (all ++ numbers) chains'
     IsIndexed-push = record {
       once = subst (λ ts. (i j : ℕ) (t : Term) → slice_get ts i ≡ Some t → slice_get ts j ≡ Some t → i ≡ j) (sym grown_terms) (StandsOnce-push seen element h.once fresh);
       kept = λ n k at. subst (λ ts. IsKept ts (all ++ numbers) k) (sym grown_terms) (kept-push n k at);
       hashed = pushed ∙ ap (λ is. is ++ hash ∷ []) h.hashed ∙ sym grown;
+      parents = record { over = parents-push };
     }

@@ -1,6 +1,6 @@
 -- The table of the values that a cache keeps, by which it finds the number of a term: for a token from its kind and text, and
 -- for a node from its kind and the numbers of its children.
-use Rattle.std.specs.Prelude.{◌≡◌, ℕ, ◌+◌, ◌≤◌, Bool, false, bit_and, bit_xor, nat_eq, ◌==◌, ◌&&◌, List, [], ◌∷◌, length, map, take, drop, fold, Some}
+use Rattle.std.specs.Prelude.{◌≡◌, ℕ, ◌+◌, ◌≤◌, Bool, false, bit_and, bit_xor, nat_eq, ◌==◌, ◌&&◌, List, [], ◌∷◌, length, map, take, drop, fold, Option, None, Some}
 use Rattle.std.specs.Cmp.Lexicographic.{pointwise}
 use Rattle.std.specs.Hash as fed
 use Rattle.std.specs.Hash.FoldHasher.{initial, write, finish}
@@ -47,18 +47,28 @@ KeepsLimits (Token t) = FitsToken t
 -- ---- what is kept
 
 abbrev pub kept_term : Kept → Term
-kept_term (kept.Token t) = Token t
+kept_term (kept.Token parent t) = Token t
 kept_term (kept.Node first n) = Node n
 
 -- where the numbers of its children begin; a token has none
 abbrev pub first_number : Kept → ℕ
-first_number (kept.Token t) = 0
+first_number (kept.Token parent t) = 0
 first_number (kept.Node first n) = first
 
--- a term as it is kept
+-- the number of the newest node over a token alone; a node has none
+abbrev pub kept_parent : Kept → Option ℕ
+kept_parent (kept.Token parent t) = parent
+kept_parent (kept.Node first n) = None
+
+-- the same value, where a token has the node with this number as its newest parent
+abbrev pub with_parent : ℕ → Kept → Kept
+with_parent number (kept.Token parent t) = kept.Token (Some number) t
+with_parent number (kept.Node first n) = kept.Node first n
+
+-- a term as it is kept at first
 abbrev pub kept_of : ℕ → Term → Kept
 kept_of first (Node n) = kept.Node first n
-kept_of first (Token t) = kept.Token t
+kept_of first (Token t) = kept.Token None t
 
 abbrev pub kept_terms : List Kept → List Term
 kept_terms ks = map kept_term ks
@@ -85,12 +95,18 @@ pub record IsKept (seen : List Term) (all : List ℕ) (k : Kept) : Type 0 where
   pub room : first_number k + length (term_children (kept_term k)) ≤ length all
   pub children : StandAt seen (child_numbers all k) (term_children (kept_term k))
 
--- what the fields of a table keep: no term stands twice, and the chains have the hash of each value
+-- where a value has a parent, that is kept over it alone
+pub record AreParents (ks : List Kept) (all : List ℕ) : Type 0 where
+  pub over : (child parent : ℕ) → slice_get (map kept_parent ks) child ≡ Some (Some parent)
+      → slice_get (map (child_numbers all) ks) parent ≡ Some (child ∷ [])
+
+-- what the fields of a table keep: no term stands twice, the chains have the hash of each value, and parents are found by their child
 pub record IsIndexed (ks : List Kept) (all : List ℕ) (chains : ChainsValue) : Type 0 where
   pub once : (i j : ℕ) (t : Term)
       → slice_get (kept_terms ks) i ≡ Some t → slice_get (kept_terms ks) j ≡ Some t → i ≡ j
   pub kept : (place : ℕ) (k : Kept) → slice_get ks place ≡ Some k → IsKept (kept_terms ks) all k
   pub hashed : chains.hashes ≡ hashes all ks
+  pub parents : AreParents ks all
 
 -- what the fields of a cache keep: the terms are those first seen, and the tokens among them are counted
 pub record IsCounted (limit : ℕ) (seen : List Term) (token_count : ℕ) : Type 0 where

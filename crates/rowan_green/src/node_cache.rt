@@ -4,7 +4,7 @@ mod chains;
 mod table;
 mod waiting;
 
-ghost use Rattle.std.specs.Prelude.{◌≡◌, ◌<◌, ◌≤◌, length, drop, IfOk, IfErr, IfSome, OnOk, OnErr, true, Some};
+ghost use Rattle.std.specs.Prelude.{◌≡◌, ◌<◌, ◌≤◌, List, length, drop, IfOk, IfErr, IfSome, OnOk, OnErr, true, Some};
 ghost use Rattle.std.specs.List.{slice_get};
 ghost use Rattle.rowan_green.specs.declared.utility_types.NodeOrToken.TheVariants.{Node, Token};
 ghost use Rattle.rowan_green.specs.Term.{Term, token_of, node_of};
@@ -160,6 +160,18 @@ impl NodeCache {
         Some(number)
     }
 
+    // The number of the node of a kind over these children, where that is one token and no newer node is kept over that alone.
+    fn only_parent(&self, kind: SyntaxKind, children: &[Option<u32>]) -> Option<u32>
+        ensures { (ts : List Term) → AreNumbered self.now ts children.now
+            → IfSome result (λ n. slice_get self.now.seen n ≡ Some (Node (node_of kind.0 ts))) }
+    {
+        if children.len() != 1 {
+            return None;
+        }
+        let child = children[0]?;
+        self.table.parent_number(kind, child)
+    }
+
     // The node of a kind and the elements that wait from a place on, which it takes: the one that the cache keeps, or else a new
     // one, which it keeps from now on where it is eligible. A refused call leaves the cache as it was, and all waits on.
     pub(crate) fn node(
@@ -188,7 +200,13 @@ impl NodeCache {
         ensures rest { OnOk result (IsCutAt first waiting.old waiting.new) }
         ensures all { OnErr result (IsSame waiting.old waiting.new) }
     {
-        if !write_numbers(&mut self.numbers, self.limit, waiting.numbers_from(first))? {
+        let children = waiting.numbers_from(first);
+        if let Some(number) = self.only_parent(kind, children) {
+            let found = interned_at(&self.table, number)?;
+            waiting.truncate(first);
+            return Ok(found);
+        }
+        if !write_numbers(&mut self.numbers, self.limit, children)? {
             let node = waiting.make_node(kind, first)?;
             return Ok(Interned {
                 number: None,

@@ -7,9 +7,10 @@ ghost use Rattle.rowan_green.specs.Term.{Term, token_of, node_of};
 ghost use Rattle.rowan_green.specs.Same.{same_term};
 ghost use Rattle.rowan_green.specs.Cache.{is_among};
 ghost use Rattle.rowan_green.specs.Path.{term_children};
-ghost use Rattle.rowan_green.specs.Tables.{with_kind, token_hash, node_hash, key_hash, kept_of, kept_term, first_number, is_node_by, StandAt, KeepsLimits};
+ghost use Rattle.rowan_green.specs.Tables.{with_kind, token_hash, node_hash, key_hash, kept_of, kept_term, first_number, kept_parent, with_parent, is_node_by, StandAt, KeepsLimits};
 
 use crate::green::{GreenElement, GreenElementRef, GreenNode, GreenToken, SyntaxKind};
+use crate::link::Link;
 use crate::node_cache::chains::Chains;
 use crate::utility_types::NodeOrToken;
 use std::alloc::{AllocError, Global};
@@ -17,10 +18,11 @@ use std::hash::{FoldHasher, Hasher};
 use std::marker::Model;
 use std::mem;
 
-// A value that a cache keeps: a token, or a node and where the numbers of its children begin in the table's list of these.
+// A value that a cache keeps: a token and the number of the newest node over it alone, or a node and where the numbers of its
+// children begin in the table's list of these.
 #[derive(Drop)]
 enum Kept {
-    Token(GreenToken),
+    Token { parent: Link, token: GreenToken },
     Node { first_child: u32, node: GreenNode },
 }
 
@@ -119,6 +121,21 @@ impl ValueTable {
         None
     }
 
+    // The number of the newest node over the token with a number alone, if the node has this kind. Most nodes over one token are found
+    // so, without a hash.
+    pub(super) fn parent_number(&self, kind: SyntaxKind, child: u32) -> Option<u32>
+        ensures { (ts : List Term) → StandAt self.now (child ∷ []) ts
+            → IfSome result (λ n. slice_get self.now n ≡ Some (Node (node_of kind.0 ts))) }
+    {
+        let kept = self.values.get(child as usize)?;
+        let number = kept.parent()?;
+        let node = &self.values[number as usize];
+        if node.as_ref().kind() == kind {
+            return Some(number);
+        }
+        None
+    }
+
     // Keeps a value from now on: a new one, with its hash and the numbers of its children. A refused call leaves the table as
     // it was.
     pub(super) fn keep(
@@ -144,6 +161,9 @@ impl ValueTable {
         let number = self.chains.push(hash)?;
         self.child_numbers.extend_from_slice(numbers)?;
         self.values.push(Kept::new(first_child, element))?;
+        if numbers.len() == 1 {
+            self.values[numbers[0] as usize].set_parent(number);
+        }
         Ok(number)
     }
 }
@@ -154,7 +174,31 @@ impl Kept {
     {
         match element {
             NodeOrToken::Node(node) => Kept::Node { first_child, node },
-            NodeOrToken::Token(token) => Kept::Token(token),
+            NodeOrToken::Token(token) => Kept::Token {
+                parent: Link::none(),
+                token,
+            },
+        }
+    }
+
+    // The number of the newest node over a token alone.
+    fn parent(&self) -> Option<u32>
+        ensures { result ≡ kept_parent self.now }
+    {
+        match self {
+            Kept::Node { .. } => None,
+            Kept::Token { parent, .. } => parent.number(),
+        }
+    }
+
+    // A token's newest parent is the node with a number from now on.
+    fn set_parent(&mut self, number: u32)
+        requires { number < 4294967295 }
+        ensures { self.new ≡ with_parent number self.old }
+    {
+        match self {
+            Kept::Node { .. } => {}
+            Kept::Token { parent, .. } => *parent = Link::to(number),
         }
     }
 
@@ -163,7 +207,7 @@ impl Kept {
     {
         match self {
             Kept::Node { node, .. } => NodeOrToken::Node(node),
-            Kept::Token(token) => NodeOrToken::Token(token),
+            Kept::Token { token, .. } => NodeOrToken::Token(token),
         }
     }
 
@@ -172,7 +216,7 @@ impl Kept {
     {
         match self {
             Kept::Node { .. } => false,
-            Kept::Token(token) => token.kind() == kind && token.text() == text,
+            Kept::Token { token, .. } => token.kind() == kind && token.text() == text,
         }
     }
 

@@ -1,24 +1,56 @@
-use Rattle.std.proofs.Common.{◌≡◌, List, [], ◌∷◌, ◌++◌, Some, drop, sym, ◌∙◌, ap, subst, refl, arith}
+use Rattle.std.proofs.Common.{◌≡◌, List, [], ◌∷◌, ◌++◌, Some, length, drop, sym, ◌∙◌, ap, subst, refl, arith}
 use Rattle.std.specs.List.{slice_get}
 use Rattle.std.proofs.lemmas.Option.{slice_get_within, same_Some}
 use Rattle.rowan_green.specs.declared.node_cache.Interned.{Interned}
 use Rattle.rowan_green.specs.declared.utility_types.NodeOrToken.TheVariants.{Node}
 use Rattle.rowan_green.specs.Term.{NodeTerm, Term, node_of, node_children}
 use Rattle.rowan_green.specs.Fits.{AreWithin}
-use Rattle.rowan_green.specs.Cache.{CacheValue, intern, is_among, AreNumbered, ListsNumbers, gets_number}
+use Rattle.rowan_green.specs.Cache.{CacheValue, intern, is_among, IsNumbered, AreNumbered, ListsNumbers, gets_number}
 use Rattle.rowan_green.specs.Tables.{StandAt, IsCounted}
 use Rattle.rowan_green.specs.Bytes.{AreOfBytes}
 use Rattle.rowan_green.specs.Waiting.{elements, numbers_of}
-use Rattle.rowan_green.proofs.CacheLemmas.{slice_get-last, intern-known, intern-ineligible, intern-fresh, first_seen-fresh}
+use Rattle.rowan_green.proofs.CacheLemmas.{slice_get-last, intern-known, kept_is_eligible, intern-ineligible, intern-fresh, first_seen-fresh}
 use Rattle.rowan_green.proofs.NumberLemmas.{AreNumbered-drop, AreNumbered-length, is_eligible-kept, StandAt-elements, IsNumbered-none, IsNumbered-at}
 use Rattle.rowan_green.proofs.CountLemmas.{count_tokens-push}
 use Rattle.rowan_green.proofs.ByteLemmas.{AreOfBytes-grown}
 use Rattle.rowan_green.proofs.Terms.{terms-forest}
 use Rattle.rowan_green.proofs.node_cache.NodeCache.node.Goals as goal
 
-pub numbers_from-requires : goal.numbers_from-requires
-numbers_from-requires c =
+pub numbers_from-children-requires : goal.numbers_from-children-requires
+numbers_from-children-requires c =
     omega (arith, c.requires.within, AreNumbered-length c.args.self.now (elements c.args.waiting.now) (numbers_of c.args.waiting.now) c.requires.numbered)
+
+-- ---- a node over one token, which is the token's newest parent
+
+pub interned_at-requires : goal.interned_at-requires
+interned_at-requires c =
+    let ts = drop c.args.first (elements c.args.waiting.now) in
+    let numbered = AreNumbered-drop c.args.self.now c.args.first (elements c.args.waiting.now) (numbers_of c.args.waiting.now) c.requires.numbered in
+    let stands = c.in-Some.ensures ts (subst (AreNumbered c.args.self.now ts) (sym c.numbers_from-children.ensures) numbered) in
+    omega (arith, slice_get_within c.args.self.now.seen c.in-Some.number (Node (node_of c.args.kind.0 ts)) stands, ap (λ v. length v.seen) c.self.view_is)
+
+pub returns-in-Some : goal.returns-in-Some
+returns-in-Some c =
+    let s = c.self.inside in
+    let cache : CacheValue = record { limit = s.limit; seen = s.table } in
+    let ts = drop c.args.first (elements c.args.waiting.now) in
+    let t : Term = Node (node_of c.args.kind.0 ts) in
+    let i : Interned = c.in_ok-found.found in
+    let numbered = AreNumbered-drop c.args.self.now c.args.first (elements c.args.waiting.now) (numbers_of c.args.waiting.now) c.requires.numbered in
+    let is_there = c.in-Some.ensures ts (subst (AreNumbered c.args.self.now ts) (sym c.numbers_from-children.ensures) numbered) in
+    let stands : slice_get s.table c.in-Some.number ≡ Some t = ap (λ v. slice_get v.seen c.in-Some.number) c.self.view_is ∙ is_there in
+    let fit = kept_is_eligible s.limit s.table c.in-Some.number t c.self.invariant.0.first stands in
+    let is_t : i.element ≡ t = same_Some i.element t (sym c.in_ok-found.ensures.at.1 ∙ stands) in
+    record {
+      ok = is_t;
+      within = subst AreWithin (terms-forest ts) (c.interned_at.ensures.fits t stands);
+      number = subst (λ v. IsNumbered v i) c.self.view_is (IsNumbered-at cache c.in-Some.number t i fit stands is_t c.in_ok-found.ensures.at.0);
+      err = _;
+      kept = intern-known c.args.self.now c.in-Some.number t is_there;
+      unchanged = _;
+      rest = c.truncate.ensures;
+      all = _;
+    }
 
 -- ---- a node that is not eligible
 
@@ -28,7 +60,7 @@ returns-then-not-branch-clause-number c =
     let ts = drop c.args.first (elements c.args.waiting.now) in
     let os = drop c.args.first (numbers_of c.args.waiting.now) in
     let numbered : AreNumbered cache ts os = subst (λ v. AreNumbered v ts os) (sym c.self.view_is) (AreNumbered-drop c.args.self.now c.args.first (elements c.args.waiting.now) (numbers_of c.args.waiting.now) c.requires.numbered) in
-    let kept = c.in_ok-write_numbers.ensures.kept ∙ ap (gets_number cache.limit) c.numbers_from.ensures in
+    let kept = c.in_ok-write_numbers.ensures.kept ∙ ap (gets_number cache.limit) c.numbers_from-children.ensures in
     let no_fit = is_eligible-kept cache c.args.kind.0 ts os c.in_ok-write_numbers.field-0 numbered kept ∙ c.if-not-branch.true in
     IsNumbered-none cache (Node (node_of c.args.kind.0 ts)) (Node c.in_ok-node.node) (ap (λ n. Node n) c.in_ok-node.ensures.ok) no_fit
 
@@ -39,26 +71,26 @@ returns-then-not-branch-clause-kept c =
     let os = drop c.args.first (numbers_of c.args.waiting.now) in
     let t : Term = Node (node_of c.args.kind.0 ts) in
     let numbered : AreNumbered cache ts os = subst (λ v. AreNumbered v ts os) (sym c.self.view_is) (AreNumbered-drop c.args.self.now c.args.first (elements c.args.waiting.now) (numbers_of c.args.waiting.now) c.requires.numbered) in
-    let kept = c.in_ok-write_numbers.ensures.kept ∙ ap (gets_number cache.limit) c.numbers_from.ensures in
+    let kept = c.in_ok-write_numbers.ensures.kept ∙ ap (gets_number cache.limit) c.numbers_from-children.ensures in
     let no_fit = is_eligible-kept cache c.args.kind.0 ts os c.in_ok-write_numbers.field-0 numbered kept ∙ c.if-not-branch.true in
     intern-ineligible cache t no_fit ∙ ap (λ v. intern v t) c.self.view_is
 
 -- ---- a node that the cache keeps
 
-pub interned_at-requires : goal.interned_at-requires
-interned_at-requires c =
+pub interned_at-requires-in-Some-node_number : goal.interned_at-requires-in-Some-node_number
+interned_at-requires-in-Some-node_number c =
     let s = c.self.inside in
     let cache : CacheValue = record { limit = s.limit; seen = s.table } in
     let ts = drop c.args.first (elements c.args.waiting.now) in
     let os = drop c.args.first (numbers_of c.args.waiting.now) in
     let ns = c.write_numbers.new.numbers.items in
     let numbered : AreNumbered cache ts os = subst (λ v. AreNumbered v ts os) (sym c.self.view_is) (AreNumbered-drop c.args.self.now c.args.first (elements c.args.waiting.now) (numbers_of c.args.waiting.now) c.requires.numbered) in
-    let stand = StandAt-elements cache ts os ns numbered (subst (λ ps. ListsNumbers ps ns) c.numbers_from.ensures (c.in_ok-write_numbers.ensures.numbers c.if-not-branch.false)) in
+    let stand = StandAt-elements cache ts os ns numbered (subst (λ ps. ListsNumbers ps ns) c.numbers_from-children.ensures (c.in_ok-write_numbers.ensures.numbers c.if-not-branch.false)) in
     let at = subst (λ ms. StandAt s.table ms ts) (sym c.as_slice-numbers.ensures.value) stand in
-    slice_get_within s.table c.in-Some.number _ (c.in-Some.ensures.some ts at)
+    slice_get_within s.table c.in-Some-node_number.number _ (c.in-Some-node_number.ensures.some ts at)
 
-pub returns-in-Some : goal.returns-in-Some
-returns-in-Some c =
+pub returns-in-Some-node_number : goal.returns-in-Some-node_number
+returns-in-Some-node_number c =
     let s = c.self.inside in
     let cache : CacheValue = record { limit = s.limit; seen = s.table } in
     let ts = drop c.args.first (elements c.args.waiting.now) in
@@ -66,20 +98,20 @@ returns-in-Some c =
     let ns = c.write_numbers.new.numbers.items in
     let t : Term = Node (node_of c.args.kind.0 ts) in
     let numbered : AreNumbered cache ts os = subst (λ v. AreNumbered v ts os) (sym c.self.view_is) (AreNumbered-drop c.args.self.now c.args.first (elements c.args.waiting.now) (numbers_of c.args.waiting.now) c.requires.numbered) in
-    let kept = c.in_ok-write_numbers.ensures.kept ∙ ap (gets_number cache.limit) c.numbers_from.ensures in
+    let kept = c.in_ok-write_numbers.ensures.kept ∙ ap (gets_number cache.limit) c.numbers_from-children.ensures in
     let fit = is_eligible-kept cache c.args.kind.0 ts os c.in_ok-write_numbers.field-0 numbered kept ∙ c.if-not-branch.false in
-    let stand = StandAt-elements cache ts os ns numbered (subst (λ ps. ListsNumbers ps ns) c.numbers_from.ensures (c.in_ok-write_numbers.ensures.numbers c.if-not-branch.false)) in
-    let stands = c.in-Some.ensures.some ts (subst (λ ms. StandAt s.table ms ts) (sym c.as_slice-numbers.ensures.value) stand) in
-    let i : Interned = c.in_ok-found.found in
-    let is_t : i.element ≡ t = same_Some i.element t (sym c.in_ok-found.ensures.at.1 ∙ stands) in
+    let stand = StandAt-elements cache ts os ns numbered (subst (λ ps. ListsNumbers ps ns) c.numbers_from-children.ensures (c.in_ok-write_numbers.ensures.numbers c.if-not-branch.false)) in
+    let stands = c.in-Some-node_number.ensures.some ts (subst (λ ms. StandAt s.table ms ts) (sym c.as_slice-numbers.ensures.value) stand) in
+    let i : Interned = c.in_ok-found-2.found in
+    let is_t : i.element ≡ t = same_Some i.element t (sym c.in_ok-found-2.ensures.at.1 ∙ stands) in
     record {
       ok = is_t;
-      within = subst AreWithin (terms-forest ts) (c.interned_at.ensures.fits t stands);
-      number = IsNumbered-at cache c.in-Some.number t i fit stands is_t c.in_ok-found.ensures.at.0;
+      within = subst AreWithin (terms-forest ts) (c.interned_at-in-Some-node_number.ensures.fits t stands);
+      number = IsNumbered-at cache c.in-Some-node_number.number t i fit stands is_t c.in_ok-found-2.ensures.at.0;
       err = _;
-      kept = intern-known cache c.in-Some.number t stands ∙ ap (λ v. intern v t) c.self.view_is;
+      kept = intern-known cache c.in-Some-node_number.number t stands ∙ ap (λ v. intern v t) c.self.view_is;
       unchanged = _;
-      rest = c.truncate.ensures;
+      rest = c.truncate-in-Some-node_number.ensures;
       all = _;
     }
 
@@ -93,9 +125,9 @@ keep-requires-clause-fresh c =
     let os = drop c.args.first (numbers_of c.args.waiting.now) in
     let ns = c.write_numbers.new.numbers.items in
     let numbered : AreNumbered cache ts os = subst (λ v. AreNumbered v ts os) (sym c.self.view_is) (AreNumbered-drop c.args.self.now c.args.first (elements c.args.waiting.now) (numbers_of c.args.waiting.now) c.requires.numbered) in
-    let stand = StandAt-elements cache ts os ns numbered (subst (λ ps. ListsNumbers ps ns) c.numbers_from.ensures (c.in_ok-write_numbers.ensures.numbers c.if-not-branch.false)) in
+    let stand = StandAt-elements cache ts os ns numbered (subst (λ ps. ListsNumbers ps ns) c.numbers_from-children.ensures (c.in_ok-write_numbers.ensures.numbers c.if-not-branch.false)) in
     let made : c.in_ok-clone.field-0 ≡ node_of c.args.kind.0 ts = c.in_ok-clone.ensures.cases ∙ c.in_ok-node-2.ensures.ok ∙ ap (node_of c.args.kind.0) c.elements_from.ensures in
-    let none = c.in_default.ensures.none ts (subst (λ ms. StandAt s.table ms ts) (sym c.as_slice-numbers.ensures.value) stand) refl in
+    let none = c.in_default-node_number.ensures.none ts (subst (λ ms. StandAt s.table ms ts) (sym c.as_slice-numbers.ensures.value) stand) refl in
     ap (λ (n : NodeTerm). is_among s.table (Node n)) made ∙ none
 
 pub keep-requires-clause-fits : goal.keep-requires-clause-fits
@@ -113,7 +145,7 @@ keep-requires-clause-children c =
     let os = drop c.args.first (numbers_of c.args.waiting.now) in
     let ns = c.write_numbers.new.numbers.items in
     let numbered : AreNumbered cache ts os = subst (λ v. AreNumbered v ts os) (sym c.self.view_is) (AreNumbered-drop c.args.self.now c.args.first (elements c.args.waiting.now) (numbers_of c.args.waiting.now) c.requires.numbered) in
-    let stand = StandAt-elements cache ts os ns numbered (subst (λ ps. ListsNumbers ps ns) c.numbers_from.ensures (c.in_ok-write_numbers.ensures.numbers c.if-not-branch.false)) in
+    let stand = StandAt-elements cache ts os ns numbered (subst (λ ps. ListsNumbers ps ns) c.numbers_from-children.ensures (c.in_ok-write_numbers.ensures.numbers c.if-not-branch.false)) in
     let made : c.in_ok-clone.field-0 ≡ node_of c.args.kind.0 ts = c.in_ok-clone.ensures.cases ∙ c.in_ok-node-2.ensures.ok ∙ ap (node_of c.args.kind.0) c.elements_from.ensures in
     let children : node_children c.in_ok-clone.field-0 ≡ ts = ap node_children made ∙ terms-forest ts in
     subst (λ us. StandAt s.table c.as_slice.result.now us) (sym children) (subst (λ ms. StandAt s.table ms ts) (sym c.as_slice.ensures.value) stand)
@@ -127,10 +159,10 @@ invariant_of-self-2 c =
     let ns = c.write_numbers.new.numbers.items in
     let t : Term = Node (node_of c.args.kind.0 ts) in
     let numbered : AreNumbered cache ts os = subst (λ v. AreNumbered v ts os) (sym c.self.view_is) (AreNumbered-drop c.args.self.now c.args.first (elements c.args.waiting.now) (numbers_of c.args.waiting.now) c.requires.numbered) in
-    let kept = c.in_ok-write_numbers.ensures.kept ∙ ap (gets_number cache.limit) c.numbers_from.ensures in
+    let kept = c.in_ok-write_numbers.ensures.kept ∙ ap (gets_number cache.limit) c.numbers_from-children.ensures in
     let fit = is_eligible-kept cache c.args.kind.0 ts os c.in_ok-write_numbers.field-0 numbered kept ∙ c.if-not-branch.false in
-    let stand = StandAt-elements cache ts os ns numbered (subst (λ ps. ListsNumbers ps ns) c.numbers_from.ensures (c.in_ok-write_numbers.ensures.numbers c.if-not-branch.false)) in
-    let fresh = c.in_default.ensures.none ts (subst (λ ms. StandAt s.table ms ts) (sym c.as_slice-numbers.ensures.value) stand) refl in
+    let stand = StandAt-elements cache ts os ns numbered (subst (λ ps. ListsNumbers ps ns) c.numbers_from-children.ensures (c.in_ok-write_numbers.ensures.numbers c.if-not-branch.false)) in
+    let fresh = c.in_default-node_number.ensures.none ts (subst (λ ms. StandAt s.table ms ts) (sym c.as_slice-numbers.ensures.value) stand) refl in
     let made = c.in_ok-clone.ensures.cases ∙ c.in_ok-node-2.ensures.ok ∙ ap (node_of c.args.kind.0) c.elements_from.ensures in
     let grown : c.keep.new.self ≡ s.table ++ t ∷ [] = c.in_ok-number.ensures.ok ∙ ap (λ (n : NodeTerm). s.table ++ Node n ∷ []) made in (
       subst (λ us. IsCounted s.limit us s.token_count) (sym grown) (record {
@@ -149,10 +181,10 @@ returns c =
     let ns = c.write_numbers.new.numbers.items in
     let t : Term = Node (node_of c.args.kind.0 ts) in
     let numbered : AreNumbered cache ts os = subst (λ v. AreNumbered v ts os) (sym c.self.view_is) (AreNumbered-drop c.args.self.now c.args.first (elements c.args.waiting.now) (numbers_of c.args.waiting.now) c.requires.numbered) in
-    let kept = c.in_ok-write_numbers.ensures.kept ∙ ap (gets_number cache.limit) c.numbers_from.ensures in
+    let kept = c.in_ok-write_numbers.ensures.kept ∙ ap (gets_number cache.limit) c.numbers_from-children.ensures in
     let fit = is_eligible-kept cache c.args.kind.0 ts os c.in_ok-write_numbers.field-0 numbered kept ∙ c.if-not-branch.false in
-    let stand = StandAt-elements cache ts os ns numbered (subst (λ ps. ListsNumbers ps ns) c.numbers_from.ensures (c.in_ok-write_numbers.ensures.numbers c.if-not-branch.false)) in
-    let fresh = c.in_default.ensures.none ts (subst (λ ms. StandAt s.table ms ts) (sym c.as_slice-numbers.ensures.value) stand) refl in
+    let stand = StandAt-elements cache ts os ns numbered (subst (λ ps. ListsNumbers ps ns) c.numbers_from-children.ensures (c.in_ok-write_numbers.ensures.numbers c.if-not-branch.false)) in
+    let fresh = c.in_default-node_number.ensures.none ts (subst (λ ms. StandAt s.table ms ts) (sym c.as_slice-numbers.ensures.value) stand) refl in
     let is_node = c.in_ok-node-2.ensures.ok ∙ ap (node_of c.args.kind.0) c.elements_from.ensures in
     let grown : c.keep.new.self ≡ s.table ++ t ∷ [] = c.in_ok-number.ensures.ok ∙ ap (λ (n : NodeTerm). s.table ++ Node n ∷ []) (c.in_ok-clone.ensures.cases ∙ is_node) in
     let number = c.in_ok-number.number in
