@@ -1,10 +1,8 @@
 -- Laws of tables: what the local facts say of the paths that are read off by going up.
-use Rattle.std.proofs.Common.{◌≡◌, true, false, ℕ, zero, suc, ◌+◌, ◌-◌, ◌<◌, ◌≤◌, List, [], ◌∷◌, ◌++◌, map, reverse, length, take, Option, Some, None, refl, sym, ◌∙◌, ap, subst, arith}
+use Rattle.std.proofs.Common.{◌≡◌, true, false, ℕ, zero, suc, ◌+◌, ◌-◌, ◌<◌, ◌≤◌, List, [], ◌∷◌, ◌++◌, map, reverse, length, Option, Some, None, refl, sym, ◌∙◌, ap, subst, arith}
 use Rattle.std.specs.Prelude.{slice_get}
 use Rattle.std.specs.Option.{option_map, option_map_or}
-use Rattle.std.proofs.lemmas.List.{take-take}
-use Rattle.std.proofs.lemmas.List.Sums.{sum_by_more, sum_by-take-le}
-use Rattle.std.proofs.lemmas.Option.{slice_get_within, get_or_from_slice_get, none-some, same_Some}
+use Rattle.std.proofs.lemmas.Option.{slice_get_within, none-some, same_Some}
 use Rattle.rowan_green.specs.declared.utility_types.NodeOrToken.TheVariants.{Node, Token}
 use Rattle.rowan_green.specs.Fits.{byte_limit}
 use Rattle.rowan_green.specs.Lent.{into_node}
@@ -15,7 +13,7 @@ use Rattle.rowan_green.proofs.Paths.{offset-empty}
 use Rattle.rowan_green.proofs.SearchLemmas.{child_start-le_all}
 use Rattle.rowan_cursor.specs.Cursor.{last_index}
 use Rattle.rowan_cursor.specs.Moves.{is_node_at, numbers, below, child_count, children_of, is_node, child_paths, first_at, following, preceding}
-use Rattle.rowan_cursor.specs.Table.{root_node, green_of, entry_index, children_in, len_in, counts, first_after, path_within, entry_path, IsTop, IsChildOf, IsDraft, IsTable, IsRow, IsRowBack, Describes, Facts}
+use Rattle.rowan_cursor.specs.Table.{root_node, green_of, entry_index, children_in, len_in, path_within, entry_path, IsTop, IsChildOf, IsTable, IsRow, IsRowBack, Describes, Facts}
 use Rattle.rowan_cursor.proofs.RowLemmas.{map-reverse, first_split, last_split, empty_row}
 use Rattle.rowan_cursor.proofs.PathLemmas.{subterm-child, offset-child, last_index-child, following-child, preceding-child, child_start-next, node_len-children}
 
@@ -25,19 +23,6 @@ pub slice_get-some : {A : Type 0} (xs : List A) (i : ℕ) → i < length xs → 
 slice_get-some [] i h = absurd (omega arith)
 slice_get-some (x ∷ xs) zero h = (x, refl)
 slice_get-some (x ∷ xs) (suc i) h = slice_get-some xs i (omega arith)
-
-pub counts-more : (es : List Facts) (n : ℕ) (e : Facts) → slice_get es n ≡ Some e → counts (take (n + 1) es) ≡ counts (take n es) + length (children_in (green_of e))
-counts-more es n e at =
-    sum_by_more (λ (x : Facts). length (children_in (green_of x))) es n e (slice_get_within es n e at)
-    ∙ ap (λ (x : Facts). counts (take n es) + length (children_in (green_of x))) (get_or_from_slice_get es n e e at)
-
-pub counts-within : (es : List Facts) (n : ℕ) (e : Facts) → slice_get es n ≡ Some e → counts (take n es) + length (children_in (green_of e)) ≤ counts es
-counts-within es n e at =
-    omega (arith, counts-more es n e at, sum_by-take-le (λ (x : Facts). length (children_in (green_of x))) es (n + 1))
-
-counts-take-less : (es : List Facts) (m n : ℕ) (d : Facts) → slice_get es m ≡ Some d → m < n → counts (take m es) + length (children_in (green_of d)) ≤ counts (take n es)
-counts-take-less es m n d at h =
-    omega (arith, counts-more es m d at, sum_by-take-le (λ (x : Facts). length (children_in (green_of x))) (take n es) (m + 1), ap counts (take-take (m + 1) n es (omega arith)))
 
 -- ---- lengths
 
@@ -70,31 +55,20 @@ content-none None e = absurd cc
 content-none (Some (Node n)) e = absurd cc
 content-none (Some (Token t)) e = refl
 
-kept_within : (ts : List Term) (i : ℕ) (g : Option NodeTerm) → option_map into_node (slice_get ts i) ≡ Some g → i < length ts
+pub kept_within : (ts : List Term) (i : ℕ) (g : Option NodeTerm) → option_map into_node (slice_get ts i) ≡ Some g → i < length ts
 kept_within [] i g e = absurd cc
 kept_within (t ∷ ts) zero g e = omega arith
 kept_within (t ∷ ts) (suc i) g e = omega (arith, kept_within ts i g e)
 
 -- ---- paths
 
-first-some : (es : List Facts) (g : Option NodeTerm) → 0 < length (children_in g) → first_after es g ≡ counts es + 1
-first-some es None h = absurd (omega arith)
-first-some es (Some n) h = refl
-
-first-least : (es : List Facts) (g : Option NodeTerm) → first_after es g ≤ counts es + 1
-first-least es None = omega arith
-first-least es (Some n) = omega arith
-
-first_child-counts : (es : List Facts) → IsDraft (length es) es → (n : ℕ) (e : Facts) → slice_get es n ≡ Some e → 0 < length (children_in (green_of e)) → e.first_child ≡ counts (take n es) + 1
-first_child-counts es t n e at some = t.firsts n e at ∙ first-some (take n es) (green_of e) some
-
-same_step : (es : List Facts) (f g : ℕ → Path) (n : ℕ) → IsDraft (length es) es → ((m : ℕ) → m < n → f m ≡ g m) → 0 < n → (o : Option Facts) → slice_get es n ≡ o
+same_step : (es : List Facts) (f g : ℕ → Path) (n : ℕ) → IsTable es → ((m : ℕ) → m < n → f m ≡ g m) → 0 < n → (o : Option Facts) → slice_get es n ≡ o
     → option_map_or (λ e. f e.parent ++ entry_index es n e ∷ []) o [] ≡ option_map_or (λ e. g e.parent ++ entry_index es n e ∷ []) o []
 same_step es f g n t same h None e = refl
-same_step es f g n t same h (Some x) e = ap (λ p. p ++ entry_index es n x ∷ []) (same x.parent (t.earlier n x e h).0)
+same_step es f g n t same h (Some x) e = ap (λ p. p ++ entry_index es n x ∷ []) (same x.parent (t.earlier n x e h))
 
 -- going up any further than to the root changes nothing
-path_within-enough : (es : List Facts) → IsDraft (length es) es → (a b n : ℕ) → n ≤ a → n ≤ b → path_within a es n ≡ path_within b es n
+path_within-enough : (es : List Facts) → IsTable es → (a b n : ℕ) → n ≤ a → n ≤ b → path_within a es n ≡ path_within b es n
 path_within-enough es t zero zero n h k = refl
 path_within-enough es t zero (suc b) zero h k = refl
 path_within-enough es t zero (suc b) (suc n) h k = absurd (omega arith)
@@ -105,10 +79,10 @@ path_within-enough es t (suc a) (suc b) (suc n) h k =
     same_step es (path_within a es) (path_within b es) (suc n) t (λ m less. path_within-enough es t a b m (omega arith) (omega arith)) (omega arith) (slice_get es (suc n)) refl
 
 -- the path of an entry is that of its parent, and its index
-pub entry_path-child : (es : List Facts) → IsDraft (length es) es → (n : ℕ) (e : Facts) → slice_get es n ≡ Some e → 0 < n → entry_path es n ≡ entry_path es e.parent ++ entry_index es n e ∷ []
+pub entry_path-child : (es : List Facts) → IsTable es → (n : ℕ) (e : Facts) → slice_get es n ≡ Some e → 0 < n → entry_path es n ≡ entry_path es e.parent ++ entry_index es n e ∷ []
 entry_path-child es t zero e at h = absurd (omega arith)
 entry_path-child es t (suc n) e at h =
-    let less : e.parent < suc n = (t.earlier (suc n) e at h).0 in
+    let less : e.parent < suc n = t.earlier (suc n) e at h in
     ap (λ o. option_map_or (λ d. path_within n es d.parent ++ entry_index es (suc n) d ∷ []) o []) at
     ∙ ap (λ p. p ++ entry_index es (suc n) e ∷ []) (path_within-enough es t n e.parent e.parent (omega arith) (omega arith))
 
@@ -116,7 +90,7 @@ pub index_above : (es : List Facts) (n : ℕ) (e p : Facts) → slice_get es e.p
 index_above es n e p above = ap (λ o. n - option_map_or (λ (q : Facts). q.first_child) o 0) above
 
 -- the same by the parent's entry
-entry_path-below : (es : List Facts) → IsDraft (length es) es → (n : ℕ) (e p : Facts) → slice_get es n ≡ Some e → 0 < n → slice_get es e.parent ≡ Some p → entry_path es n ≡ entry_path es e.parent ++ (n - p.first_child) ∷ []
+entry_path-below : (es : List Facts) → IsTable es → (n : ℕ) (e p : Facts) → slice_get es n ≡ Some e → 0 < n → slice_get es e.parent ≡ Some p → entry_path es n ≡ entry_path es e.parent ++ (n - p.first_child) ∷ []
 entry_path-below es t n e p at h above =
     entry_path-child es t n e at h ∙ ap (λ i. entry_path es e.parent ++ i ∷ []) (index_above es n e p above)
 
@@ -132,7 +106,7 @@ Stands-top es e top = record {
   start = offset-empty (Node (root_node es)) ∙ sym top.start;
 }
 
-Stands-child : (es : List Facts) → IsDraft (length es) es → (n : ℕ) (e p : Facts) → slice_get es n ≡ Some e → 0 < n → slice_get es e.parent ≡ Some p
+Stands-child : (es : List Facts) → IsTable es → (n : ℕ) (e p : Facts) → slice_get es n ≡ Some e → 0 < n → slice_get es e.parent ≡ Some p
     → Stands es e.parent p → Stands es n e
 Stands-child es t n e p at h above s =
     let c : IsChildOf p n e = t.parents n e p at h above in
@@ -147,15 +121,15 @@ Stands-child es t n e p at h above s =
       start = ap (λ r. offset (Node root) r) path ∙ offset-child root q i inside ∙ ap (λ x. x + child_start (children_of (subterm (Node root) q)) i) s.start ∙ ap (λ ts. p.start + child_start ts i) terms ∙ sym c.start;
     }
 
-Stands-within : (es : List Facts) → IsDraft (length es) es → (steps n : ℕ) → n ≤ steps → (e : Facts) → slice_get es n ≡ Some e → Stands es n e
+Stands-within : (es : List Facts) → IsTable es → (steps n : ℕ) → n ≤ steps → (e : Facts) → slice_get es n ≡ Some e → Stands es n e
 Stands-within es t steps zero h e at = Stands-top es e (t.top e at)
 Stands-within es t zero (suc n) h e at = absurd (omega arith)
 Stands-within es t (suc steps) (suc n) h e at =
-    let less : e.parent < suc n = (t.earlier (suc n) e at (omega arith)).0 in
+    let less : e.parent < suc n = t.earlier (suc n) e at (omega arith) in
     let above = slice_get-some es e.parent (omega (arith, slice_get_within es (suc n) e at)) in
     Stands-child es t (suc n) e above.0 at (omega arith) above.1 (Stands-within es t steps e.parent (omega arith) above.0 above.1)
 
-pub stands : (es : List Facts) → IsDraft (length es) es → (n : ℕ) (e : Facts) → slice_get es n ≡ Some e → Stands es n e
+pub stands : (es : List Facts) → IsTable es → (n : ℕ) (e : Facts) → slice_get es n ≡ Some e → Stands es n e
 stands es t n e at = Stands-within es t n n (omega arith) e at
 
 -- where the text of an entry ends: a node's is within the limit, and a token's in that of the node above
@@ -163,90 +137,69 @@ end_of-token : (g : Option NodeTerm) (i : ℕ) (t : Term) → slice_get (childre
 end_of-token None i t e = absurd cc
 end_of-token (Some n) i t e = child_end (Node n) i t e
 
-ends_below : (es : List Facts) → IsDraft (length es) es → (n : ℕ) (e p : Facts) → slice_get es n ≡ Some e → 0 < n → slice_get es e.parent ≡ Some p → (o : Option Term) → slice_get (children_in (green_of p)) (n - p.first_child) ≡ o → e.start + len_of o ≤ byte_limit
+ends_below : (es : List Facts) → IsTable es → (n : ℕ) (e p : Facts) → slice_get es n ≡ Some e → 0 < n → slice_get es e.parent ≡ Some p → (o : Option Term) → slice_get (children_in (green_of p)) (n - p.first_child) ≡ o → e.start + len_of o ≤ byte_limit
 ends_below es t n e p at h above None f = omega (arith, t.ends n e at)
 ends_below es t n e p at h above (Some u) f =
     omega (arith, (t.parents n e p at h above).start, end_of-token (green_of p) (n - p.first_child) u f, t.ends e.parent p above)
 
 -- an entry's term is that child of the node above
-pub child_above : (es : List Facts) → IsDraft (length es) es → (n : ℕ) (e p : Facts) → slice_get es n ≡ Some e → 0 < n → slice_get es e.parent ≡ Some p → subterm (Node (root_node es)) (entry_path es n) ≡ slice_get (children_in (green_of p)) (n - p.first_child)
+pub child_above : (es : List Facts) → IsTable es → (n : ℕ) (e p : Facts) → slice_get es n ≡ Some e → 0 < n → slice_get es e.parent ≡ Some p → subterm (Node (root_node es)) (entry_path es n) ≡ slice_get (children_in (green_of p)) (n - p.first_child)
 child_above es t n e p at h above =
     let root = root_node es in
     let q = entry_path es e.parent in
     ap (λ r. subterm (Node root) r) (entry_path-below es t n e p at h above) ∙ subterm-child (Some (Node root)) q (n - p.first_child)
     ∙ ap (λ ts. slice_get ts (n - p.first_child)) (content-children (subterm (Node root) q) (green_of p) (stands es t e.parent p above).green)
 
-ends_within : (es : List Facts) → IsDraft (length es) es → (n : ℕ) (e : Facts) → slice_get es n ≡ Some e → e.start + len_of (subterm (Node (root_node es)) (entry_path es n)) ≤ byte_limit
+ends_within : (es : List Facts) → IsTable es → (n : ℕ) (e : Facts) → slice_get es n ≡ Some e → e.start + len_of (subterm (Node (root_node es)) (entry_path es n)) ≤ byte_limit
 ends_within es t zero e at = omega (arith, t.ends 0 e at, ap len_in (t.top e at).green)
 ends_within es t (suc n) e at =
-    let less : e.parent < suc n = (t.earlier (suc n) e at (omega arith)).0 in
+    let less : e.parent < suc n = t.earlier (suc n) e at (omega arith) in
     let above = slice_get-some es e.parent (omega (arith, slice_get_within es (suc n) e at)) in
     let p = above.0 in
     omega (arith, ends_below es t (suc n) e p at (omega arith) above.1 (slice_get (children_in (green_of p)) (suc n - p.first_child)) refl, ap len_of (child_above es t (suc n) e p at (omega arith) above.1))
 
-last_index-index : (es : List Facts) → IsDraft (length es) es → (n : ℕ) (e : Facts) → slice_get es n ≡ Some e → last_index (entry_path es n) ≡ entry_index es n e
+last_index-index : (es : List Facts) → IsTable es → (n : ℕ) (e : Facts) → slice_get es n ≡ Some e → last_index (entry_path es n) ≡ entry_index es n e
 last_index-index es t zero e at = omega arith
 last_index-index es t (suc n) e at =
     ap last_index (entry_path-child es t (suc n) e at (omega arith)) ∙ last_index-child (entry_path es e.parent) (entry_index es (suc n) e)
 
 -- ---- rows
 
-rows_apart : (es : List Facts) → IsDraft (length es) es → (m n : ℕ) (d e : Facts) → slice_get es m ≡ Some d → slice_get es n ≡ Some e → 0 < length (children_in (green_of d)) → 0 < length (children_in (green_of e)) → m < n → d.first_child + length (children_in (green_of d)) ≤ e.first_child
-rows_apart es t m n d e dat eat some more h =
-    omega (arith, counts-take-less es m n d dat h, first_child-counts es t m d dat some, first_child-counts es t n e eat more)
-
-pub row_within : (es : List Facts) → IsTable es → (n : ℕ) (e : Facts) → slice_get es n ≡ Some e → e.first_child + length (children_in (green_of e)) ≤ length es
-row_within es t n e at =
-    omega (arith, counts-within es n e at, t.draft.firsts n e at, first-least (take n es) (green_of e), t.whole)
-
 -- the entry with the number of child j of entry n is that child
 pub record HasChild (es : List Facts) (n : ℕ) (e : Facts) (j : ℕ) : Type 0 where
   pub child : Facts
   pub at : slice_get es (e.first_child + j) ≡ Some child
+  pub behind : 0 < e.first_child + j
   pub parent : child.parent ≡ n
   pub index : entry_index es (e.first_child + j) child ≡ j
 
 same_parent : (a b : ℕ) → (a < b → ⊥) → (b < a → ⊥) → a ≡ b
 same_parent a b h k = omega arith
 
-same_index : (m a b i j : ℕ) → i ≡ m - a → m ≡ b + j → a ≡ b → i ≡ j
-same_index m a b i j d e f = omega arith
-
 same_entry : (es : List Facts) (m n : ℕ) (d e : Facts) → slice_get es m ≡ Some d → slice_get es n ≡ Some e → m ≡ n → d ≡ e
 same_entry es m n d e p q h = same_Some d e (sym p ∙ ap (λ k. slice_get es k) h ∙ q)
 
-same_first : (d e : Facts) → d ≡ e → d.first_child ≡ e.first_child
-same_first d e h = ap (λ (x : Facts). x.first_child) h
-
 pub has_child : (es : List Facts) → IsTable es → (n : ℕ) (e : Facts) (j : ℕ) → slice_get es n ≡ Some e → j < length (children_in (green_of e)) → HasChild es n e j
 has_child es t n e j at h =
-    let f = t.draft in
     let m = e.first_child + j in
-    let within : m < length es = omega (arith, row_within es t n e at) in
-    let found = slice_get-some es m within in
+    let found = slice_get-some es m (omega (arith, t.rows n e at)) in
     let c = found.0 in
-    let behind : 0 < m = omega (arith, first_child-counts es f n e at (omega arith)) in
-    let less : c.parent < m = (f.earlier m c found.1 behind).0 in
-    let above = slice_get-some es c.parent (omega arith) in
-    let p = above.0 in
-    let is : IsChildOf p m c = f.parents m c p found.1 behind above.1 in
-    let inside : m - p.first_child < length (children_in (green_of p)) = kept_within (children_in (green_of p)) (m - p.first_child) (green_of c) is.child in
-    let place : p.first_child ≤ m = is.place in
-    let same : c.parent ≡ n =
-    same_parent c.parent n (λ before. omega (arith, rows_apart es f c.parent n p e above.1 at (omega arith) (omega arith) before)) (λ before. omega (arith, rows_apart es f n c.parent e p at above.1 (omega arith) (omega arith) before)) in
-    let entry : p ≡ e = same_entry es c.parent n p e above.1 at same in
+    let own = t.owned n m e c at found.1 record {
+      from = omega arith;
+      to = omega arith;
+    } in
     record {
       child = c;
       at = found.1;
-      parent = same;
-      index = same_index m p.first_child e.first_child (entry_index es m c) j (index_above es m c p above.1) refl (same_first p e entry);
+      behind = own.0;
+      parent = own.1;
+      index = index_above es m c e (ap (slice_get es) own.1 ∙ at) ∙ omega arith;
     }
 
 pub entry_path-row : (es : List Facts) → IsTable es → (n : ℕ) (e : Facts) (j : ℕ) → slice_get es n ≡ Some e → j < length (children_in (green_of e)) → entry_path es (e.first_child + j) ≡ entry_path es n ++ j ∷ []
 entry_path-row es t n e j at h =
     let c : HasChild es n e j = has_child es t n e j at h in
-    let behind : 0 < e.first_child + j = omega (arith, first_child-counts es t.draft n e at (omega arith)) in
-    entry_path-child es t.draft (e.first_child + j) c.child c.at behind
+    entry_path-child es t (e.first_child + j) c.child c.at c.behind
     ∙ ap (λ k. entry_path es k ++ entry_index es (e.first_child + j) c.child ∷ []) c.parent ∙ ap (λ i. entry_path es n ++ i ∷ []) c.index
 
 -- a part of the children of an entry
@@ -260,7 +213,7 @@ row_below es t n e at (suc c) a h =
     ap (λ p. p ∷ map (entry_path es) (numbers (e.first_child + a + 1) c)) (entry_path-row es t n e a at (omega arith))
     ∙ ap (λ ps. (entry_path es n ++ a ∷ []) ∷ ps) rest
 
-child_count-entry : (es : List Facts) → IsDraft (length es) es → (n : ℕ) (e : Facts) → slice_get es n ≡ Some e → child_count (root_node es) (entry_path es n) ≡ length (children_in (green_of e))
+child_count-entry : (es : List Facts) → IsTable es → (n : ℕ) (e : Facts) → slice_get es n ≡ Some e → child_count (root_node es) (entry_path es n) ≡ length (children_in (green_of e))
 child_count-entry es t n e at =
     ap length (content-children (subterm (Node (root_node es)) (entry_path es n)) (green_of e) (stands es t n e at).green)
 
@@ -275,23 +228,23 @@ children_row es t n e at =
     let left : e.first_child + length (children_in (green_of e)) - e.first_child ≡ length (children_in (green_of e)) = omega arith in
     record {
       order = omega arith;
-      within = row_within es t n e at;
-      row = ap (λ c. map (entry_path es) (numbers e.first_child c)) left ∙ part es t n e at e.first_child 0 (length (children_in (green_of e))) (omega arith) (omega arith) ∙ ap (λ c. below (entry_path es n) (numbers 0 c)) (sym (child_count-entry es t.draft n e at));
+      within = t.rows n e at;
+      row = ap (λ c. map (entry_path es) (numbers e.first_child c)) left ∙ part es t n e at e.first_child 0 (length (children_in (green_of e))) (omega arith) (omega arith) ∙ ap (λ c. below (entry_path es n) (numbers 0 c)) (sym (child_count-entry es t n e at));
     }
 
 -- all that stands at a number
 pub is_entry : (es : List Facts) → IsTable es → (n : ℕ) (e : Facts) → slice_get es n ≡ Some e → Describes es n e
 is_entry es t n e at =
-    let s : Stands es n e = stands es t.draft n e at in
+    let s : Stands es n e = stands es t n e at in
     record {
       at = at;
       green = s.green;
       start = s.start;
-      end = ends_within es t.draft n e at;
-      index = last_index-index es t.draft n e at;
+      end = ends_within es t n e at;
+      index = last_index-index es t n e at;
       below = λ h. record {
-        earlier = (t.draft.earlier n e at h).0;
-        path = entry_path-child es t.draft n e at h;
+        earlier = t.earlier n e at h;
+        path = entry_path-child es t n e at h;
       };
       children = children_row es t n e at;
     }
@@ -304,11 +257,11 @@ pub record HasAbove (es : List Facts) (n : ℕ) (e p : Facts) : Type 0 where
   pub above : slice_get es e.parent ≡ Some p
 
 place : (es : List Facts) (n : ℕ) (e p : Facts) → IsTable es → HasAbove es n e p → n ≡ p.first_child + (n - p.first_child)
-place es n e p t h = omega (arith, (t.draft.parents n e p h.at h.behind h.above).place)
+place es n e p t h = omega (arith, (t.parents n e p h.at h.behind h.above).place)
 
 index_below : (es : List Facts) (n : ℕ) (e p : Facts) → IsTable es → HasAbove es n e p → n - p.first_child < length (children_in (green_of p))
 index_below es n e p t h =
-    kept_within (children_in (green_of p)) (n - p.first_child) (green_of e) (t.draft.parents n e p h.at h.behind h.above).child
+    kept_within (children_in (green_of p)) (n - p.first_child) (green_of e) (t.parents n e p h.at h.behind h.above).child
 
 pub following_row : (es : List Facts) → IsTable es → (n : ℕ) (e p : Facts) → HasAbove es n e p → IsRow es (n + 1) (p.first_child + length (children_in (green_of p))) (following (root_node es) (entry_path es n))
 following_row es t n e p h =
@@ -320,11 +273,11 @@ following_row es t n e p h =
     let from : n + 1 ≡ p.first_child + (n - p.first_child + 1) = omega arith in
     record {
       order = omega arith;
-      within = row_within es t e.parent p h.above;
+      within = t.rows e.parent p h.above;
       row = ap (λ c. map (entry_path es) (numbers (n + 1) c)) left
           ∙ part es t e.parent p h.above (n + 1) (n - p.first_child + 1) (length (children_in (green_of p)) - (n - p.first_child + 1)) from (omega arith)
-          ∙ ap (λ c. below q (numbers (n - p.first_child + 1) (c - (n - p.first_child + 1)))) (sym (child_count-entry es t.draft e.parent p h.above))
-          ∙ sym (following-child root q (n - p.first_child)) ∙ ap (following root) (sym (entry_path-below es t.draft n e p h.at h.behind h.above));
+          ∙ ap (λ c. below q (numbers (n - p.first_child + 1) (c - (n - p.first_child + 1)))) (sym (child_count-entry es t e.parent p h.above))
+          ∙ sym (following-child root q (n - p.first_child)) ∙ ap (following root) (sym (entry_path-below es t n e p h.at h.behind h.above));
     }
 
 pub preceding_row : (es : List Facts) → IsTable es → (n : ℕ) (e p : Facts) → HasAbove es n e p → IsRowBack es p.first_child n (preceding (root_node es) (entry_path es n))
@@ -338,12 +291,12 @@ preceding_row es t n e p h =
       within = omega (arith, slice_get_within es n e h.at);
       row = ap reverse (part es t e.parent p h.above p.first_child 0 (n - p.first_child) (omega arith) (omega arith))
           ∙ sym (map-reverse (λ i. q ++ i ∷ []) (numbers 0 (n - p.first_child)))
-          ∙ sym (preceding-child root q (n - p.first_child)) ∙ ap (preceding root) (sym (entry_path-below es t.draft n e p h.at h.behind h.above));
+          ∙ sym (preceding-child root q (n - p.first_child)) ∙ ap (preceding root) (sym (entry_path-below es t n e p h.at h.behind h.above));
     }
 
 pub above_of : (es : List Facts) → IsTable es → (n : ℕ) (e : Facts) → slice_get es n ≡ Some e → 0 < n → (p : Facts) × HasAbove es n e p
 above_of es t n e at h =
-    let less : e.parent < n = (t.draft.earlier n e at h).0 in
+    let less : e.parent < n = t.earlier n e at h in
     let above = slice_get-some es e.parent (omega (arith, slice_get_within es n e at)) in (
       above.0,
       record {
@@ -389,7 +342,7 @@ next_beside es t n e d at h next same =
     let a = above_of es t n e at h in
     let p = a.0 in
     let row = following_row es t n e p a.1 in
-    let is : IsChildOf p (n + 1) d = t.draft.parents (n + 1) d p next (omega arith) (ap (λ k. slice_get es k) same ∙ a.1.above) in
+    let is : IsChildOf p (n + 1) d = t.parents (n + 1) d p next (omega arith) (ap (λ k. slice_get es k) same ∙ a.1.above) in
     let less : n + 1 < p.first_child + length (children_in (green_of p)) = omega (arith, is.place, kept_within (children_in (green_of p)) (n + 1 - p.first_child) (green_of d) is.child) in
     sym (ap first_at (first_split (entry_path es) (n + 1) (p.first_child + length (children_in (green_of p))) less)) ∙ ap first_at row.row
 
@@ -400,7 +353,7 @@ next_apart es t n e d at h next apart =
     let p = a.0 in
     let end = p.first_child + length (children_in (green_of p)) in
     let row = following_row es t n e p a.1 in
-    let from : p.first_child ≤ n = (t.draft.parents n e p at h a.1.above).place in
+    let from : p.first_child ≤ n = (t.parents n e p at h a.1.above).place in
     let here : n + 1 ≡ p.first_child + (n + 1 - p.first_child) = omega arith in
     let inside : n + 1 < end → ⊥ = λ less. (
     let c = has_child es t e.parent p (n + 1 - p.first_child) a.1.above (omega arith) in
@@ -418,7 +371,7 @@ prev_beside es t n e d at h before same =
     let a = above_of es t n e at (omega arith) in
     let p = a.0 in
     let row = preceding_row es t n e p a.1 in
-    let is : IsChildOf p (n - 1) d = t.draft.parents (n - 1) d p before (omega arith) (ap (λ k. slice_get es k) same ∙ a.1.above) in
+    let is : IsChildOf p (n - 1) d = t.parents (n - 1) d p before (omega arith) (ap (λ k. slice_get es k) same ∙ a.1.above) in
     sym (ap first_at (last_split (entry_path es) p.first_child n (n - 1) (omega (arith, is.place)) (omega arith))) ∙ ap first_at row.row
 
 pub prev_apart : (es : List Facts) → IsTable es → (n : ℕ) (e d : Facts) → slice_get es n ≡ Some e → 1 < n → slice_get es (n - 1) ≡ Some d → (d.parent ≡ e.parent → ⊥)
@@ -442,9 +395,9 @@ prev_first es t (suc zero) within h =
     let e = found.0 in
     let a = above_of es t 1 e found.1 (omega arith) in
     let p = a.0 in
-    let top : e.parent ≡ 0 = omega (arith, (t.draft.earlier 1 e found.1 (omega arith)).0) in
+    let top : e.parent ≡ 0 = omega (arith, t.earlier 1 e found.1 (omega arith)) in
     let at : slice_get es 0 ≡ Some p = ap (slice_get es) (sym top) ∙ a.1.above in
-    let first : p.first_child ≡ 1 = t.draft.firsts 0 p at ∙ ap (first_after []) (t.draft.top p at).green in
+    let first : p.first_child ≡ 1 = omega (arith, (t.top p at).first, (t.parents 1 e p found.1 (omega arith) a.1.above).place) in
     no_prev es p.first_child 1 (preceding (root_node es) (entry_path es 1)) (preceding_row es t 1 e p a.1) first
 prev_first es t (suc (suc n)) within h = absurd (omega arith)
 
@@ -458,13 +411,13 @@ pub node_above : (es : List Facts) → IsTable es → (n : ℕ) (e : Facts) → 
 node_above es t n e at h =
     let a = above_of es t n e at h in
     let p = a.0 in
-    node_with_child (subterm (Node (root_node es)) (entry_path es e.parent)) (green_of p) (green_of e) (n - p.first_child) (stands es t.draft e.parent p a.1.above).green (t.draft.parents n e p at h a.1.above).child
+    node_with_child (subterm (Node (root_node es)) (entry_path es e.parent)) (green_of p) (green_of e) (n - p.first_child) (stands es t e.parent p a.1.above).green (t.parents n e p at h a.1.above).child
 
 -- what an entry without a node stands for is a child of the node above
 pub child_of_above : (es : List Facts) → IsTable es → (n : ℕ) (e p : Facts) → slice_get es n ≡ Some e → green_of e ≡ None → slice_get es e.parent ≡ Some p
     → (subterm (Node (root_node es)) (entry_path es n) ≡ slice_get (children_in (green_of p)) (n - p.first_child)) × (n - p.first_child < length (children_in (green_of p)))
-child_of_above es t zero e p at bare above = absurd (none-some (root_node es) (sym bare ∙ (t.draft.top e at).green))
+child_of_above es t zero e p at bare above = absurd (none-some (root_node es) (sym bare ∙ (t.top e at).green))
 child_of_above es t (suc n) e p at bare above = (
-  child_above es t.draft (suc n) e p at (omega arith) above,
-  kept_within (children_in (green_of p)) (suc n - p.first_child) (green_of e) (t.draft.parents (suc n) e p at (omega arith) above).child,
+  child_above es t (suc n) e p at (omega arith) above,
+  kept_within (children_in (green_of p)) (suc n - p.first_child) (green_of e) (t.parents (suc n) e p at (omega arith) above).child,
 )

@@ -10,7 +10,7 @@ use Rattle.rowan_green.specs.Term.{NodeTerm, Term}
 use Rattle.rowan_green.specs.Path.{Path, term_children, subterm, begins}
 use Rattle.rowan_cursor.specs.Moves.{parent_path, children_of, numbers, below, child_count, child_paths, following, preceding, is_node, is_node_at, first_at, first_leaf_path, last_leaf_path, next_leaf_path, prev_leaf_path}
 use Rattle.rowan_cursor.specs.Pass.{Lists, below_children, of_some, after, before, since, since_child, until, until_child, leaf_list, element_list, ComesBehind, ComesNext, ComesBefore, ComesBack, first_inside, last_inside}
-use Rattle.rowan_cursor.specs.Table.{IsDraft, IsTable, green_of, entry_index, root_node, entry_path, Facts}
+use Rattle.rowan_cursor.specs.Table.{IsTable, green_of, entry_index, root_node, entry_path, Facts}
 use Rattle.rowan_cursor.proofs.PathLemmas.{last-split, parent_path-child, following-child, preceding-child, begins-rest, begins-own, begins-same, not-begins, subterm-child, below-first, below-none}
 use Rattle.rowan_cursor.proofs.LeafLemmas.{after-child, since_child-child, since_child-none, before-child, until_child-child, until_child-none, until_child-all, leaf_list-node, element_list-term, filter_same, filter_row-const, filter-below_children, find-first, find-last, last_at, first_leaf-below, last_leaf-below, next_leaf-since_child, prev_leaf-before}
 use Rattle.rowan_cursor.proofs.RowLemmas.{map-reverse, row-last}
@@ -269,7 +269,7 @@ ends_apart : (p : Path) (i : ℕ) → p ++ i ∷ [] ≡ [] → ⊥
 ends_apart [] i e = cc
 ends_apart (j ∷ p) i e = cc
 
-same_number : (es : List Facts) → IsDraft (length es) es → (k m n : ℕ) → m < k → m < length es → n < length es → entry_path es m ≡ entry_path es n → m ≡ n
+same_number : (es : List Facts) → IsTable es → (k m n : ℕ) → m < k → m < length es → n < length es → entry_path es m ≡ entry_path es n → m ≡ n
 same_number es f zero m n b i j h = absurd (omega arith)
 same_number es f (suc k) m n b i j h =
     let d = slice_get-some es m i in
@@ -278,8 +278,8 @@ same_number es f (suc k) m n b i j h =
       | inl x ↦ elim (cases_lt 0 n) [
         | inl y ↦ (
             let ends = same_from_push (entry_path es d.0.parent) (entry_path es e.0.parent) (entry_index es m d.0) (entry_index es n e.0) (sym (entry_path-child es f m d.0 d.1 x) ∙ h ∙ entry_path-child es f n e.0 e.1 y) in
-            let less : d.0.parent < m = (f.earlier m d.0 d.1 x).0 in
-            let lesser : e.0.parent < n = (f.earlier n e.0 e.1 y).0 in
+            let less : d.0.parent < m = f.earlier m d.0 d.1 x in
+            let lesser : e.0.parent < n = f.earlier n e.0 e.1 y in
             let parents : d.0.parent ≡ e.0.parent = same_number es f k d.0.parent e.0.parent (omega arith) (omega arith) (omega arith) ends.0 in
             let above = slice_get-some es d.0.parent (omega arith) in
             let one = f.parents m d.0 above.0 d.1 x above.1 in
@@ -298,7 +298,7 @@ same_number es f (suc k) m n b i j h =
     ]
 
 pub apart_paths : (es : List Facts) → IsTable es → (m n : ℕ) → m < length es → n < length es → m ≢ n → entry_path es m ≢ entry_path es n
-apart_paths es t m n i j apart h = apart (same_number es t.draft (suc m) m n (omega arith) i j h)
+apart_paths es t m n i j apart h = apart (same_number es t (suc m) m n (omega arith) i j h)
 
 -- something stands at each path of a table
 pub stands_at : (es : List Facts) → IsTable es → (n : ℕ) → n < length es → (u : Term) × (subterm (Node (root_node es)) (entry_path es n) ≡ Some u)

@@ -1,105 +1,149 @@
--- A draft: a table that is still to be filled. The nodes of all entries stand in one list, in the order of these, and wait for the
--- entries of their children. The first of them have got these, and their places in the table's list of nodes.
-use Rattle.std.specs.Prelude.{◌≡◌, ℕ, ◌+◌, ◌≤◌, List, [], ◌∷◌, ◌++◌, length, take, drop, Some, slice_get}
+-- A draft: a table that is still to be filled. A node that has an entry waits for its place among the nodes, and for the entries of
+-- its children, which it gets together. Those that wait stand in a list, in the order of their entries, and the last is the next.
+-- What is known of a draft stays true while it grows: entries are only added, and an entry that names a place names it for good.
+use Rattle.std.specs.Prelude.{◌≡◌, ℕ, ◌+◌, ◌-◌, ◌<◌, ◌≤◌, List, [], ◌∷◌, ◌++◌, length, take, Option, Some, None, slice_get}
 use Rattle.std.specs.List.{sum_by}
+use Rattle.std.specs.Option.{option_map}
 use Rattle.std.specs.Vec.{vec_len, vec_capacity}
-use Rattle.rowan_green.specs.Sizes.{terms_size}
-use Rattle.rowan_green.specs.Term.{Term, NodeTerm, node_children, node_len}
+use Rattle.rowan_green.specs.Fits.{byte_limit}
+use Rattle.rowan_green.specs.Lent.{into_node}
+use Rattle.rowan_green.specs.Search.{child_start}
+use Rattle.rowan_green.specs.Sizes.{term_size, terms_size}
+use Rattle.rowan_green.specs.Term.{Term, NodeTerm, node, empty, node_children}
 use Rattle.rowan_cursor.specs.declared.table.entry.Entry.{Entry}
 use Rattle.rowan_cursor.specs.declared.table.entry.Inner.{Inner}
 use Rattle.rowan_cursor.specs.declared.table.draft.Draft.{Draft}
 use Rattle.rowan_cursor.specs.declared.table.draft.Waiting.{Waiting}
-use Rattle.rowan_cursor.specs.Table.{Facts, all_facts, child_counts, root_node, IsDraft, AreNodes}
+use Rattle.rowan_cursor.specs.Table.{child_counts, len_in}
 
--- how a table will have a node, whose first child stands behind so many children
-abbrev pub planned_node : ℕ → NodeTerm → Inner
-planned_node count n = record {
-  green = n;
-  text_len = node_len n;
-  first_child = count + 1;
-  len = λ _. node_len n;
-}
+-- the root: the first node that has its place, or else the first that waits for one
+abbrev pub first_node : List Inner → List Waiting → NodeTerm
+first_node [] [] = node 0 empty
+first_node [] (w ∷ ws) = w.node.now
+first_node (x ∷ ns) ws = x.green
 
--- how it will have nodes, the children of the first of which stand behind so many
-abbrev pub planned_behind : ℕ → List Waiting → List Inner
-planned_behind count [] = []
-planned_behind count (w ∷ ws) =
-    planned_node count w.node.now
-    ∷ planned_behind (count + length (node_children w.node.now)) ws
+-- the node of entry n, of which the greens tell, has place k among the nodes
+pub record HasPlace (greens : List (Option NodeTerm)) (ns : List Inner) (n k : ℕ) : Type 0 where
+  pub inner : Inner
+  pub at : slice_get ns k ≡ Some inner
+  pub green : slice_get greens n ≡ Some (Some inner.green)
 
--- how it will have the nodes of all entries that are there
-abbrev pub planned : Draft → List Inner
-planned d = planned_behind 0 d.waiting.items
+-- the node of entry n is among those that wait
+pub record IsAwaited (ws : List Waiting) (n : ℕ) : Type 0 where
+  pub index : ℕ
+  pub waiting : Waiting
+  pub at : slice_get ws index ≡ Some waiting
+  pub number : waiting.number ≡ n
 
--- what the entries tell that are there
-abbrev pub entries_of : Draft → List Facts
-entries_of d = all_facts (planned d) d.entries.items
+-- a node that waits has an entry, which names no place yet
+pub record HasEntry (greens : List (Option NodeTerm)) (es : List Entry) (w : Waiting) : Type 0 where
+  pub entry : Entry
+  pub at : slice_get es w.number ≡ Some entry
+  pub start : entry.start ≡ w.start
+  pub bare : entry.node ≡ None
+  pub green : slice_get greens w.number ≡ Some (Some w.node.now)
 
--- these entries are the first ones of a table, and these nodes are theirs
-pub record ArePlanned (ns : List Inner) (es : List Entry) : Type 0 where
-  pub draft : IsDraft (length es) (all_facts ns es)
-  pub nodes : AreNodes ns es
+-- entry c, with the number n, is that of a child: its parent stands before it and has its place, and its children's entries
+pub record IsChildEntry (greens : List (Option NodeTerm)) (es : List Entry) (ns : List Inner) (n : ℕ) (c : Entry) : Type 0 where
+  pub above : Entry
+  pub at : slice_get es c.parent ≡ Some above
+  pub earlier : c.parent < n
+  pub place : ℕ
+  pub named : above.node ≡ Some place
+  pub inner : Inner
+  pub node : slice_get ns place ≡ Some inner
+  pub from : inner.first_child ≤ n
+  pub child : option_map into_node (slice_get (node_children inner.green) (n - inner.first_child))
+      ≡ slice_get greens n
+  pub start : c.start ≡ above.start + child_start (node_children inner.green) (n - inner.first_child)
 
--- the list of nodes has a node as it is planned
-pub record IsAsPlanned (x y : Inner) : Type 0 where
-  pub green : x.green ≡ y.green
-  pub first : x.first_child ≡ y.first_child
+-- the first entry is that of the root
+pub record IsRootEntry (root : NodeTerm) (greens : List (Option NodeTerm)) (e : Entry) : Type 0 where
+  pub start : e.start ≡ 0
+  pub green : slice_get greens 0 ≡ Some (Some root)
 
--- a node that waits has the entry with its number, and is the one with number k among the nodes
-pub record HasEntry (d : Draft) (k : ℕ) (w : Waiting) : Type 0 where
+-- these are the entries of a draft, the nodes that have their places, and those that wait for them
+pub record AreFilled (es : List Entry) (ns : List Inner) (ws : List Waiting) : Type 0 where
+  -- the node of each entry; none of that of a token
+  pub greens : List (Option NodeTerm)
+  pub count : length greens ≡ length es
+  pub some : 0 < length es
+  pub fewer : length ns + length ws ≤ length es
+  pub root : (e : Entry) → slice_get es 0 ≡ Some e → IsRootEntry (first_node ns ws) greens e
+  pub ends : (n : ℕ) (e : Entry) (g : Option NodeTerm) → slice_get es n ≡ Some e
+      → slice_get greens n ≡ Some g → e.start + len_in g ≤ byte_limit
+  pub named : (n k : ℕ) (e : Entry) → slice_get es n ≡ Some e → e.node ≡ Some k → HasPlace greens ns n k
+  pub once : (n m k : ℕ) (e d : Entry) → slice_get es n ≡ Some e → slice_get es m ≡ Some d
+      → e.node ≡ Some k → d.node ≡ Some k → n ≡ m
+  pub bare : (n : ℕ) (e : Entry) (g : NodeTerm) → slice_get es n ≡ Some e → e.node ≡ None
+      → slice_get greens n ≡ Some (Some g) → IsAwaited ws n
+  pub waits : (i : ℕ) (w : Waiting) → slice_get ws i ≡ Some w → HasEntry greens es w
+  pub order : (i j : ℕ) (v w : Waiting) → slice_get ws i ≡ Some v → slice_get ws j ≡ Some w
+      → i < j → v.number < w.number
+  pub firsts : (k : ℕ) (x : Inner) → slice_get ns k ≡ Some x
+      → x.first_child ≡ child_counts (take k ns) + 1
+  pub children : (n : ℕ) (c : Entry) → slice_get es n ≡ Some c → 0 < n → IsChildEntry greens es ns n c
+
+-- a draft, between two nodes
+abbrev pub IsFilled : Draft → Type 0
+IsFilled d = AreFilled d.entries.items d.nodes.items d.waiting.items
+
+-- the same, where one node more waits: the next, which was taken out
+abbrev pub IsFilledWith : Draft → Waiting → Type 0
+IsFilledWith d w = AreFilled d.entries.items d.nodes.items (d.waiting.items ++ w ∷ [])
+
+-- the children of the nodes that have their places have entries, and besides them only the root
+abbrev pub HasTheirs : Draft → Type 0
+HasTheirs d = length d.entries.items ≡ child_counts d.nodes.items + 1
+
+-- the root of a draft
+abbrev pub draft_root : Draft → NodeTerm
+draft_root d = first_node d.nodes.items d.waiting.items
+
+-- the same, where one node more waits: the next
+abbrev pub draft_root_with : Draft → Waiting → NodeTerm
+draft_root_with d w = first_node d.nodes.items (d.waiting.items ++ w ∷ [])
+
+-- a node that has its place, and whose child at index i is the next to get an entry
+pub record IsNextIndex (d : Draft) (w : Waiting) (i : ℕ) : Type 0 where
   pub entry : Entry
   pub at : slice_get d.entries.items w.number ≡ Some entry
-  pub begins : entry.start ≡ w.start
-  pub node : entry.node ≡ Some k
-
--- a draft whose entries and nodes are the first ones of a table
-pub record IsFilled (d : Draft) : Type 0 where
-  pub plan : ArePlanned (planned d) d.entries.items
-  pub made : (k : ℕ) (x y : Inner) → slice_get d.nodes.items k ≡ Some x
-      → slice_get (planned d) k ≡ Some y → IsAsPlanned x y
-  pub known : (k : ℕ) (w : Waiting) → slice_get d.waiting.items k ≡ Some w → HasEntry d k w
-  pub fewer : length d.waiting.items ≤ length d.entries.items
-  pub done : length d.nodes.items ≤ length d.waiting.items
-
--- the children of the nodes that have got their places have entries, and no others
-abbrev pub HasTheirs : Draft → Type 0
-HasTheirs d =
-    length d.entries.items ≡ child_counts (take (length d.nodes.items) (planned d)) + 1
-
--- this is the first node that has not got its place
-abbrev pub IsNext : Draft → Waiting → Type 0
-IsNext d w = slice_get d.waiting.items (length d.nodes.items) ≡ Some w
-
--- a node that waits, whose child at index i is the next to get an entry
-pub record IsNextIndex (d : Draft) (w : Waiting) (i : ℕ) : Type 0 where
-  pub number : ℕ
-  pub waits : slice_get d.waiting.items number ≡ Some w
-  pub place : length d.entries.items
-      ≡ child_counts (take number (planned d)) + 1 + i
+  pub start : entry.start ≡ w.start
+  pub place : ℕ
+  pub named : entry.node ≡ Some place
+  pub inner : Inner
+  pub node : slice_get d.nodes.items place ≡ Some inner
+  pub green : inner.green ≡ w.node.now
+  pub next : length d.entries.items ≡ inner.first_child + i
 
 -- how much is below nodes that wait
 abbrev pub waiting_size : List Waiting → ℕ
 waiting_size ws = sum_by (λ w. 1 + terms_size (node_children w.node.now)) ws
 
--- how much is below those that have not got their places
+-- how much is below those of a draft
 abbrev pub size_left : Draft → ℕ
-size_left d = waiting_size (drop (length d.nodes.items) d.waiting.items)
+size_left d = waiting_size d.waiting.items
 
--- the nodes among these terms were added to those that wait, and nothing else
-pub record WaitsForMore (old new : Draft) (ts : List Term) : Type 0 where
-  pub row : List Waiting
-  pub waiting : new.waiting.items ≡ old.waiting.items ++ row
-  pub size : waiting_size row ≤ terms_size ts
+-- the same, where one node more waits: the next
+abbrev pub size_left_with : Draft → Waiting → ℕ
+size_left_with d w = waiting_size (d.waiting.items ++ w ∷ [])
+
+-- the last of those that waited was taken out, and nothing else has changed
+pub record IsTaken (old new : Draft) (w : Waiting) : Type 0 where
+  pub waiting : old.waiting.items ≡ new.waiting.items ++ w ∷ []
+  pub entries : new.entries.items ≡ old.entries.items
   pub nodes : new.nodes.items ≡ old.nodes.items
-  pub root : root_node (entries_of new) ≡ root_node (entries_of old)
 
 -- the child at index i of a node has got its entry
 pub record AddsChild (old new : Draft) (n : NodeTerm) (i : ℕ) : Type 0 where
   pub child : Term
   pub at : slice_get (node_children n) i ≡ Some child
+  pub entry : Entry
+  pub entries : new.entries.items ≡ old.entries.items ++ entry ∷ []
+  pub nodes : new.nodes.items ≡ old.nodes.items
   pub filled : IsFilled new
-  pub entries : length new.entries.items ≡ length old.entries.items + 1
-  pub more : WaitsForMore old new (child ∷ [])
+  pub root : draft_root new ≡ draft_root old
+  pub size : size_left new ≤ size_left old + term_size child
 
 -- there is room for so many more entries, and for as many nodes that wait
 pub record HasRoom (d : Draft) (count : ℕ) : Type 0 where
@@ -115,3 +159,8 @@ pub record IsKept (old new : Draft) : Type 0 where
   pub entries : new.entries.items ≡ old.entries.items
   pub nodes : new.nodes.items ≡ old.nodes.items
   pub waiting : new.waiting.items ≡ old.waiting.items
+
+-- nothing has changed but the room, and no node waits
+pub record IsDone (old new : Draft) : Type 0 where
+  pub kept : IsKept old new
+  pub none : new.waiting.items ≡ []

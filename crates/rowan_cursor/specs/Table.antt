@@ -1,8 +1,9 @@
--- The table of a tree: an entry for each of its nodes and tokens, level by level, the root first.
---     The children of a node stand side by side in their order, behind those of the nodes before.
+-- The table of a tree: an entry for each of its nodes and tokens, the root first.
+--     The children of a node stand side by side in their order, behind the node itself.
 --     An entry knows the number of its parent, and where its text starts. That of a node knows, too,
---     which of the nodes it is: they stand in a list of their own, with the numbers of their first
---     children. The table keeps no token: a token is found among the children of its parent.
+--     which of the nodes it is: they stand in a list of their own, in the order in which their children
+--     got entries, with the numbers of their first children. The table keeps no token: a token is found
+--     among the children of its parent.
 --     The path of an entry is read off by going up: from parent to parent, to the root.
 -- All facts are local: each speaks of one entry, or of an entry and its parent.
 use Rattle.std.specs.Prelude.{◌≡◌, ℕ, zero, suc, ◌+◌, ◌-◌, ◌<◌, ◌≤◌, List, [], ◌∷◌, ◌++◌, map, length, take, reverse, Some, Option, None, slice_get}
@@ -77,14 +78,6 @@ abbrev pub root_node : List Facts → NodeTerm
 root_node [] = node 0 empty
 root_node (e ∷ es) = node_in (green_of e)
 
--- how many children these entries have together
-abbrev pub counts : List Facts → ℕ
-counts es = sum_by (λ e. length (entry_children e)) es
-
--- the number of a node's first child, behind the children of these entries; 0 for a token
-abbrev pub first_after : List Facts → Option NodeTerm → ℕ
-first_after es g = option_map_or (λ n. counts es + 1) g 0
-
 -- how many children these nodes have together
 abbrev pub child_counts : List Inner → ℕ
 child_counts ns = sum_by (λ n. length (node_children n.green)) ns
@@ -105,10 +98,11 @@ path_within (suc steps) es (suc n) =
 abbrev pub entry_path : List Facts → ℕ → Path
 entry_path es n = path_within n es n
 
--- the first entry is that of a root
+-- the first entry is that of a root, and its children stand behind it
 pub record IsTop (es : List Facts) (e : Facts) : Type 0 where
   pub green : green_of e ≡ Some (root_node es)
   pub start : e.start ≡ 0
+  pub first : 0 < e.first_child
 
 -- entry e, with the number n, is a child of entry p
 pub record IsChildOf (p : Facts) (n : ℕ) (e : Facts) : Type 0 where
@@ -117,32 +111,34 @@ pub record IsChildOf (p : Facts) (n : ℕ) (e : Facts) : Type 0 where
       option_map into_node (slice_get (entry_children p) (n - p.first_child)) ≡ Some (green_of e)
   pub start : e.start ≡ p.start + child_start (entry_children p) (n - p.first_child)
 
--- entries of which the first `done` have their children; the others' are still to come
-pub record IsDraft (done : ℕ) (es : List Facts) : Type 0 where
+-- this number is among those of an entry's children, which go up from that of the first
+pub record IsAmong (e : Facts) (n : ℕ) : Type 0 where
+  pub from : e.first_child ≤ n
+  pub to : n < e.first_child + length (entry_children e)
+
+-- a table: each entry but the first is a child of an entry before it, and all children of each are
+-- there, side by side
+pub record IsTable (es : List Facts) : Type 0 where
   pub some : 0 < length es
   pub top : (e : Facts) → slice_get es 0 ≡ Some e → IsTop es e
   pub ends : (n : ℕ) (e : Facts) → slice_get es n ≡ Some e
       → e.start + len_in (green_of e) ≤ byte_limit
-  pub firsts : (n : ℕ) (e : Facts) → slice_get es n ≡ Some e
-      → e.first_child ≡ first_after (take n es) (green_of e)
-  pub earlier : (n : ℕ) (e : Facts) → slice_get es n ≡ Some e
-      → 0 < n → (e.parent < n) × (e.parent < done)
+  pub earlier : (n : ℕ) (e : Facts) → slice_get es n ≡ Some e → 0 < n → e.parent < n
   pub parents : (n : ℕ) (e p : Facts) → slice_get es n ≡ Some e
       → 0 < n → slice_get es e.parent ≡ Some p → IsChildOf p n e
+  pub rows : (n : ℕ) (e : Facts) → slice_get es n ≡ Some e
+      → e.first_child + length (entry_children e) ≤ length es
+  pub owned : (n m : ℕ) (e c : Facts) → slice_get es n ≡ Some e → slice_get es m ≡ Some c
+      → IsAmong e m → (0 < m) × (c.parent ≡ n)
 
--- the nodes that these entries name: each entry's is there, and the children of each stand behind
--- those of the nodes before
+-- the nodes that these entries name: each entry's is there, the children of each stand behind those
+-- of the nodes before, and there are no entries but theirs and the root's
 pub record AreNodes (ns : List Inner) (es : List Entry) : Type 0 where
   pub there : (n : ℕ) (e : Entry) (k : ℕ) → slice_get es n ≡ Some e → e.node ≡ Some k
       → k < length ns
   pub firsts : (k : ℕ) (x : Inner) → slice_get ns k ≡ Some x
       → x.first_child ≡ child_counts (take k ns) + 1
-  pub all : counts (all_facts ns es) ≡ child_counts ns
-
--- a table: each node knows its first child, and all children of each are there
-pub record IsTable (es : List Facts) : Type 0 where
-  pub draft : IsDraft (length es) es
-  pub whole : length es ≡ counts es + 1
+  pub all : length es ≡ child_counts ns + 1
 
 -- the entries from one number up to another stand at these paths, in this order
 pub record IsRow (es : List Facts) (start end : ℕ) (paths : List Path) : Type 0 where

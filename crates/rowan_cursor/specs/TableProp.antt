@@ -1,18 +1,15 @@
 -- That entries form a table, and that a list has its nodes, are propositions.
-use Rattle.std.specs.Prelude.{ℕ, List}
+use Rattle.std.specs.Prelude.{List}
 use Rattle.std.specs.Coded.{coded_option}
 use Rattle.std.proofs.Props.{props}
 use Rattle.rowan_green.specs.Coding.{coded_node}
 use Rattle.rowan_cursor.specs.declared.table.entry.Entry.{Entry}
 use Rattle.rowan_cursor.specs.declared.table.entry.Inner.{Inner}
-use Rattle.rowan_cursor.specs.Table.{IsDraft, IsTable, AreNodes, Facts}
-
-IsDraft-prop : (done : ℕ) (es : List Facts) → IsProp (IsDraft done es)
-IsDraft-prop done es =
-    hlevel (props, coded_option coded_node, coded_option (coded_option coded_node))
+use Rattle.rowan_cursor.specs.Table.{IsTable, AreNodes, Facts}
 
 pub IsTable-prop : (es : List Facts) → IsProp (IsTable es)
-IsTable-prop es = hlevel (props, IsDraft-prop)
+IsTable-prop es =
+    hlevel (props, coded_option coded_node, coded_option (coded_option coded_node))
 
 pub AreNodes-prop : (ns : List Inner) (es : List Entry) → IsProp (AreNodes ns es)
 AreNodes-prop ns es = hlevel props

@@ -18,8 +18,8 @@ use rowan_green::utility_types::NodeOrToken;
 use std::alloc::{AllocError, Global};
 use std::ops::Range;
 
-/// A tree as a table of its nodes and tokens, level by level. Each is known by the number of its entry; the root has 0. The nodes
-/// stand in a list of their own, in the same order.
+/// A tree as a table of its nodes and tokens. Each is known by the number of its entry; the root has 0, and the children of a node
+/// stand side by side, behind it. The nodes stand in a list of their own, in the order in which their children do.
 #[derive(Drop)]
 pub(crate) struct Table {
     entries: Vec<Entry>,

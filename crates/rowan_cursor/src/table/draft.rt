@@ -1,4 +1,4 @@
-//! Filling a table: level by level, in one pass.
+//! Filling a table: node by node, from the root on, in one pass.
 ghost use Rattle.std.specs.Prelude.{◌≡◌, ◌≤◌};
 
 use super::Table;
@@ -16,7 +16,10 @@ const MIN_FIRST_BYTES: usize = 16;
 // And at most: for 27 MB of memory.
 const MAX_FIRST_BYTES: usize = 1 << 21;
 
-/// A node that has an entry, and whose children have none yet.
+// For how many nodes that wait a table has room at first, while it is filled.
+const FIRST_WAITING: usize = 64;
+
+/// A node that has an entry, but no place among the nodes yet, and whose children have no entries.
 #[derive(Clone, Copy)]
 pub(super) struct Waiting<'a> {
     node: &'a GreenNode,
@@ -28,9 +31,10 @@ pub(super) struct Waiting<'a> {
 // Beside a table its nodes wait while it is filled, so they have to be small.
 const _: () = prove!(size_of::<Waiting<'_>>() == 16);
 
-/// A table that is still to be filled. All nodes that have entries stand in a list, in the order of these, and wait for those of their
-/// children. A node's block is read once, when its turn comes: then it gets its place in the table's list of nodes, and its children
-/// get entries, behind those of all nodes before it.
+/// A table that is still to be filled. The nodes that have entries and no places stand in a list and wait, and the last of them is
+/// the next. A node's block is read once, when its turn comes: then it gets its place in the table's list of nodes, which its entry
+/// is told, and its children get entries, behind all others. So the nodes are taken in an order in which neighbours, whose blocks
+/// were made one after the other, come one after the other; and few wait at a time.
 #[derive(Drop)]
 pub(super) struct Draft<'a> {
     entries: Vec<Entry>,
@@ -40,23 +44,23 @@ pub(super) struct Draft<'a> {
 
 impl<'a> Draft<'a> {
     ghost use Rattle.std.specs.Prelude.{◌≡◌, ◌+◌, ◌<◌, IfOk, OnOk, IfSome, IsNone, length};
+    ghost use Rattle.std.specs.Vec.{vec_len, vec_capacity};
     ghost use Rattle.rowan_green.specs.Term.{node_children};
-    ghost use Rattle.rowan_cursor.specs.DraftView.{IsFilled, HasTheirs, IsNext, IsNextIndex, AddsChild, HasRoom, IsKept, TakesPlace, entries_of, size_left};
-    ghost use Rattle.rowan_cursor.specs.Table.{root_node};
+    ghost use Rattle.rowan_cursor.specs.DraftView.{IsFilled, IsFilledWith, HasTheirs, IsTaken, IsDone, IsNextIndex, AddsChild, HasRoom, IsKept, TakesPlace, draft_root, draft_root_with, size_left, size_left_with};
     ghost use Rattle.rowan_cursor.specs.TableView.{root_of};
 
     /// The entry of the root alone.
     pub(super) fn new(alloc: Global, root: &'a GreenNode) -> Result<Draft<'a>, AllocError>
         ensures draft { IfOk result IsFilled }
         ensures children { IfOk result HasTheirs }
-        ensures root { IfOk result (λ draft. root_node (entries_of draft) ≡ root.now) }
+        ensures root { IfOk result (λ draft. draft_root draft ≡ root.now) }
     {
         let bytes = first_bytes(root.text_len());
         let mut draft = Draft {
             // Three nodes and tokens in four bytes, and one of them a node, are more than most trees have.
             entries: Vec::with_capacity(alloc, bytes - bytes / 4)?,
             nodes: Vec::with_capacity(alloc, bytes / 4)?,
-            waiting: Vec::with_capacity(alloc, bytes / 4)?,
+            waiting: Vec::with_capacity(alloc, FIRST_WAITING)?,
         };
         let start = TextSize::from(0);
         draft.waiting.push_reserved(Waiting {
@@ -67,39 +71,46 @@ impl<'a> Draft<'a> {
         draft.entries.push_reserved(Entry {
             start,
             parent: 0,
-            node: Link::to(0),
+            node: Link::none(),
         });
         Ok(draft)
     }
 
-    /// The next node whose children get entries.
-    pub(super) fn next(&self) -> Option<Waiting<'a>>
-        ensures some { IfSome result (IsNext self.now) }
-        ensures none { IsNone result
-            → length self.now.waiting.items ≤ length self.now.nodes.items }
+    /// Takes out the next node that waits.
+    pub(super) fn next(&mut self) -> Option<Waiting<'a>>
+        ensures some { IfSome result (IsTaken self.old self.new) }
+        ensures none { IsNone result → IsDone self.old self.new }
     {
-        self.waiting.get(self.nodes.len()).copied()
+        self.waiting.pop()
     }
 
-    // Makes room for so many nodes and tokens more, of which all may be nodes.
+    // Makes room for one node more that has its place, and for so many nodes and tokens below it, of which all may be nodes. Where
+    // there is enough room, this calls nothing.
     fn reserve(&mut self, additional: usize) -> Result<(), AllocError>
         ensures kept { IsKept self.old self.new }
         ensures room { OnOk result (HasRoom self.new additional) }
+        ensures place { OnOk result (vec_len self.new.nodes < vec_capacity self.new.nodes) }
     {
-        self.entries.reserve(additional)?;
-        self.waiting.reserve(additional)
+        if self.entries.capacity() - self.entries.len() < additional {
+            self.entries.reserve(additional)?;
+        }
+        if self.waiting.capacity() - self.waiting.len() < additional {
+            self.waiting.reserve(additional)?;
+        }
+        if self.nodes.len() == self.nodes.capacity() {
+            self.nodes.reserve(1)?;
+        }
+        Ok(())
     }
 
-    /// Gives the next node its place, and its children their entries. Refused, too, where there are no more numbers.
+    /// Gives the node that was the next its place, and its children their entries. Refused, too, where there are no more numbers.
     pub(super) fn push_children(&mut self, parent: &Waiting<'a>) -> Result<(), AllocError>
-        requires draft { IsFilled self.old }
+        requires draft { IsFilledWith self.old parent.now }
         requires children { HasTheirs self.old }
-        requires next { IsNext self.old parent.now }
         ensures draft { OnOk result (IsFilled self.new) }
         ensures children { OnOk result (HasTheirs self.new) }
-        ensures root { OnOk result
-            (root_node (entries_of self.new) ≡ root_node (entries_of self.old)) }
-        ensures less { OnOk result (size_left self.new < size_left self.old) }
+        ensures root { OnOk result (draft_root self.new ≡ draft_root_with self.old parent.now) }
+        ensures less { OnOk result (size_left self.new < size_left_with self.old parent.now) }
     {
         let first_child = self.entries.len();
         let count = parent.node.children().len();
@@ -109,12 +120,14 @@ impl<'a> Draft<'a> {
         if end > u32::MAX as usize {
             return Err(AllocError);
         }
-        self.nodes.push(Inner {
-            green: parent.node.clone()?,
+        self.reserve(count)?;
+        let green = parent.node.clone()?;
+        self.entries[parent.number as usize].node = Link::to(self.nodes.len() as u32);
+        self.nodes.push_reserved(Inner {
+            green,
             text_len: parent.node.text_len(),
             first_child: first_child as u32,
-        })?;
-        self.reserve(count)?;
+        });
         for index in 0..count {
             self.push_child(parent, index);
         }
@@ -138,7 +151,6 @@ impl<'a> Draft<'a> {
         let start = TextSize::from(u32::from(parent.start) + u32::from(found.0));
         match found.1 {
             NodeOrToken::Node(node) => {
-                let place = Link::to(self.waiting.len() as u32);
                 let number = self.entries.len() as u32;
                 self.waiting.push_reserved(Waiting {
                     node,
@@ -148,7 +160,7 @@ impl<'a> Draft<'a> {
                 self.entries.push_reserved(Entry {
                     start,
                     parent: parent.number,
-                    node: place,
+                    node: Link::none(),
                 });
             }
             NodeOrToken::Token(_) => self.entries.push_reserved(Entry {
@@ -163,8 +175,8 @@ impl<'a> Draft<'a> {
     pub(super) fn finish(self) -> Table
         requires draft { IsFilled self }
         requires children { HasTheirs self }
-        requires done { length self.waiting.items ≤ length self.nodes.items }
-        ensures { root_of result ≡ root_node (entries_of self.entry) }
+        requires done { length self.waiting.items ≡ 0 }
+        ensures { root_of result ≡ draft_root self.entry }
     {
         let Draft {
             mut entries,

@@ -17,4 +17,4 @@ pub returns-in-None : goal.returns-in-None
 returns-in-None c x at =
     let s = c.args.self.now in
     let last : length s.nodes.items ≤ c.args.node + 1 = omega (arith, ap length c.deref.ensures.value, c.in-None.ensures.lookup.3) in
-    omega (arith, c.len.ensures, row_end-last s.nodes.items s.entries.items s.numbered s.complete.whole c.args.node x at last)
+    omega (arith, c.len.ensures, row_end-last s.nodes.items s.entries.items s.numbered c.args.node x at last)

@@ -24,7 +24,7 @@ overflow_sub-number c =
     let e = facts_of s.nodes.items c.entry.result.now in
     let above = c.inner_node-above.ensures in
     let p = told above.entry (Some c.inner_node-above.result.now) in
-    omega (arith, (s.complete.draft.parents n e p c.entry.ensures.at (token_behind s n (c.in_default.ensures.none refl)) above.is.at).place)
+    omega (arith, (s.complete.parents n e p c.entry.ensures.at (token_behind s n (c.in_default.ensures.none refl)) above.is.at).place)
 
 pub unreachable-requires : goal.unreachable-requires
 unreachable-requires c =

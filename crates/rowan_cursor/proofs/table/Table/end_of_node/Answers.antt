@@ -7,4 +7,4 @@ at-requires c =
     let s = c.args.self.now in
     let x = c.inner_node.result.now in
     let i = c.inner_node.ensures in
-    omega (arith, c.start.ensures, i.is.start, s.complete.draft.ends c.args.number (told i.entry (Some x)) i.is.at, x.len)
+    omega (arith, c.start.ensures, i.is.start, s.complete.ends c.args.number (told i.entry (Some x)) i.is.at, x.len)

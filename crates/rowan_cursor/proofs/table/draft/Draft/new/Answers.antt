@@ -2,7 +2,10 @@ use Rattle.std.proofs.Common.{◌++◌, ◌∷◌, [], ◌∙◌, refl, ap}
 use Rattle.rowan_cursor.specs.declared.table.entry.Entry.{Entry}
 use Rattle.rowan_cursor.specs.declared.table.draft.Draft.{Draft}
 use Rattle.rowan_cursor.specs.declared.table.draft.Waiting.{Waiting}
-use Rattle.rowan_cursor.proofs.DraftLemmas.{filled_root}
+use Rattle.rowan_green.specs.declared.utility_types.NodeOrToken.TheVariants.{Node}
+use Rattle.rowan_green.proofs.Terms.{Fits-len}
+use Rattle.rowan_cursor.proofs.DraftLemmas.{filled_as}
+use Rattle.rowan_cursor.proofs.FillLemmas.{filled-root}
 use Rattle.rowan_cursor.proofs.table.draft.Draft.new.Goals as goal
 
 pub returns-clause-draft : goal.returns-clause-draft
@@ -20,8 +23,9 @@ returns-clause-draft c =
     let e : Entry = record {
       start = c.from-start.result;
       parent = 0;
-      node = c.to.result;
+      node = c.none.result;
     } in
-    filled_root d w e (c.push_reserved-2.ensures.items ∙ ap (λ es. es ++ e ∷ []) c.in_ok-with_capacity.ensures.items)
+    filled_as d (e ∷ []) [] (w ∷ []) (c.push_reserved-2.ensures.items ∙ ap (λ es. es ++ e ∷ []) c.in_ok-with_capacity.ensures.items)
+    c.in_ok-with_capacity-2.ensures.items
     (c.push_reserved.ensures.items ∙ ap (λ ws. ws ++ w ∷ []) c.in_ok-with_capacity-3.ensures.items)
-    c.in_ok-with_capacity-2.ensures.items c.text_len.ensures.fits c.from-start.ensures refl c.from-start.ensures c.to.ensures
+    (filled-root e w c.from-start.ensures c.none.ensures c.from-start.ensures refl (Fits-len (Node c.args.root.now) c.text_len.ensures.fits))

@@ -1,4 +1,4 @@
-use Rattle.std.proofs.Common.{◌≡◌, ◌+◌, ◌∙◌, length, refl, ap, arith, Some}
+use Rattle.std.proofs.Common.{◌≡◌, ◌+◌, length, refl, ap, arith}
 use Rattle.rowan_green.specs.Lent.{into_node, pointee}
 use Rattle.rowan_green.specs.Search.{child_start}
 use Rattle.rowan_green.specs.Term.{node_children}
@@ -19,8 +19,8 @@ returns-in-Token-clause-added c =
       waiting = d.waiting;
     } in
     let start : c.from-start.result ≡ c.args.parent.now.start + child_start (node_children c.args.parent.now.node.now) c.args.index = omega (arith, c.from-start.ensures, c.from.ensures, c.from-2.ensures, c.in-Some.ensures.some.0) in
-    adds_token_child d new c.args.parent.now c.args.index c.requires.draft c.requires.place (pointee c.in-Some.found.1) c.in-Some.ensures.some.1 _ start refl
-    c.push_reserved-in-Token.ensures.items refl refl c.none.ensures (ap (λ o. into_node (pointee o)) c.in-Token.is)
+    adds_token_child d new c.args.parent.now c.args.index c.requires.draft c.requires.place (pointee c.in-Some.found.1) c.in-Some.ensures.some.1 _ start refl c.none-in-Token.ensures
+    c.push_reserved-in-Token.ensures.items refl refl (ap (λ o. into_node (pointee o)) c.in-Token.is)
 
 pub returns-in-Node-clause-added : goal.returns-in-Node-clause-added
 returns-in-Node-clause-added c =
@@ -32,6 +32,5 @@ returns-in-Node-clause-added c =
     } in
     let start : c.from-start.result ≡ c.args.parent.now.start + child_start (node_children c.args.parent.now.node.now) c.args.index = omega (arith, c.from-start.ensures, c.from.ensures, c.from-2.ensures, c.in-Some.ensures.some.0) in
     let number : c.len-number.result ≡ length d.entries.items = omega (arith, c.len-number.ensures) in
-    let place : c.len.result ≡ length d.waiting.items = omega (arith, c.len.ensures) in
-    adds_node_child d new c.args.parent.now c.args.index c.requires.draft c.requires.place (pointee c.in-Some.found.1) c.in-Some.ensures.some.1 _ start refl
-    c.push_reserved-in-Node.ensures.items refl c.in-Node.node.now _ c.push_reserved.ensures.items refl refl number (c.to-place.ensures ∙ ap (λ k. Some k) place) (ap (λ o. into_node (pointee o)) c.in-Node.is)
+    adds_node_child d new c.args.parent.now c.args.index c.requires.draft c.requires.place (pointee c.in-Some.found.1) c.in-Some.ensures.some.1 _ start refl c.none.ensures
+    c.push_reserved-in-Node.ensures.items refl _ c.push_reserved.ensures.items (ap (λ o. into_node (pointee o)) c.in-Node.is) refl number
