@@ -1,5 +1,5 @@
 -- Texts in quotes: where a long one is cut, and what stands for itself.
-use Rattle.std.proofs.Common.{◌≡◌, ℕ, zero, suc, ◌+◌, ◌-◌, ◌*◌, ◌/◌, ◌%◌, ◌<◌, ◌≤◌, Bool, true, false, List, [], ◌∷◌, ◌++◌, length, take, drop, get_or, replicate, codes, IsAscii, Option, Result, Ok, Err, is_ok, OnOk, if◌then◌else◌, refl, sym, ◌∙◌, ap, arith, zero-add, length-append, append_assoc, IsCharBoundary}
+use Rattle.std.proofs.Common.{◌≡◌, ℕ, zero, suc, ◌+◌, ◌-◌, ◌*◌, ◌/◌, ◌%◌, ◌<◌, ◌≤◌, ◌^◌, Bool, true, false, List, [], ◌∷◌, ◌++◌, length, take, drop, get_or, replicate, codes, decimal, IsAscii, IsTrue, Option, Result, Ok, Err, is_ok, OnOk, if◌then◌else◌, refl, sym, ◌∙◌, ap, arith, zero-add, length-append, append_assoc, IsCharBoundary}
 use Rattle.std.specs.List.{flat_map, list_all, prefix_len, take_while}
 use Rattle.std.specs.Char.{is_ascii}
 use Rattle.std.specs.Fmt.{debug_escape}
@@ -7,6 +7,8 @@ use Rattle.std.proofs.Math.Seq.{take-append_seam}
 use Rattle.std.proofs.lemmas.Grind.{common_steps, flat_map-append}
 use Rattle.std.proofs.lemmas.List.{get_or-drop, length-drop, replicate-append-replicate, take-replicate}
 use Rattle.std.proofs.lemmas.List.Sums.{prefix_len_is}
+use Rattle.std.proofs.lemmas.Fmt.{IsAscii-decimal}
+use Rattle.std.proofs.lemmas.Str.Ascii.{IsAscii-nil, IsAscii-cons}
 use Rattle.std.proofs.lemmas.Str.{IsAscii-append, IsAscii-take, IsAscii-drop}
 use Rattle.rowan_green.specs.declared.utility_types.NodeOrToken.TheVariants.{Node}
 use Rattle.rowan_green.specs.Term.{TokenTerm, Term, token_len}
@@ -79,14 +81,14 @@ quoted-short text h =
     let whole : shown text ≡ text = grind (arith, common_steps) in
     ap quoted whole
 
--- a text whose last byte, a quote, is taken away
-pub without_quote : (bs text rest : List ℕ) (n : ℕ) → n ≡ length text → text ≡ bs ++ 34 ∷ [] → (0 < n → get_or text (n - 1) 0 < 128 → rest ≡ take (n - 1) text) → rest ≡ bs
-without_quote bs text rest n long e h =
-    let last : n - 1 ≡ length bs = omega (arith, ap length e, length-append bs (34 ∷ [])) in
-    let quote : get_or text (n - 1) 0 ≡ 34 = ap (λ k. get_or text k 0) last ∙ ap (λ us. get_or us (length bs) 0) e ∙ get_or-seam bs in
-    h (omega (arith, ap length e, length-append bs (34 ∷ []))) (omega arith) ∙ ap (λ k. take k text) last ∙ ap (λ us. take (length bs) us) e ∙ take-append_seam bs (34 ∷ [])
+-- a text whose last byte is taken away
+pub without_last : (bs text rest : List ℕ) (b n : ℕ) → n ≡ length text → b < 128 → text ≡ bs ++ b ∷ [] → (0 < n → get_or text (n - 1) 0 < 128 → rest ≡ take (n - 1) text) → rest ≡ bs
+without_last bs text rest b n long small e h =
+    let last : n - 1 ≡ length bs = omega (arith, ap length e, length-append bs (b ∷ [])) in
+    let there : get_or text (n - 1) 0 ≡ b = ap (λ k. get_or text k 0) last ∙ ap (λ us. get_or us (length bs) 0) e ∙ get_or-seam bs in
+    h (omega (arith, ap length e, length-append bs (b ∷ []))) (omega arith) ∙ ap (λ k. take k text) last ∙ ap (λ us. take (length bs) us) e ∙ take-append_seam bs (b ∷ [])
   where
-    get_or-seam : (us : List ℕ) → get_or (us ++ 34 ∷ []) (length us) 0 ≡ 34
+    get_or-seam : (us : List ℕ) → get_or (us ++ b ∷ []) (length us) 0 ≡ b
     get_or-seam [] = refl
     get_or-seam (u ∷ us) = get_or-seam us
 
@@ -111,24 +113,49 @@ pub at_ok : {T E : Type 0} (r : Result T E) (new done kept target : List ℕ) �
 at_ok (Ok x) new done kept target h e = h ∙ e
 at_ok (Err x) new done kept target h e = tt
 
-pub quoted-behind : (bs text : List ℕ) → 25 ≤ length text → ((bs ++ codes "\"") ++ flat_map (debug_escape 34) (beginning text)) ++ codes " ...\"" ≡ bs ++ quoted (shown text)
-quoted-behind bs text h =
-    let inner = flat_map (debug_escape 34) (beginning text) in
-    append_assoc (bs ++ codes "\"") inner (codes " ...\"") ∙ append_assoc bs (codes "\"") (inner ++ codes " ...\"")
-    ∙ ap (λ us. bs ++ us) (sym (append_assoc (codes "\"") inner (codes " ...\"")) ∙ sym (quoted-long text h))
+-- the text behind a quote, with a quote after it
+pub quote-behind : (bs head inner : List ℕ) → ((bs ++ head) ++ codes " ") ++ ((34 ∷ [] ++ inner) ++ 34 ∷ []) ≡ (((bs ++ head) ++ codes " \"") ++ inner) ++ 34 ∷ []
+quote-behind bs head inner = simp append_assoc
+
+-- ---- ranges
+
+ascii-all : (bs : List ℕ) → IsTrue (list_all is_ascii bs) → IsAscii bs
+ascii-all [] h = IsAscii-nil
+ascii-all (b ∷ bs) h = grind (arith, common_steps, IsAscii-cons b bs, ascii-all bs)
+
+pub range-ascii : (start end : ℕ) (behind : List ℕ) → start < 2 ^ 64 → end < 2 ^ 64 → IsTrue (list_all is_ascii behind) → IsAscii (codes "@" ++ (decimal start ++ (codes ".." ++ (decimal end ++ behind))))
+range-ascii start end behind h k a =
+    let tail = IsAscii-append (decimal end) behind (IsAscii-decimal end k) (ascii-all behind a) in
+    let points = IsAscii-cons 46 (46 ∷ (decimal end ++ behind)) (omega arith) (IsAscii-cons 46 (decimal end ++ behind) (omega arith) tail) in
+    let rest = codes ".." ++ (decimal end ++ behind) in
+    IsAscii-cons 64 (decimal start ++ rest) (omega arith) (IsAscii-append (decimal start) rest (IsAscii-decimal start h) points)
+
+-- ---- lines of tokens
+
+close-short : (bs head inner : List ℕ) → (bs ++ head ++ codes " \"" ++ inner) ++ codes "\"\n" ≡ bs ++ (head ++ codes " " ++ ((codes "\"" ++ inner) ++ codes "\"")) ++ codes "\n"
+close-short bs head inner = simp append_assoc
+
+close-long : (bs head inner : List ℕ) → (bs ++ head ++ codes " \"" ++ inner) ++ codes " ...\"\n" ≡ bs ++ (head ++ codes " " ++ ((codes "\"" ++ inner) ++ codes " ...\"")) ++ codes "\n"
+close-long bs head inner = simp append_assoc
+
+-- the quote and the line were closed behind what is shown
+pub line-short : (bs head text : List ℕ) → length text < 25 → (bs ++ head ++ codes " \"" ++ flat_map (debug_escape 34) text) ++ codes "\"\n" ≡ bs ++ (head ++ codes " " ++ quoted (shown text)) ++ codes "\n"
+line-short bs head text h =
+    close-short bs head (flat_map (debug_escape 34) text) ∙ ap (λ q. bs ++ (head ++ codes " " ++ q) ++ codes "\n") (sym (quoted-short text h))
+
+pub line-long : (bs head text : List ℕ) → 25 ≤ length text
+    → (bs ++ head ++ codes " \"" ++ flat_map (debug_escape 34) (beginning text)) ++ codes " ...\"\n" ≡ bs ++ (head ++ codes " " ++ quoted (shown text)) ++ codes "\n"
+line-long bs head text h =
+    close-long bs head (flat_map (debug_escape 34) (beginning text)) ∙ ap (λ q. bs ++ (head ++ codes " " ++ q) ++ codes "\n") (sym (quoted-long text h))
+
+pub token_line-is : (name : ℕ → List ℕ) (start : ℕ) (t : TokenTerm) (kind : ℕ) (range : Span) (text : List ℕ) → kind ≡ t.kind → range ≡ extent start (token_len t) → text ≡ t.text
+    → headline (name kind) range ++ codes " " ++ quoted (shown text) ≡ token_line name start t
+token_line-is name start t kind range text k r e =
+    ap (λ j. headline (name j) range ++ codes " " ++ quoted (shown text)) k
+    ∙ ap (λ (s : Span). headline (name t.kind) s ++ codes " " ++ quoted (shown text)) r
+    ∙ ap (λ us. headline (name t.kind) (extent start (token_len t)) ++ codes " " ++ quoted (shown us)) e
 
 -- ---- lines of cursors
-
-pub token_line-behind : (name : ℕ → List ℕ) (start : ℕ) (t : TokenTerm) (kind : ℕ) (range : Span) (text bs : List ℕ) → kind ≡ t.kind → range ≡ extent start (token_len t) → text ≡ t.text
-    → ((bs ++ headline (name kind) range) ++ codes " ") ++ quoted (shown text) ≡ bs ++ token_line name start t
-token_line-behind name start t kind range text bs k r e =
-    let head = headline (name kind) range in
-    append_assoc (bs ++ head) (codes " ") (quoted (shown text)) ∙ append_assoc bs head (codes " " ++ quoted (shown text))
-    ∙ ap (λ us. bs ++ us)
-    (sym (append_assoc head (codes " ") (quoted (shown text)))
-    ∙ ap (λ j. headline (name j) range ++ codes " " ++ quoted (shown text)) k
-    ∙ ap (λ (s : Span). headline (name t.kind) s ++ codes " " ++ quoted (shown text)) r
-    ∙ ap (λ us. headline (name t.kind) (extent start (token_len t)) ++ codes " " ++ quoted (shown us)) e)
 
 pub debug_line-token : (name : ℕ → List ℕ) (c : Cursor) (t : TokenTerm) → StandsAtToken c t → token_line name (offset (Node c.root) c.path) t ≡ debug_line name c
 debug_line-token name c t h = ap (printed_of (term_line name (offset (Node c.root) c.path))) (sym h)

@@ -94,10 +94,8 @@ fn text_of(out: Writer) -> String
     requires { out.before ≡ [] }
     ensures { string_bytes result ≡ print out.tokens }
 {
-    match String::from_utf8(out.into_inner()) {
-        Ok(text) => text,
-        Err(_) => unreachable!(),
-    }
+    // The bytes are those of a text, which the check proves here.
+    unsafe { String::from_utf8_unchecked(out.into_inner()) }
 }
 
 // What stands before the values of the children of a node.

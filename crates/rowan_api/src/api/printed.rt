@@ -1,6 +1,7 @@
 //! Nodes and tokens as text: a line for each.
-ghost use Rattle.std.specs.Prelude.{◌≡◌, [], ◌∷◌, ◌++◌, ◌+◌, ◌*◌, codes, length, replicate, string_bytes, IsAscii, IfOk, OnOk, ◌<◌, ◌≤◌};
+ghost use Rattle.std.specs.Prelude.{◌≡◌, [], ◌∷◌, ◌++◌, ◌+◌, ◌*◌, codes, decimal, drop, length, replicate, string_bytes, IsAscii, IsTrue, IfOk, OnOk, ◌<◌, ◌≤◌};
 ghost use Rattle.std.specs.List.{flat_map, list_all, AllByRecursion};
+ghost use Rattle.std.specs.Char.{is_ascii};
 ghost use Rattle.std.specs.Fmt.{debug_escape};
 ghost use Rattle.rowan_green.specs.Fits.{byte_limit};
 ghost use Rattle.rowan_green.specs.Term.{node_len, node_text, token_len};
@@ -10,7 +11,7 @@ ghost use Rattle.rowan_api.specs.Printed.{called, beginning, shown, quoted, is_p
 
 use crate::api::language::Language;
 use crate::api::open_node::OpenNode;
-use itoa::Buffer;
+use itoa::write_digits;
 use rowan_cursor::cursor::{SyntaxNode, SyntaxToken};
 use rowan_green::green::{GreenNode, GreenToken, SyntaxKind};
 use rowan_green::text::{TextRange, TextSize};
@@ -26,6 +27,9 @@ const LEVELS: usize = 32;
 const LONG: usize = 25;
 
 const CUT: usize = 21;
+
+// The length of the longest range, "@4294967295..4294967295".
+const RANGE: usize = 23;
 
 // The lines of a node, whose text lies at a range, and of all that is in it.
 pub(super) fn tree<L: Language>(
@@ -97,8 +101,13 @@ fn push_node<L: Language>(
     ensures { OnOk result (string_bytes text.new ≡ string_bytes text.old
         ++ node_line (called L.name L.meaning) start node.now ++ codes "\n") }
 {
-    push_headline::<L>(text, node.kind(), TextRange::at(start, node.text_len()))?;
-    text.push_str("\n")
+    let mut room = *b"@4294967295..4294967295\n";
+    push_headline::<L>(
+        text,
+        node.kind(),
+        TextRange::at(start, node.text_len()),
+        &mut room,
+    )
 }
 
 // The line of a token whose text starts at an offset, and its newline.
@@ -111,10 +120,8 @@ fn push_token<L: Language>(
     ensures { IsAscii token.now.text → OnOk result (string_bytes text.new ≡ string_bytes text.old
         ++ token_line (called L.name L.meaning) start token.now ++ codes "\n") }
 {
-    push_headline::<L>(text, token.kind(), TextRange::at(start, token.text_len()))?;
-    text.push_str(" ")?;
-    push_quoted(text, token.text())?;
-    text.push_str("\n")
+    let range = TextRange::at(start, token.text_len());
+    push_token_line::<L>(text, token.kind(), range, token.text())
 }
 
 // The line of a node.
@@ -122,7 +129,8 @@ pub(super) fn node_line<L: Language>(alloc: Global, node: &SyntaxNode) -> Result
     ensures { IfOk result (λ s. string_bytes s ≡ debug_line (called L.name L.meaning) node.now) }
 {
     let mut line = String::new(alloc);
-    push_headline::<L>(&mut line, node.green().kind(), node.text_range())?;
+    let mut room = *b"@4294967295..4294967295";
+    push_headline::<L>(&mut line, node.green().kind(), node.text_range(), &mut room)?;
     Ok(line)
 }
 
@@ -136,27 +144,44 @@ pub(super) fn token_line<L: Language>(
 {
     let mut line = String::new(alloc);
     let green = token.green();
-    push_headline::<L>(&mut line, green.kind(), token.text_range())?;
-    line.push_str(" ")?;
-    push_quoted(&mut line, green.text())?;
+    push_token_line::<L>(&mut line, green.kind(), token.text_range(), green.text())?;
+    line.pop();
     Ok(line)
 }
 
-// The name of the kind, and the range.
+// The name of the kind, the range, and what stands in the room behind that of a range. All but the name is one piece, since a piece
+// costs more than its bytes.
 fn push_headline<L: Language>(
     text: &mut String,
     kind: SyntaxKind,
     range: TextRange,
+    room: &mut [u8],
 ) -> Result<(), AllocError>
-    ensures { OnOk result (string_bytes text.new
-        ≡ string_bytes text.old ++ headline (L.name (L.meaning kind.0)) range) }
+    requires room { RANGE ≤ length room.old }
+    requires ascii { IsTrue (list_all is_ascii (drop RANGE room.old)) }
+    ensures { OnOk result (string_bytes text.new ≡ string_bytes text.old
+        ++ headline (L.name (L.meaning kind.0)) range ++ drop RANGE room.old) }
 {
     text.push_str(L::kind_name(L::kind_from_raw(kind)))?;
-    let mut digits = Buffer::new();
-    text.push_str("@")?;
-    text.push_str(digits.format(u32::from(range.start())))?;
-    text.push_str("..")?;
-    text.push_str(digits.format(u32::from(range.end())))
+    let start = place_range(room, range);
+    // The bytes are those of a text, which the check proves here.
+    text.push_str(unsafe { str::from_utf8_unchecked(&room[start..]) })
+}
+
+// Writes a range so that it ends with the room of a range, and returns where it starts.
+fn place_range(room: &mut [u8], range: TextRange) -> usize
+    requires { RANGE ≤ length room.old }
+    ensures within { result ≤ length room.new }
+    ensures written { drop result room.new ≡ codes "@" ++ (decimal range.start
+        ++ (codes ".." ++ (decimal range.end ++ drop RANGE room.old))) }
+    ensures ascii { IsTrue (list_all is_ascii (drop RANGE room.old)) → IsAscii (drop result room.new) }
+{
+    let end = write_digits(u64::from(u32::from(range.end())), room, RANGE);
+    room[end - 1] = b'.';
+    room[end - 2] = b'.';
+    let start = write_digits(u64::from(u32::from(range.start())), room, end - 2);
+    room[start - 1] = b'@';
+    start - 1
 }
 
 fn push_indent(text: &mut String, level: usize) -> Result<(), AllocError>
@@ -170,17 +195,23 @@ fn push_indent(text: &mut String, level: usize) -> Result<(), AllocError>
     text.push_str(indent)
 }
 
-// The text in quotes, where a long one is cut and ends in points.
-fn push_quoted(text: &mut String, all: &str) -> Result<(), AllocError>
-    ensures { IsAscii all.now → OnOk result (string_bytes text.new
-        ≡ string_bytes text.old ++ quoted (shown all.now)) }
+// The line of a token with a text, and its newline. The text is in quotes, where a long one is cut and ends in points.
+fn push_token_line<L: Language>(
+    text: &mut String,
+    kind: SyntaxKind,
+    range: TextRange,
+    all: &str,
+) -> Result<(), AllocError>
+    ensures { IsAscii all.now → OnOk result (string_bytes text.new ≡ string_bytes text.old
+        ++ (headline (L.name (L.meaning kind.0)) range ++ codes " " ++ quoted (shown all.now))
+        ++ codes "\n") }
 {
     if all.len() < LONG {
-        push_opened(text, all)?;
-        text.push_str("\"")
+        push_opened::<L>(text, kind, range, all)?;
+        text.push_str("\"\n")
     } else {
-        push_opened(text, beginning(all))?;
-        text.push_str(" ...\"")
+        push_opened::<L>(text, kind, range, beginning(all))?;
+        text.push_str(" ...\"\n")
     }
 }
 
@@ -193,15 +224,23 @@ fn beginning(text: &str) -> &str
     beginning
 }
 
-// The text behind a quote, and no quote after it.
-fn push_opened(text: &mut String, shown: &str) -> Result<(), AllocError>
-    ensures { IsAscii shown.now → OnOk result (string_bytes text.new
-        ≡ string_bytes text.old ++ codes "\"" ++ flat_map (debug_escape 34) shown.now) }
+// The headline, and the text behind a quote, and no quote after it.
+fn push_opened<L: Language>(
+    text: &mut String,
+    kind: SyntaxKind,
+    range: TextRange,
+    shown: &str,
+) -> Result<(), AllocError>
+    ensures { IsAscii shown.now → OnOk result (string_bytes text.new ≡ string_bytes text.old
+        ++ headline (L.name (L.meaning kind.0)) range ++ codes " \"" ++ flat_map (debug_escape 34) shown.now) }
 {
     if is_plain(shown) {
-        text.push_str("\"")?;
+        let mut room = *b"@4294967295..4294967295 \"";
+        push_headline::<L>(text, kind, range, &mut room)?;
         return text.push_str(shown);
     }
+    let mut room = *b"@4294967295..4294967295 ";
+    push_headline::<L>(text, kind, range, &mut room)?;
     write!(text, "{shown:?}")?;
     text.pop();
     Ok(())
