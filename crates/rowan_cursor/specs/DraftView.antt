@@ -43,7 +43,8 @@ pub record HasEntry (greens : List (Option NodeTerm)) (es : List Entry) (w : Wai
   pub bare : entry.node ≡ None
   pub green : slice_get greens w.number ≡ Some (Some w.node.now)
 
--- entry c, with the number n, is that of a child: its parent stands before it and has its place, and its children's entries
+-- entry c, with the number n, is that of a child: its parent's entry stands before it and names the place of a node, and it is
+-- the child of that node which stands so far behind the first one
 pub record IsChildEntry (greens : List (Option NodeTerm)) (es : List Entry) (ns : List Inner) (n : ℕ) (c : Entry) : Type 0 where
   pub above : Entry
   pub at : slice_get es c.parent ≡ Some above
@@ -84,7 +85,7 @@ pub record AreFilled (es : List Entry) (ns : List Inner) (ws : List Waiting) : T
       → x.first_child ≡ child_counts (take k ns) + 1
   pub children : (n : ℕ) (c : Entry) → slice_get es n ≡ Some c → 0 < n → IsChildEntry greens es ns n c
 
--- a draft, between two nodes
+-- so the lists of a draft are filled
 abbrev pub IsFilled : Draft → Type 0
 IsFilled d = AreFilled d.entries.items d.nodes.items d.waiting.items
 

@@ -1,5 +1,5 @@
-//! The elements of the tree of `(+ (* 15 2) 62)`, level by level. The table of a tree is private, and its invariant says that its
-//! entries stand in just this order: so an element's place here is the number of its entry.
+//! The elements of the tree of `(+ (* 15 2) 62)`, level by level. The table of a tree is private: what its entries keep is seen by
+//! public calls, and the parent of an element is named by its place here.
 use crate::fixture::Call::{self, Close, Open, Word};
 use crate::fixture::{ATOM, LIST, ROOT, root_of};
 use rowan::cursor::{ElementCalls, SyntaxElement};

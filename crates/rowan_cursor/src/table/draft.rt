@@ -33,8 +33,8 @@ const _: () = prove!(size_of::<Waiting<'_>>() == 16);
 
 /// A table that is still to be filled. The nodes that have entries and no places stand in a list and wait, and the last of them is
 /// the next. A node's block is read once, when its turn comes: then it gets its place in the table's list of nodes, which its entry
-/// is told, and its children get entries, behind all others. So the nodes are taken in an order in which neighbours, whose blocks
-/// were made one after the other, come one after the other; and few wait at a time.
+/// is told, and its children get entries, behind all others. So each subtree is gone through as a whole, whose blocks mostly lie
+/// side by side in memory; and those that wait are siblings of the nodes on one path.
 #[derive(Drop)]
 pub(super) struct Draft<'a> {
     entries: Vec<Entry>,
