@@ -92,8 +92,9 @@ impl GreenNode {
     {
         let new_children = replace_with.into_iter();
         let kept = self.child_count() - (range.end - range.start);
-        let room = kept.saturating_add(new_children.size_hint().0);
-        let mut draft = self.draft_before(range.start, room.min(u32::MAX as usize))?;
+        // Room for the new children, too, as far as the block would get it by growing once.
+        let more = new_children.size_hint().0.min(kept);
+        let mut draft = self.draft_before(range.start, kept.saturating_add(more))?;
         for element in new_children {
             draft.push(element)?;
         }
