@@ -2,16 +2,14 @@
 use Rattle.std.proofs.Common.{◌≡◌, ℕ, zero, suc, ◌+◌, ◌-◌, ◌<◌, ◌≤◌, Bool, true, false, cond, List, [], ◌∷◌, ◌++◌, length, take, drop, get_or, Some, inl, inr, refl, sym, subst, ◌∙◌, ap, arith}
 use Rattle.std.specs.Prelude.{slice_range, nat_le, ◌&&◌}
 use Rattle.std.specs.List.{concat}
-use Rattle.std.proofs.lemmas.Bool.{cases_lt, leb-false, true≢false, and_parts}
-use Rattle.std.proofs.lemmas.Bool.Decides.{Decides-eqb}
-use lib.Dec.{eqb}
+use Rattle.std.proofs.lemmas.Bool.{cases_lt, leb-false, true≢false}
 use Rattle.std.proofs.lemmas.List.{append-nil, take_all, drop_all, length-drop, length-take-le, get_or-take, get_or-drop, take-append-le, drop-append-le, take-append-drop}
 use Rattle.std.specs.Str.{IsCharBoundary}
 use Rattle.std.proofs.lemmas.Str.{IsCharBoundary-end}
 use Rattle.std.proofs.Math.Seq.{take-append-add, drop-append-add}
 use Rattle.rowan_green.specs.declared.utility_types.NodeOrToken.TheVariants.{Node}
 use Rattle.rowan_green.specs.Span.{Span}
-use Rattle.rowan_green.specs.Term.{NodeTerm, Term, term_text, node_text}
+use Rattle.rowan_green.specs.Term.{Term, term_text, node_text}
 use Rattle.rowan_green.specs.Path.{Path, subterm, offset, range, text_of}
 use Rattle.rowan_green.proofs.OffsetLemmas.{text-cut, range-within}
 use Rattle.rowan_cursor.specs.Cursor.{term_at, text_at}
@@ -124,16 +122,6 @@ pub slice_text-node : (s : TextSlice) (u : Term) → term_at s.node ≡ Some u �
 slice_text-node s u e is =
     range_in (node_text s.node.root) (term_text u) (start_of s.node) s.range.start s.range.end (stands_in (Node s.node.root) s.node.path u e)
     is.from is.order (omega (arith, is.to, ap (λ o. length (text_of o)) e))
-
--- a range with the ends of a node's own has the node's text
-pub own_range : (root : NodeTerm) (path : Path) (r own : Span) → own ≡ range (Node root) path → (eqb r.start own.start && eqb r.end own.end) ≡ true
-    → slice_range (node_text root) r.start r.end ≡ text_of (subterm (Node root) path)
-own_range root path r own is same =
-    let both = and_parts (eqb r.start own.start) (eqb r.end own.end) same in
-    let starts : r.start ≡ (range (Node root) path).start = (Decides-eqb r.start own.start).0 both.0 ∙ ap (λ (q : Span). q.start) is in
-    let ends : r.end ≡ (range (Node root) path).end = (Decides-eqb r.end own.end).0 both.1 ∙ ap (λ (q : Span). q.end) is in
-    ap (λ a. slice_range (node_text root) a r.end) starts ∙ ap (λ b. slice_range (node_text root) (range (Node root) path).start b) ends
-    ∙ sym (text-cut (Node root) path)
 
 -- the chunks of a slice, one after the other, are its text
 pub chunks-joined : (s : TextSlice) (u : Term) → term_at s.node ≡ Some u → IsTextSlice s → concat (chunks s) ≡ slice_text s

@@ -5,8 +5,7 @@ ghost use Rattle.std.specs.Str.{IsCharBoundary};
 ghost use Rattle.rowan_cursor.specs.Chunks.{remaining_leaves, IsTokenInside, MayCut, IsWalk, remaining_chunks, slice_of, IsSliceOf, IsByteIn};
 ghost use Rattle.rowan_cursor.specs.Folds.{FoldsUntilErr, VisitsUntilErr, VisitsAll};
 ghost use Rattle.rowan_cursor.specs.SyntaxText.{meets, common_part, chunks, slice_text, slice_len, part_of, CanCut, FindsChar, ReadsChar, same_text};
-ghost use Rattle.rowan_cursor.specs.Cursor.{text_at};
-ghost use Rattle.rowan_cursor.specs.TableView.{path_at, cursor_of, IsNodeIn};
+ghost use Rattle.rowan_cursor.specs.TableView.{path_at};
 
 use super::Table;
 use rowan_green::text::{TextRange, TextSize};
@@ -161,28 +160,12 @@ impl Table {
         ensures { IfOk result (λ text. string_bytes text
             ≡ slice_text (slice_of self.now node range)) }
     {
-        if range == self.text_range(node) {
-            return self.copied_text(node);
-        }
         let mut walk = self.chunk_walk(node, range);
-        let mut text = String::new(self.allocator());
+        let mut text =
+            String::with_capacity(self.allocator(), u32::from(range.len()) as usize)?;
         while let Some(chunk) = self.next_chunk(&mut walk) {
             text.push_str(chunk)?;
         }
-        Ok(text)
-    }
-
-    // The text of a node, from its green node: no step from token to token goes through the table.
-    fn copied_text(&self, node: usize) -> Result<String, AllocError>
-        requires { IsNodeIn self.now node }
-        ensures { IfOk result (λ text. string_bytes text ≡ text_at (cursor_of self.now node)) }
-    {
-        let green = self.node(node);
-        let mut text = String::with_capacity(
-            self.allocator(),
-            u32::from(green.text_len()) as usize,
-        )?;
-        write!(text, "{green}")?;
         Ok(text)
     }
 
@@ -197,9 +180,6 @@ impl Table {
         ensures { DisplaysOnOk W.write_str_gives f.old result
             (Some (slice_text (slice_of self.now node range))) f.new }
     {
-        if range == self.text_range(node) {
-            return fmt::Display::fmt(self.node(node), f);
-        }
         let mut walk = self.chunk_walk(node, range);
         while let Some(chunk) = self.next_chunk(&mut walk) {
             f.write_str(chunk)?;

@@ -2,12 +2,11 @@ use Rattle.std.proofs.Common.{◌++◌, [], true, refl, sym, ◌∙◌, ap, appe
 use Rattle.std.proofs.lemmas.List.{append-nil}
 use Rattle.std.proofs.Output.{has_written_append, has_written_of_eq, writes_in_calls_nil}
 use Rattle.std.specs.List.{concat}
-use Rattle.rowan_green.specs.Path.{text_of}
 use Rattle.rowan_cursor.specs.Chunks.{slice_of, remaining_chunks}
-use Rattle.rowan_cursor.proofs.SliceLemmas.{chunks-joined, own_range}
+use Rattle.rowan_cursor.proofs.SliceLemmas.{chunks-joined}
 use Rattle.rowan_cursor.proofs.TokenLemmas.{stands_at}
 use Rattle.rowan_cursor.proofs.table.Table.write_chunks.Goals as goal
-use Rattle.rowan_cursor.specs.TableView.{entries_of, root_of, path_at}
+use Rattle.rowan_cursor.specs.TableView.{entries_of}
 
 pub loop-chunk-init : goal.loop-chunk-init
 loop-chunk-init g c = (c.chunk_walk-walk.ensures.walk, ([], ap concat c.chunk_walk-walk.ensures.chunks, λ plain. record { wrote = writes_in_calls_nil _ _; plain = plain }))
@@ -35,9 +34,3 @@ returns g c =
     sym (append-nil before.0) ∙ sym (ap (λ cs. before.0 ++ concat cs) c.in_default.ensures.next) ∙ before.1
     ∙ chunks-joined (slice_of table c.args.node c.args.range) there.0 there.1 c.requires.slice in
     λ plain ok. has_written_of_eq _ _ _ _ _ text (before.2 plain)
-
-pub returns-then-eq : goal.returns-then-eq
-returns-then-eq g c =
-    let table = c.args.self.now in
-    let cut = own_range (root_of table) (path_at table c.args.node) c.args.range c.text_range.result c.text_range.ensures (sym c.eq.ensures ∙ c.if-eq.true) in
-    λ plain ok. has_written_of_eq _ _ _ _ _ (sym (cut ∙ ap text_of c.node.ensures)) (c.fmt.ensures.writes plain ok)
