@@ -1,8 +1,10 @@
 -- Laws of a draft: what one child more, and all children of a node, leave true, and how much is left to be done.
-use Rattle.std.proofs.Common.{◌≡◌, ℕ, ◌+◌, ◌<◌, ◌≤◌, List, [], ◌∷◌, ◌++◌, length, take, Some, None, refl, sym, ◌∙◌, ap, subst, arith, length-append}
+use Rattle.std.proofs.Common.{◌≡◌, ℕ, ◌+◌, ◌-◌, ◌<◌, ◌≤◌, List, [], ◌∷◌, ◌++◌, length, take, drop, Some, None, refl, sym, ◌∙◌, ap, subst, arith, length-append}
 use Rattle.std.specs.Prelude.{slice_get}
+use Rattle.std.specs.List.Sorted.{IsPermutation}
 use Rattle.std.proofs.Math.ListN.{set, length-set}
-use Rattle.std.proofs.lemmas.List.{take_more}
+use Rattle.std.proofs.lemmas.List.{take_more, take_all, drop_all, take-append-drop, length-drop, append-nil}
+use Rattle.std.proofs.lemmas.List.Sorted.{IsPermutation-append_right, length_permutation, sum_by-IsPermutation}
 use Rattle.std.proofs.lemmas.List.Sums.{sum_by-append}
 use Rattle.std.proofs.lemmas.Option.{slice_get_within, get_or_from_slice_get, none-some, same_Some}
 use Rattle.rowan_green.specs.Fits.{byte_limit}
@@ -19,7 +21,7 @@ use Rattle.rowan_cursor.specs.declared.table.draft.Draft.{Draft}
 use Rattle.rowan_cursor.specs.declared.table.draft.Waiting.{Waiting}
 use Rattle.rowan_cursor.specs.DraftView.{AreFilled, first_node, IsFilled, IsFilledWith, HasTheirs, draft_root, draft_root_with, IsNextIndex, waiting_size, AddsChild, IsKept}
 use Rattle.rowan_cursor.specs.Table.{child_counts, root_node, all_facts}
-use Rattle.rowan_cursor.proofs.FillLemmas.{child_starts, first_node-kept, filled-token, filled-node, filled-place, root_stays, set_here, AreWhole, whole}
+use Rattle.rowan_cursor.proofs.FillLemmas.{child_starts, first_node-kept, filled-token, filled-node, filled-place, filled-turned, root_stays, set_here, AreWhole, whole}
 
 -- ---- sizes
 
@@ -40,6 +42,10 @@ node-size (Token t) n is = absurd (none-some n is)
 pub waiting_size-more : (ws : List Waiting) (w : Waiting) → waiting_size (ws ++ w ∷ []) ≡ waiting_size ws + (1 + terms_size (node_children w.node.now))
 waiting_size-more ws w =
     sum_by-append (λ (v : Waiting). 1 + terms_size (node_children v.node.now)) ws (w ∷ []) ∙ omega arith
+
+pub waiting_size-turned : (ws vs : List Waiting) → IsPermutation ws vs → waiting_size vs ≡ waiting_size ws
+waiting_size-turned ws vs turned =
+    sum_by-IsPermutation (λ (v : Waiting). 1 + terms_size (node_children v.node.now)) ws vs turned
 
 -- ---- lists that are those of a draft
 
@@ -79,6 +85,7 @@ module _ (d new : Draft) (w : Waiting) (i : ℕ) (f : IsFilled d) (p : IsNextInd
     entry = e;
     entries = grown;
     nodes = nodes;
+    more = omega (arith, ap length waiting);
     filled = filled_as new (d.entries.items ++ e ∷ []) d.nodes.items d.waiting.items grown nodes waiting
         (filled-token d.entries.items d.nodes.items d.waiting.items f e p.entry at p.place p.named p.inner p.node i p.next u here from bare token);
     root = ap (λ ns. first_node ns new.waiting.items) nodes ∙ ap (first_node d.nodes.items) waiting;
@@ -92,6 +99,7 @@ module _ (d new : Draft) (w : Waiting) (i : ℕ) (f : IsFilled d) (p : IsNextInd
     entry = e;
     entries = grown;
     nodes = nodes;
+    more = omega (arith, ap length waiting, length-append d.waiting.items (v ∷ []));
     filled = filled_as new (d.entries.items ++ e ∷ []) d.nodes.items (d.waiting.items ++ v ∷ []) grown nodes waiting
         (filled-node d.entries.items d.nodes.items d.waiting.items f e p.entry at p.place p.named p.inner p.node i p.next u here from bare v is starts number);
     root = ap (λ ns. first_node ns new.waiting.items) nodes ∙ first_node-kept d.nodes.items new.waiting.items d.waiting.items placed;
@@ -168,6 +176,39 @@ next_index d new w i e p grown nodes = record {
   green = p.green;
   next = omega (arith, p.next, ap length grown, length-append d.entries.items (e ∷ []));
 }
+
+-- ---- those that wait, in another order
+
+-- a list in which the part from k on was put into another order, as a reference to it leaves it
+pub part_turned : {X : Type 0} (xs lent new : List X) (k l : ℕ) → lent ≡ xs → l ≡ length xs → k ≤ length xs → IsPermutation (take (length lent - k) (drop k lent)) new
+    → IsPermutation xs (take l (take k lent ++ (new ++ drop (length lent - k) (drop k lent)) ++ drop (length (take k lent ++ (new ++ drop (length lent - k) (drop k lent)))) xs))
+part_turned xs lent new k l is len within turned =
+    let behind = drop k xs in
+    let n = length xs - k in
+    let all : take n behind ≡ behind = take_all n behind (omega (arith, length-drop k xs)) in
+    let turned_so : IsPermutation behind new = subst (λ ys. IsPermutation ys new) all (subst (λ ys. IsPermutation (take (length ys - k) (drop k ys)) new) is turned) in
+    let long : length (take k xs ++ new) ≡ length xs = omega (arith, length-append (take k xs) new, length_permutation behind new turned_so, length-append (take k xs) behind, ap length (take-append-drop k xs)) in
+    let part : new ++ drop n behind ≡ new = ap (λ ys. new ++ ys) (drop_all n behind (omega (arith, length-drop k xs))) ∙ append-nil new in
+    let rest : drop (length (take k xs ++ (new ++ drop n behind))) xs ≡ [] = drop_all (length (take k xs ++ (new ++ drop n behind))) xs (omega (arith, long, ap (λ ys. length (take k xs ++ ys)) part)) in
+    let whole : take l (take k xs ++ (new ++ drop n behind) ++ drop (length (take k xs ++ (new ++ drop n behind))) xs) ≡ take k xs ++ new = ap (λ ys. take l (take k xs ++ (new ++ drop n behind) ++ ys)) rest
+    ∙ ap (take l) (append-nil (take k xs ++ (new ++ drop n behind)) ∙ ap (λ ys. take k xs ++ ys) part)
+    ∙ take_all l (take k xs ++ new) (omega (arith, long, len)) in
+    let order : IsPermutation xs (take k xs ++ new) = subst (λ ys. IsPermutation ys (take k xs ++ new)) (take-append-drop k xs) (IsPermutation-append_right (take k xs) behind new turned_so) in
+    subst (λ ys. IsPermutation xs (take l (take k ys ++ (new ++ drop (length ys - k) (drop k ys)) ++ drop (length (take k ys ++ (new ++ drop (length ys - k) (drop k ys)))) xs))) (sym is)
+    (subst (IsPermutation xs) (sym whole) order)
+
+module _ (d new : Draft) (w : Waiting) (i : ℕ) (f : IsFilled d) (p : IsNextIndex d w i) (turned : IsPermutation d.waiting.items new.waiting.items) (entries : new.entries.items ≡ d.entries.items) (nodes : new.nodes.items ≡ d.nodes.items) where
+  some_placed : 0 < length d.nodes.items
+  some_placed = omega (arith, slice_get_within d.nodes.items p.place p.inner p.node)
+
+  pub turned_filled : IsFilled new
+  turned_filled =
+      filled_as new d.entries.items d.nodes.items new.waiting.items entries nodes refl
+      (filled-turned d.entries.items d.nodes.items d.waiting.items new.waiting.items some_placed turned f)
+
+  pub turned_root : draft_root new ≡ draft_root d
+  turned_root =
+      ap (λ ns. first_node ns new.waiting.items) nodes ∙ first_node-kept d.nodes.items new.waiting.items d.waiting.items some_placed
 
 -- ---- a table in the end
 

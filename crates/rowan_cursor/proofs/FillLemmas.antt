@@ -1,10 +1,16 @@
 -- Laws of filling a table: what one entry more, and one place more, leave true, and that a table is there in the end.
 use Rattle.std.proofs.Common.{◌≡◌, ℕ, zero, suc, ◌+◌, ◌-◌, ◌<◌, ◌≤◌, ◌⊎◌, inl, inr, List, [], ◌∷◌, ◌++◌, length, take, Option, Some, None, refl, sym, ◌∙◌, ap, subst, arith, length-append}
-use Rattle.std.specs.Prelude.{slice_get}
+use Rattle.std.specs.Prelude.{true, false, nat_eq, map, slice_get, Contains}
+use Rattle.std.specs.List.{AllByRecursion, IsDistinct}
+use Rattle.std.specs.List.Sorted.{IsPermutation}
 use Rattle.std.specs.Option.{option_map}
 use Rattle.std.proofs.Math.ListN.{set, length-set}
 use Rattle.std.proofs.lemmas.List.{length-map, take_all, take-append-le}
-use Rattle.std.proofs.lemmas.Option.{slice_get_within, none-some, same_Some}
+use Rattle.std.proofs.lemmas.Bool.{eq-eqb, ne_eqb, true≢false}
+use Rattle.std.proofs.lemmas.Bool.Decides.{eqb_tells}
+use Rattle.std.proofs.lemmas.List.Sorted.{Contains-permutation, IsPermutation-map, IsPermutation-sym, length_permutation}
+use Rattle.std.proofs.lemmas.Map.Keys.{IsDistinct-IsPermutation}
+use Rattle.std.proofs.lemmas.Option.{slice_get_within, slice_get_read, get_or_from_slice_get, none-some, same_Some}
 use Rattle.rowan_green.specs.declared.utility_types.NodeOrToken.TheVariants.{Node, Token}
 use Rattle.rowan_green.specs.Fits.{byte_limit}
 use Rattle.rowan_green.specs.Lent.{into_node}
@@ -15,7 +21,7 @@ use Rattle.rowan_green.proofs.SearchLemmas.{child_start-le_all}
 use Rattle.rowan_cursor.specs.declared.table.entry.Entry.{Entry}
 use Rattle.rowan_cursor.specs.declared.table.entry.Inner.{Inner}
 use Rattle.rowan_cursor.specs.declared.table.draft.Waiting.{Waiting}
-use Rattle.rowan_cursor.specs.DraftView.{first_node, HasPlace, IsAwaited, HasEntry, IsChildEntry, AreFilled}
+use Rattle.rowan_cursor.specs.DraftView.{first_node, HasPlace, IsAwaited, entry_number, HasEntry, IsChildEntry, IsRootEntry, AreFilled}
 use Rattle.rowan_cursor.specs.Table.{Facts, AreNodes, IsTable, IsTop, IsChildOf, IsAmong, inner_at, told, facts_of, all_facts, child_counts, node_in, root_node, green_of, children_in, len_in}
 use Rattle.rowan_cursor.proofs.NodeLemmas.{facts_at, row_end-before, row_end-within}
 use Rattle.rowan_cursor.proofs.TableLemmas.{slice_get-some, child_end, sum_of_lens-children, kept_within}
@@ -74,10 +80,45 @@ len_of-content : (t : Term) → len_in (into_node t) ≤ term_len t
 len_of-content (Node n) = omega arith
 len_of-content (Token t) = omega arith
 
--- a node that waits comes after those before it
-waits_later : (es : List Entry) (ns : List Inner) (ws : List Waiting) (w : Waiting) → AreFilled es ns (ws ++ w ∷ []) → (i : ℕ) (v : Waiting) → slice_get ws i ≡ Some v → v.number < w.number
-waits_later es ns ws w f i v at =
-    f.order i (length ws) v w (slice_get-grown ws (w ∷ []) i v at) (slice_get-last ws w) (slice_get_within ws i v at)
+-- the numbers of those that wait differ
+number_last : (P : ℕ → Type 0) (ws : List Waiting) (w : Waiting) → AllByRecursion P (map entry_number (ws ++ w ∷ [])) → P w.number
+number_last P [] w all = all.0
+number_last P (v ∷ ws) w all = number_last P ws w all.1
+
+numbers_before : (P : ℕ → Type 0) (ws : List Waiting) (w : Waiting) → AllByRecursion P (map entry_number (ws ++ w ∷ [])) → AllByRecursion P (map entry_number ws)
+numbers_before P [] w all = tt
+numbers_before P (v ∷ ws) w all = (all.0, numbers_before P ws w all.1)
+
+numbers_with : (P : ℕ → Type 0) (ws : List Waiting) (w : Waiting) → AllByRecursion P (map entry_number ws) → P w.number → AllByRecursion P (map entry_number (ws ++ w ∷ []))
+numbers_with P [] w all last = (last, tt)
+numbers_with P (v ∷ ws) w all last = (all.0, numbers_with P ws w all.1 last)
+
+apart_before : (ws : List Waiting) (w : Waiting) → IsDistinct nat_eq (map entry_number (ws ++ w ∷ [])) → IsDistinct nat_eq (map entry_number ws)
+unfolding IsDistinct
+apart_before [] w apart = tt
+apart_before (v ∷ ws) w apart =
+    (numbers_before (λ n. nat_eq v.number n ≡ false) ws w apart.0, apart_before ws w apart.1)
+
+apart_last : (ws : List Waiting) (w : Waiting) → IsDistinct nat_eq (map entry_number (ws ++ w ∷ [])) → (i : ℕ) (v : Waiting) → slice_get ws i ≡ Some v → v.number ≡ w.number → ⊥
+unfolding IsDistinct
+apart_last [] w apart i v at same = absurd (none-some v at)
+apart_last (u ∷ ws) w apart zero v at same =
+    true≢false (sym (eq-eqb u.number w.number (ap entry_number (same_Some u v at) ∙ same)) ∙ number_last (λ n. nat_eq u.number n ≡ false) ws w apart.0)
+apart_last (u ∷ ws) w apart (suc i) v at same = apart_last ws w apart.1 i v at same
+
+apart_with : (ws : List Waiting) (w : Waiting) → IsDistinct nat_eq (map entry_number ws) → ((i : ℕ) (v : Waiting) → slice_get ws i ≡ Some v → v.number ≡ w.number → ⊥) → IsDistinct nat_eq (map entry_number (ws ++ w ∷ []))
+unfolding IsDistinct
+apart_with [] w apart new = (tt, tt)
+apart_with (v ∷ ws) w apart new =
+    (numbers_with (λ n. nat_eq v.number n ≡ false) ws w apart.0 (ne_eqb v.number w.number (new 0 v refl)), apart_with ws w apart.1 (λ i u at. new (suc i) u at))
+
+apart_one : (w : Waiting) → IsDistinct nat_eq (map entry_number (w ∷ []))
+unfolding IsDistinct
+apart_one w = (tt, tt)
+
+-- a node that waits is another one than those before it
+waits_apart : (es : List Entry) (ns : List Inner) (ws : List Waiting) (w : Waiting) → AreFilled es ns (ws ++ w ∷ []) → (i : ℕ) (v : Waiting) → slice_get ws i ≡ Some v → v.number ≡ w.number → ⊥
+waits_apart es ns ws w f = apart_last ws w f.apart
 
 -- the root stays, where a node has its place
 pub first_node-kept : (ns : List Inner) (vs ws : List Waiting) → 0 < length ns → first_node ns vs ≡ first_node ns ws
@@ -166,7 +207,7 @@ module _ (es : List Entry) (ns : List Inner) (ws : List Waiting) (f : AreFilled 
 
   -- with those that wait then
   module _ (vs : List Waiting) (fewer : length ns + length vs ≤ length es + 1) (kept : (n : ℕ) → IsAwaited ws n → IsAwaited vs n) (new : (g : NodeTerm) → into_node u ≡ Some g → IsAwaited vs (length es))
-      (entries : (j : ℕ) (w : Waiting) → slice_get vs j ≡ Some w → HasEntry (f.greens ++ into_node u ∷ []) (es ++ e ∷ []) w) (order : (j l : ℕ) (v w : Waiting) → slice_get vs j ≡ Some v → slice_get vs l ≡ Some w → j < l → v.number < w.number) where
+      (entries : (j : ℕ) (w : Waiting) → slice_get vs j ≡ Some w → HasEntry (f.greens ++ into_node u ∷ []) (es ++ e ∷ []) w) (apart : IsDistinct nat_eq (map entry_number vs)) where
     filled_more : AreFilled (es ++ e ∷ []) ns vs
     filled_more = record {
       greens = f.greens ++ into_node u ∷ [];
@@ -202,7 +243,7 @@ module _ (es : List Entry) (ns : List Inner) (ws : List Waiting) (f : AreFilled 
         | inr h ↦ subst (IsAwaited vs) (sym h.0) (new g (last_green n (Some g) h.0 at_g))
       ];
       waits = entries;
-      order = order;
+      apart = apart;
       firsts = f.firsts;
       children = λ n c at_c behind. elim (slice_get-cases es e n c at_c) [
         | inl h ↦ child_entry-grown f.greens es ns (into_node u) e n c f.count (slice_get_within es n c h) (f.children n c h behind)
@@ -212,7 +253,7 @@ module _ (es : List Entry) (ns : List Inner) (ws : List Waiting) (f : AreFilled 
 
   pub filled-token : into_node u ≡ None → AreFilled (es ++ e ∷ []) ns ws
   filled-token token =
-      filled_more ws (omega (arith, f.fewer)) (λ n h. h) (λ g is. absurd (none-some g (sym token ∙ is))) (λ j w at_w. entry-grown f.greens es (into_node u) e w (f.waits j w at_w)) f.order
+      filled_more ws (omega (arith, f.fewer)) (λ n h. h) (λ g is. absurd (none-some g (sym token ∙ is))) (λ j w at_w. entry-grown f.greens es (into_node u) e w (f.waits j w at_w)) f.apart
 
   pub filled-node : (v : Waiting) → into_node u ≡ Some v.node.now → v.start ≡ e.start → v.number ≡ length es → AreFilled (es ++ e ∷ []) ns (ws ++ v ∷ [])
   filled-node v is starts number =
@@ -235,18 +276,9 @@ module _ (es : List Entry) (ns : List Inner) (ws : List Waiting) (f : AreFilled 
           bare = bare;
           green = ap (slice_get (f.greens ++ into_node u ∷ [])) (number ∙ sym f.count) ∙ slice_get-last f.greens (into_node u) ∙ ap (λ (o : Option NodeTerm). Some o) is;
         }
-      ]) (λ j l w y at_w at_y less. elim (slice_get-cases ws v l y at_y) [
-        | inl h ↦ elim (slice_get-cases ws v j w at_w) [
-          | inl g ↦ f.order j l w y g h less
-          | inr g ↦ absurd (omega (arith, g.0, less, slice_get_within ws l y h))
-        ]
-        | inr h ↦ elim (slice_get-cases ws v j w at_w) [
-          | inl g ↦ (
-              let old = f.waits j w g in
-              omega (arith, slice_get_within es w.number old.entry old.at, number, ap (λ (z : Waiting). z.number) h.1))
-          | inr g ↦ absurd (omega (arith, g.0, h.0, less))
-        ]
-      ])
+      ]) (apart_with ws v f.apart (λ j w at_w same.
+      let old = f.waits j w at_w in
+      omega (arith, slice_get_within es w.number old.entry old.at, number, same)))
 
 -- ---- the place of the next node
 
@@ -303,14 +335,16 @@ module _ (es : List Entry) (ns : List Inner) (ws : List Waiting) (w : Waiting) (
 
   -- of those that wait, the first is the root, where no node has its place
   pub root_stays : first_node (ns ++ x ∷ []) ws ≡ first_node ns (ws ++ w ∷ [])
-  root_stays = first_stays ns ws w x green (λ none j v at_v. omega (arith, waits_later es ns ws w f j v at_v, within, theirs, ap child_counts none))
+  root_stays = first_stays ns ws w x green (λ none j v at_v.
+      let g = f.waits j v (slice_get-grown ws (w ∷ []) j v at_v) in
+      waits_apart es ns ws w f j v at_v (omega (arith, slice_get_within es v.number g.entry g.at, within, theirs, ap child_counts none)))
 
   kept_entry : (i : ℕ) (v : Waiting) → slice_get ws i ≡ Some v → HasEntry f.greens (set es w.number e) v
   kept_entry i v at_v =
       let g = f.waits i v (slice_get-grown ws (w ∷ []) i v at_v) in
       record {
         entry = g.entry;
-        at = set_there es w.number v.number e (λ here. omega (arith, here, waits_later es ns ws w f i v at_v)) ∙ g.at;
+        at = set_there es w.number v.number e (waits_apart es ns ws w f i v at_v) ∙ g.at;
         start = g.start;
         bare = g.bare;
         green = g.green;
@@ -386,7 +420,7 @@ module _ (es : List Entry) (ns : List Inner) (ws : List Waiting) (w : Waiting) (
       | inr l ↦ absurd (none-some (length ns) (sym is ∙ ap (λ (y : Entry). y.node) (sym l.1) ∙ named))
     ];
     waits = kept_entry;
-    order = λ i j u v at_u at_v less. f.order i j u v (slice_get-grown ws (w ∷ []) i u at_u) (slice_get-grown ws (w ∷ []) j v at_v) less;
+    apart = apart_before ws w f.apart;
     firsts = λ k y at_y. elim (slice_get-cases ns x k y at_y) [
       | inl g ↦ f.firsts k y g ∙ ap (λ ms. child_counts ms + 1) (sym (take-append-le k ns (x ∷ []) (omega (arith, slice_get_within ns k y g))))
       | inr g ↦ ap (λ (z : Inner). z.first_child) (sym g.1) ∙ first ∙ theirs ∙ ap (λ ms. child_counts ms + 1) (sym (take-append-le k ns (x ∷ []) (omega (arith, g.0)) ∙ take_all k ns (omega (arith, g.0))))
@@ -395,6 +429,46 @@ module _ (es : List Entry) (ns : List Inner) (ws : List Waiting) (w : Waiting) (
         let o = was n c at_c in
         child_entry-placed n o.old c o.start o.parent (f.children n o.old o.at behind);
   }
+
+-- ---- those that wait, in another order
+
+contains_at : {X : Type 0} (xs : List X) (i : ℕ) (x : X) → slice_get xs i ≡ Some x → Contains xs x
+contains_at xs i x at = (i, slice_get_within xs i x at, get_or_from_slice_get xs i x x at)
+
+contained_at : {X : Type 0} (xs : List X) (x : X) → Contains xs x → (i : ℕ) × (slice_get xs i ≡ Some x)
+contained_at xs x h = (h.0, slice_get_read xs (length xs) h.0 x refl h.1 (sym h.2))
+
+nat_eq-flips : (m n : ℕ) → nat_eq m n ≡ nat_eq n m
+nat_eq-flips m n = elim (eqb_tells m n) [ inl h ↦ h.0 ∙ sym (eq-eqb n m (sym h.1)) | inr h ↦ h.0 ∙ sym (ne_eqb n m (λ e. h.1 (sym e))) ]
+
+awaited-turned : (ws vs : List Waiting) (n : ℕ) → IsPermutation ws vs → IsAwaited ws n → IsAwaited vs n
+awaited-turned ws vs n turned a =
+    let there = contained_at vs a.waiting (Contains-permutation ws vs a.waiting turned (contains_at ws a.index a.waiting a.at)) in
+    record {
+      index = there.0;
+      waiting = a.waiting;
+      at = there.1;
+      number = a.number;
+    }
+
+pub filled-turned : (es : List Entry) (ns : List Inner) (ws vs : List Waiting) → 0 < length ns → IsPermutation ws vs → AreFilled es ns ws → AreFilled es ns vs
+filled-turned es ns ws vs placed turned f = record {
+  greens = f.greens;
+  count = f.count;
+  some = f.some;
+  fewer = omega (arith, f.fewer, length_permutation ws vs turned);
+  root = λ e at. subst (λ (r : NodeTerm). IsRootEntry r f.greens e) (first_node-kept ns ws vs placed) (f.root e at);
+  ends = f.ends;
+  named = f.named;
+  once = f.once;
+  bare = λ n e g at is at_g. awaited-turned ws vs n turned (f.bare n e g at is at_g);
+  waits = λ i v at.
+      let back = contained_at ws v (Contains-permutation vs ws v (IsPermutation-sym ws vs turned) (contains_at vs i v at)) in
+      f.waits back.0 v back.1;
+  apart = IsDistinct-IsPermutation nat_eq nat_eq-flips (map entry_number ws) (map entry_number vs) (IsPermutation-map entry_number ws vs turned) f.apart;
+  firsts = f.firsts;
+  children = f.children;
+}
 
 -- ---- a table in the end
 
@@ -589,7 +663,7 @@ filled-root e w start bare starts number fits = record {
     bare = bare;
     green = ap (slice_get (Some w.node.now ∷ [])) number;
   };
-  order = λ i j u v at_u at_v less. absurd (omega (arith, (one_case w v j at_v).0, less));
+  apart = apart_one w;
   firsts = λ k x at. absurd (none-some x at);
   children = λ n c at behind. absurd (omega (arith, (one_case e c n at).0, behind));
 }

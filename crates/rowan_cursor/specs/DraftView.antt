@@ -1,8 +1,8 @@
 -- A draft: a table that is still to be filled. A node that has an entry waits for its place among the nodes, and for the entries of
--- its children, which it gets together. Those that wait stand in a list, in the order of their entries, and the last is the next.
+-- its children, which it gets together. Those that wait stand in a list, and the last is the next.
 -- What is known of a draft stays true while it grows: entries are only added, and an entry that names a place names it for good.
-use Rattle.std.specs.Prelude.{◌≡◌, ℕ, ◌+◌, ◌-◌, ◌<◌, ◌≤◌, List, [], ◌∷◌, ◌++◌, length, take, Option, Some, None, slice_get}
-use Rattle.std.specs.List.{sum_by}
+use Rattle.std.specs.Prelude.{◌≡◌, ℕ, ◌+◌, ◌-◌, ◌<◌, ◌≤◌, nat_eq, List, [], ◌∷◌, ◌++◌, map, length, take, Option, Some, None, slice_get}
+use Rattle.std.specs.List.{sum_by, IsDistinct}
 use Rattle.std.specs.Option.{option_map}
 use Rattle.std.specs.Vec.{vec_len, vec_capacity}
 use Rattle.rowan_green.specs.Fits.{byte_limit}
@@ -34,6 +34,10 @@ pub record IsAwaited (ws : List Waiting) (n : ℕ) : Type 0 where
   pub waiting : Waiting
   pub at : slice_get ws index ≡ Some waiting
   pub number : waiting.number ≡ n
+
+-- the number of the entry of a node that waits
+abbrev pub entry_number : Waiting → ℕ
+entry_number w = w.number
 
 -- a node that waits has an entry, which names no place yet
 pub record HasEntry (greens : List (Option NodeTerm)) (es : List Entry) (w : Waiting) : Type 0 where
@@ -79,8 +83,7 @@ pub record AreFilled (es : List Entry) (ns : List Inner) (ws : List Waiting) : T
   pub bare : (n : ℕ) (e : Entry) (g : NodeTerm) → slice_get es n ≡ Some e → e.node ≡ None
       → slice_get greens n ≡ Some (Some g) → IsAwaited ws n
   pub waits : (i : ℕ) (w : Waiting) → slice_get ws i ≡ Some w → HasEntry greens es w
-  pub order : (i j : ℕ) (v w : Waiting) → slice_get ws i ≡ Some v → slice_get ws j ≡ Some w
-      → i < j → v.number < w.number
+  pub apart : IsDistinct nat_eq (map entry_number ws)
   pub firsts : (k : ℕ) (x : Inner) → slice_get ns k ≡ Some x
       → x.first_child ≡ child_counts (take k ns) + 1
   pub children : (n : ℕ) (c : Entry) → slice_get es n ≡ Some c → 0 < n → IsChildEntry greens es ns n c
@@ -142,6 +145,7 @@ pub record AddsChild (old new : Draft) (n : NodeTerm) (i : ℕ) : Type 0 where
   pub entry : Entry
   pub entries : new.entries.items ≡ old.entries.items ++ entry ∷ []
   pub nodes : new.nodes.items ≡ old.nodes.items
+  pub more : length old.waiting.items ≤ length new.waiting.items
   pub filled : IsFilled new
   pub root : draft_root new ≡ draft_root old
   pub size : size_left new ≤ size_left old + term_size child

@@ -161,8 +161,7 @@ impl Table {
             ≡ slice_text (slice_of self.now node range)) }
     {
         let mut walk = self.chunk_walk(node, range);
-        let mut text =
-            String::with_capacity(self.allocator(), u32::from(range.len()) as usize)?;
+        let mut text = String::with_capacity(self.allocator(), u32::from(range.len()) as usize)?;
         while let Some(chunk) = self.next_chunk(&mut walk) {
             text.push_str(chunk)?;
         }

@@ -33,8 +33,9 @@ const _: () = prove!(size_of::<Waiting<'_>>() == 16);
 
 /// A table that is still to be filled. The nodes that have entries and no places stand in a list and wait, and the last of them is
 /// the next. A node's block is read once, when its turn comes: then it gets its place in the table's list of nodes, which its entry
-/// is told, and its children get entries, behind all others. So each subtree is gone through as a whole, whose blocks mostly lie
-/// side by side in memory; and those that wait are siblings of the nodes on one path.
+/// is told, and its children get entries, behind all others. Those of them that are nodes wait with the first one last, so each subtree
+/// is gone through as a whole before what stands behind it: nodes get their places, and their children entries, in the order of the
+/// text, in which a walk reads them. Those that wait are siblings of the nodes on one path.
 #[derive(Drop)]
 pub(super) struct Draft<'a> {
     entries: Vec<Entry>,
@@ -44,6 +45,7 @@ pub(super) struct Draft<'a> {
 
 impl<'a> Draft<'a> {
     ghost use Rattle.std.specs.Prelude.{◌≡◌, ◌+◌, ◌<◌, IfOk, OnOk, IfSome, IsNone, length};
+    ghost use Rattle.std.specs.List.Sorted.{IsPermutation};
     ghost use Rattle.std.specs.Vec.{vec_len, vec_capacity};
     ghost use Rattle.rowan_green.specs.Term.{node_children};
     ghost use Rattle.rowan_cursor.specs.DraftView.{IsFilled, IsFilledWith, HasTheirs, IsTaken, IsDone, IsNextIndex, AddsChild, HasRoom, IsKept, TakesPlace, draft_root, draft_root_with, size_left, size_left_with};
@@ -128,10 +130,22 @@ impl<'a> Draft<'a> {
             text_len: parent.node.text_len(),
             first_child: first_child as u32,
         });
+        let waited = self.waiting.len();
         for index in 0..count {
             self.push_child(parent, index);
         }
+        self.turn_round(waited);
         Ok(())
+    }
+
+    // Turns those round that wait from a place in their list on, so that the first of them is the next.
+    fn turn_round(&mut self, place: usize)
+        requires { place ≤ length self.old.waiting.items }
+        ensures waiting { IsPermutation self.old.waiting.items self.new.waiting.items }
+        ensures entries { self.new.entries.items ≡ self.old.entries.items }
+        ensures nodes { self.new.nodes.items ≡ self.old.nodes.items }
+    {
+        self.waiting[place..].reverse();
     }
 
     // Adds the entry of the child at an index of a node, for which there is room. The child's number is the next.

@@ -10,7 +10,7 @@ use Rattle.rowan_cursor.specs.declared.table.entry.Entry.{Entry}
 use Rattle.rowan_cursor.specs.declared.table.draft.Draft.{Draft}
 use Rattle.rowan_cursor.specs.DraftView.{waiting_size}
 use Rattle.rowan_cursor.specs.Table.{child_counts}
-use Rattle.rowan_cursor.proofs.DraftLemmas.{next_within, placed_next, next_index, terms_size-more, waiting_size-more}
+use Rattle.rowan_cursor.proofs.DraftLemmas.{next_within, placed_next, next_index, terms_size-more, waiting_size-more, waiting_size-turned, turned_filled, turned_root}
 use Rattle.rowan_cursor.proofs.table.draft.Draft.push_children.Goals as goal
 
 pub index_mut-requires : goal.index_mut-requires
@@ -46,6 +46,7 @@ loop-index-init c =
       children = p.children;
       root = p.root;
       size = omega (arith, ap waiting_size kept.waiting);
+      more = omega (arith, c.len-waited.ensures);
       room = λ n h. record {
         entries = omega (arith, h, c.in_ok-reserve.ensures.room.entries);
         waiting = omega (arith, h, c.in_ok-reserve.ensures.room.waiting);
@@ -69,15 +70,47 @@ loop-index-preserved c =
       children = ap child_counts added.nodes ∙ was.children;
       root = added.root ∙ was.root;
       size = omega (arith, added.size, was.size, terms_size-more (node_children c.args.parent.now.node.now) i added.child added.at);
+      more = omega (arith, was.more, added.more);
       room = λ n h. c.push_child.ensures.room n (was.room (n + 1) (omega (arith, h)));
     }
 
+pub returns-clause-draft : goal.returns-clause-draft
+returns-clause-draft c =
+    let is = c.loop-index.invariant in
+    let turned = c.turn_round.ensures in
+    turned_filled c.loop-index.self c.turn_round.new.self c.args.parent.now c.loop-index.index is.filled is.place turned.waiting turned.entries turned.nodes
+
+pub returns-clause-root : goal.returns-clause-root
+returns-clause-root c =
+    let is = c.loop-index.invariant in
+    let turned = c.turn_round.ensures in
+    turned_root c.loop-index.self c.turn_round.new.self c.args.parent.now c.loop-index.index is.filled is.place turned.waiting turned.entries turned.nodes
+    ∙ is.root
+
 pub returns-clause-children : goal.returns-clause-children
 returns-clause-children c =
-    omega (arith, c.loop-index.invariant.entries, c.loop-index.invariant.children, c.requires.children, c.loop-index-test.false, c.loop-index.auto.index-end, c.len-first_child.ensures, c.len-count.ensures.value, ap length c.children.ensures.list)
+    omega (
+      arith,
+      ap length c.turn_round.ensures.entries,
+      ap child_counts c.turn_round.ensures.nodes,
+      c.loop-index.invariant.entries,
+      c.loop-index.invariant.children,
+      c.requires.children,
+      c.loop-index-test.false,
+      c.loop-index.auto.index-end,
+      c.len-first_child.ensures,
+      c.len-count.ensures.value,
+      ap length c.children.ensures.list,
+    )
 
 pub returns-clause-less : goal.returns-clause-less
 returns-clause-less c =
     let ts = node_children c.args.parent.now.node.now in
     let all : length ts ≤ c.loop-index.index = omega (arith, c.loop-index-test.false, c.len-count.ensures.value, ap length c.children.ensures.list) in
-    omega (arith, c.loop-index.invariant.size, ap terms_size (take_all c.loop-index.index ts all), waiting_size-more c.args.self.now.waiting.items c.args.parent.now)
+    omega (
+      arith,
+      waiting_size-turned c.loop-index.self.waiting.items c.turn_round.new.self.waiting.items c.turn_round.ensures.waiting,
+      c.loop-index.invariant.size,
+      ap terms_size (take_all c.loop-index.index ts all),
+      waiting_size-more c.args.self.now.waiting.items c.args.parent.now,
+    )

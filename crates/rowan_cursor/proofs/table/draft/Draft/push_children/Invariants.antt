@@ -14,5 +14,6 @@ invariant-loop-index l = record {
   children : child_counts l.self.nodes.items ≡ child_counts l.fn.self.nodes.items + length (node_children l.parent.node.now);
   root : draft_root l.self ≡ draft_root_with l.fn.self l.parent;
   size : size_left l.self ≤ size_left l.fn.self + terms_size (take l.index (node_children l.parent.node.now));
+  more : l.waited ≤ length l.self.waiting.items;
   room : (n : ℕ) → l.index + n ≤ l.count → HasRoom l.self n;
 }
