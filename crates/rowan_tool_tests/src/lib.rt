@@ -10,6 +10,8 @@ mod language;
 #[cfg(test)]
 mod lexer;
 #[cfg(test)]
+mod lines;
+#[cfg(test)]
 mod parser;
 #[cfg(test)]
 mod parts;
