@@ -212,7 +212,7 @@ module _ (d new : Draft) (w : Waiting) (i : ℕ) (f : IsFilled d) (p : IsNextInd
 
 -- ---- a table in the end
 
-no_items : {X : Type 0} (xs : List X) → length xs ≡ 0 → xs ≡ []
+pub no_items : {X : Type 0} (xs : List X) → length xs ≡ 0 → xs ≡ []
 no_items [] none = refl
 no_items (x ∷ xs) none = absurd (omega (arith, none))
 

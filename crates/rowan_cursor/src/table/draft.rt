@@ -1,13 +1,14 @@
 //! Filling a table: node by node, from the root on, in one pass.
-ghost use Rattle.std.specs.Prelude.{◌≡◌, ◌≤◌};
+ghost use Rattle.std.specs.Prelude.{◌≡◌, ◌≤◌, IfOk};
 
 use super::Table;
 use super::entry::{Entry, Inner};
-use rowan_green::green::GreenNode;
+use rowan_green::green::{GreenElement, GreenNode};
 use rowan_green::link::Link;
 use rowan_green::text::TextSize;
 use rowan_green::utility_types::NodeOrToken;
 use std::alloc::{AllocError, Global};
+use std::iter;
 use std::mem::size_of;
 
 // For how many bytes of text a table asks for room at first, at least.
@@ -123,7 +124,7 @@ impl<'a> Draft<'a> {
             return Err(AllocError);
         }
         self.reserve(count)?;
-        let green = parent.node.clone()?;
+        let green = owner_of(parent.node)?;
         self.entries[parent.number as usize].node = Link::to(self.nodes.len() as u32);
         self.nodes.push_reserved(Inner {
             green,
@@ -200,6 +201,27 @@ impl<'a> Draft<'a> {
         give_back(&mut entries);
         give_back(&mut nodes);
         Table { entries, nodes }
+    }
+}
+
+// One more owner of a node, or, where the count of its owners is full, one of a node with the same children, which has a count of its own.
+#[inline(always)]
+fn owner_of(node: &GreenNode) -> Result<GreenNode, AllocError>
+    ensures { IfOk result (λ owner. owner ≡ node.now) }
+{
+    match node.clone() {
+        Ok(owner) => Ok(owner),
+        Err(_) => twin_of(node),
+    }
+}
+
+#[inline(never)]
+fn twin_of(node: &GreenNode) -> Result<GreenNode, AllocError>
+    ensures { IfOk result (λ twin. twin ≡ node.now) }
+{
+    match node.splice_children(0..0, iter::empty::<GreenElement>()) {
+        Ok(twin) => Ok(twin),
+        Err(_) => Err(AllocError),
     }
 }
 

@@ -38,7 +38,7 @@ loop-index-init c =
     let found : slice_get r.entries.items w.number ≡ Some old = slice_get_read r.entries.items (length r.entries.items) w.number old refl within c.index_mut.ensures.value in
     let first : c.len-first_child.result ≡ length d.entries.items = omega (arith, c.len-first_child.ensures) in
     let named : c.to.result ≡ Some (length r.nodes.items) = c.to.ensures ∙ ap (λ k. Some k) (omega (arith, c.len.ensures)) in
-    let p = placed_next d r a w _ old e c.requires.draft c.requires.children kept c.in_ok-green.ensures.cases first found refl refl named refl c.push_reserved.ensures.items refl in
+    let p = placed_next d r a w _ old e c.requires.draft c.requires.children kept c.in_ok-green.ensures first found refl refl named refl c.push_reserved.ensures.items refl in
     record {
       filled = p.filled;
       place = p.next;
