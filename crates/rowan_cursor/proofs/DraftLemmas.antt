@@ -16,7 +16,7 @@ use Rattle.rowan_green.specs.Term.{NodeTerm, Term, node_children, sum_of_lens}
 use Rattle.rowan_green.proofs.Drops.{terms_size-node_children}
 use Rattle.rowan_green.proofs.CacheLemmas.{slice_get-grown, slice_get-last}
 use Rattle.rowan_cursor.specs.declared.table.entry.Entry.{Entry}
-use Rattle.rowan_cursor.specs.declared.table.entry.Inner.{Inner}
+use Rattle.rowan_cursor.specs.Nodes.{Inner}
 use Rattle.rowan_cursor.specs.declared.table.draft.Draft.{Draft}
 use Rattle.rowan_cursor.specs.declared.table.draft.Waiting.{Waiting}
 use Rattle.rowan_cursor.specs.DraftView.{AreFilled, first_node, IsFilled, IsFilledWith, HasTheirs, draft_root, draft_root_with, IsNextIndex, waiting_size, AddsChild, IsKept}
@@ -49,9 +49,9 @@ waiting_size-turned ws vs turned =
 
 -- ---- lists that are those of a draft
 
-pub filled_as : (d : Draft) (es : List Entry) (ns : List Inner) (ws : List Waiting) → d.entries.items ≡ es → d.nodes.items ≡ ns → d.waiting.items ≡ ws → AreFilled es ns ws → IsFilled d
+pub filled_as : (d : Draft) (es : List Entry) (ns : List Inner) (ws : List Waiting) → d.entries.items ≡ es → d.nodes ≡ ns → d.waiting.items ≡ ws → AreFilled es ns ws → IsFilled d
 filled_as d es ns ws entries nodes waiting f =
-    subst (λ xs. AreFilled xs d.nodes.items d.waiting.items) (sym entries) (subst (λ xs. AreFilled es xs d.waiting.items) (sym nodes) (subst (AreFilled es ns) (sym waiting) f))
+    subst (λ xs. AreFilled xs d.nodes d.waiting.items) (sym entries) (subst (λ xs. AreFilled es xs d.waiting.items) (sym nodes) (subst (AreFilled es ns) (sym waiting) f))
 
 -- ---- one more child
 
@@ -61,11 +61,11 @@ start_fits d w i f p =
       arith,
       p.start,
       ap (λ (n : NodeTerm). sum_of_lens (take i (node_children n))) p.green,
-      child_starts d.entries.items d.nodes.items d.waiting.items f w.number p.place p.entry p.inner p.at p.named p.node i,
+      child_starts d.entries.items d.nodes d.waiting.items f w.number p.place p.entry p.inner p.at p.named p.node i,
     )
 
 module _ (d new : Draft) (w : Waiting) (i : ℕ) (f : IsFilled d) (p : IsNextIndex d w i) (u : Term) (child : slice_get (node_children w.node.now) i ≡ Some u) (e : Entry) (begins : e.start ≡ w.start + child_start (node_children w.node.now) i) (above : e.parent ≡ w.number) (bare : e.node ≡ None)
-    (grown : new.entries.items ≡ d.entries.items ++ e ∷ []) (nodes : new.nodes.items ≡ d.nodes.items) where
+    (grown : new.entries.items ≡ d.entries.items ++ e ∷ []) (nodes : new.nodes ≡ d.nodes) where
   at : slice_get d.entries.items e.parent ≡ Some p.entry
   at = ap (slice_get d.entries.items) above ∙ p.at
 
@@ -75,8 +75,8 @@ module _ (d new : Draft) (w : Waiting) (i : ℕ) (f : IsFilled d) (p : IsNextInd
   from : e.start ≡ p.entry.start + child_start (node_children p.inner.green) i
   from = omega (arith, begins, p.start, ap (λ (n : NodeTerm). child_start (node_children n) i) p.green)
 
-  placed : 0 < length d.nodes.items
-  placed = omega (arith, slice_get_within d.nodes.items p.place p.inner p.node)
+  placed : 0 < length d.nodes
+  placed = omega (arith, slice_get_within d.nodes p.place p.inner p.node)
 
   pub adds_token_child : new.waiting.items ≡ d.waiting.items → into_node u ≡ None → AddsChild d new w.node.now i
   adds_token_child waiting token = record {
@@ -86,9 +86,9 @@ module _ (d new : Draft) (w : Waiting) (i : ℕ) (f : IsFilled d) (p : IsNextInd
     entries = grown;
     nodes = nodes;
     more = omega (arith, ap length waiting);
-    filled = filled_as new (d.entries.items ++ e ∷ []) d.nodes.items d.waiting.items grown nodes waiting
-        (filled-token d.entries.items d.nodes.items d.waiting.items f e p.entry at p.place p.named p.inner p.node i p.next u here from bare token);
-    root = ap (λ ns. first_node ns new.waiting.items) nodes ∙ ap (first_node d.nodes.items) waiting;
+    filled = filled_as new (d.entries.items ++ e ∷ []) d.nodes d.waiting.items grown nodes waiting
+        (filled-token d.entries.items d.nodes d.waiting.items f e p.entry at p.place p.named p.inner p.node i p.next u here from bare token);
+    root = ap (λ ns. first_node ns new.waiting.items) nodes ∙ ap (first_node d.nodes) waiting;
     size = omega (arith, ap waiting_size waiting);
   }
 
@@ -100,9 +100,9 @@ module _ (d new : Draft) (w : Waiting) (i : ℕ) (f : IsFilled d) (p : IsNextInd
     entries = grown;
     nodes = nodes;
     more = omega (arith, ap length waiting, length-append d.waiting.items (v ∷ []));
-    filled = filled_as new (d.entries.items ++ e ∷ []) d.nodes.items (d.waiting.items ++ v ∷ []) grown nodes waiting
-        (filled-node d.entries.items d.nodes.items d.waiting.items f e p.entry at p.place p.named p.inner p.node i p.next u here from bare v is starts number);
-    root = ap (λ ns. first_node ns new.waiting.items) nodes ∙ first_node-kept d.nodes.items new.waiting.items d.waiting.items placed;
+    filled = filled_as new (d.entries.items ++ e ∷ []) d.nodes (d.waiting.items ++ v ∷ []) grown nodes waiting
+        (filled-node d.entries.items d.nodes d.waiting.items f e p.entry at p.place p.named p.inner p.node i p.next u here from bare v is starts number);
+    root = ap (λ ns. first_node ns new.waiting.items) nodes ∙ first_node-kept d.nodes new.waiting.items d.waiting.items placed;
     size = omega (arith, ap waiting_size waiting, waiting_size-more d.waiting.items v, node-size u v.node.now is);
   }
 
@@ -122,14 +122,14 @@ pub record IsPlaced (d a : Draft) (w : Waiting) : Type 0 where
   pub filled : IsFilled a
   pub next : IsNextIndex a w 0
   pub root : draft_root a ≡ draft_root_with d w
-  pub children : child_counts a.nodes.items ≡ child_counts d.nodes.items + length (node_children w.node.now)
+  pub children : child_counts a.nodes ≡ child_counts d.nodes + length (node_children w.node.now)
 
-module _ (d r a : Draft) (w : Waiting) (x : Inner) (old e : Entry) (f : IsFilledWith d w) (theirs : HasTheirs d) (kept : IsKept d r) (green : x.green ≡ w.node.now) (first : x.first_child ≡ length d.entries.items) (found : slice_get r.entries.items w.number ≡ Some old) (start : e.start ≡ old.start) (parent : e.parent ≡ old.parent) (named : e.node ≡ Some (length r.nodes.items))
-    (entries : a.entries.items ≡ set r.entries.items w.number e) (nodes : a.nodes.items ≡ r.nodes.items ++ x ∷ []) (waiting : a.waiting.items ≡ r.waiting.items) where
+module _ (d r a : Draft) (w : Waiting) (x : Inner) (old e : Entry) (f : IsFilledWith d w) (theirs : HasTheirs d) (kept : IsKept d r) (green : x.green ≡ w.node.now) (first : x.first_child ≡ length d.entries.items) (found : slice_get r.entries.items w.number ≡ Some old) (start : e.start ≡ old.start) (parent : e.parent ≡ old.parent) (named : e.node ≡ Some (length r.nodes))
+    (entries : a.entries.items ≡ set r.entries.items w.number e) (nodes : a.nodes ≡ r.nodes ++ x ∷ []) (waiting : a.waiting.items ≡ r.waiting.items) where
   set_so : a.entries.items ≡ set d.entries.items w.number e
   set_so = entries ∙ ap (λ xs. set xs w.number e) kept.entries
 
-  pushed_so : a.nodes.items ≡ d.nodes.items ++ x ∷ []
+  pushed_so : a.nodes ≡ d.nodes ++ x ∷ []
   pushed_so = nodes ∙ ap (λ xs. xs ++ x ∷ []) kept.nodes
 
   waiting_so : a.waiting.items ≡ d.waiting.items
@@ -138,13 +138,13 @@ module _ (d r a : Draft) (w : Waiting) (x : Inner) (old e : Entry) (f : IsFilled
   found_so : slice_get d.entries.items w.number ≡ Some old
   found_so = ap (λ xs. slice_get xs w.number) (sym kept.entries) ∙ found
 
-  named_so : e.node ≡ Some (length d.nodes.items)
+  named_so : e.node ≡ Some (length d.nodes)
   named_so = named ∙ ap (λ xs. Some (length xs)) kept.nodes
 
   pub placed_next : IsPlaced d a w
   placed_next =
       let es = d.entries.items in
-      let ns = d.nodes.items in
+      let ns = d.nodes in
       let ws = d.waiting.items in
       let h = f.waits (length ws) w (slice_get-last ws w) in
       record {
@@ -164,7 +164,7 @@ module _ (d r a : Draft) (w : Waiting) (x : Inner) (old e : Entry) (f : IsFilled
         children = ap child_counts pushed_so ∙ child_counts-append ns x ∙ ap (λ (n : NodeTerm). child_counts ns + length (node_children n)) green;
       }
 
-pub next_index : (d new : Draft) (w : Waiting) (i : ℕ) (e : Entry) → IsNextIndex d w i → new.entries.items ≡ d.entries.items ++ e ∷ [] → new.nodes.items ≡ d.nodes.items → IsNextIndex new w (i + 1)
+pub next_index : (d new : Draft) (w : Waiting) (i : ℕ) (e : Entry) → IsNextIndex d w i → new.entries.items ≡ d.entries.items ++ e ∷ [] → new.nodes ≡ d.nodes → IsNextIndex new w (i + 1)
 next_index d new w i e p grown nodes = record {
   entry = p.entry;
   at = ap (λ xs. slice_get xs w.number) grown ∙ slice_get-grown d.entries.items (e ∷ []) w.number p.entry p.at;
@@ -197,18 +197,18 @@ part_turned xs lent new k l is len within turned =
     subst (λ ys. IsPermutation xs (take l (take k ys ++ (new ++ drop (length ys - k) (drop k ys)) ++ drop (length (take k ys ++ (new ++ drop (length ys - k) (drop k ys)))) xs))) (sym is)
     (subst (IsPermutation xs) (sym whole) order)
 
-module _ (d new : Draft) (w : Waiting) (i : ℕ) (f : IsFilled d) (p : IsNextIndex d w i) (turned : IsPermutation d.waiting.items new.waiting.items) (entries : new.entries.items ≡ d.entries.items) (nodes : new.nodes.items ≡ d.nodes.items) where
-  some_placed : 0 < length d.nodes.items
-  some_placed = omega (arith, slice_get_within d.nodes.items p.place p.inner p.node)
+module _ (d new : Draft) (w : Waiting) (i : ℕ) (f : IsFilled d) (p : IsNextIndex d w i) (turned : IsPermutation d.waiting.items new.waiting.items) (entries : new.entries.items ≡ d.entries.items) (nodes : new.nodes ≡ d.nodes) where
+  some_placed : 0 < length d.nodes
+  some_placed = omega (arith, slice_get_within d.nodes p.place p.inner p.node)
 
   pub turned_filled : IsFilled new
   turned_filled =
-      filled_as new d.entries.items d.nodes.items new.waiting.items entries nodes refl
-      (filled-turned d.entries.items d.nodes.items d.waiting.items new.waiting.items some_placed turned f)
+      filled_as new d.entries.items d.nodes new.waiting.items entries nodes refl
+      (filled-turned d.entries.items d.nodes d.waiting.items new.waiting.items some_placed turned f)
 
   pub turned_root : draft_root new ≡ draft_root d
   turned_root =
-      ap (λ ns. first_node ns new.waiting.items) nodes ∙ first_node-kept d.nodes.items new.waiting.items d.waiting.items some_placed
+      ap (λ ns. first_node ns new.waiting.items) nodes ∙ first_node-kept d.nodes new.waiting.items d.waiting.items some_placed
 
 -- ---- a table in the end
 
@@ -216,15 +216,15 @@ pub no_items : {X : Type 0} (xs : List X) → length xs ≡ 0 → xs ≡ []
 no_items [] none = refl
 no_items (x ∷ xs) none = absurd (omega (arith, none))
 
-module _ (d : Draft) (ns : List Inner) (es : List Entry) (f : IsFilled d) (theirs : HasTheirs d) (done : length d.waiting.items ≡ 0) (nodes : ns ≡ d.nodes.items) (entries : es ≡ d.entries.items) where
+module _ (d : Draft) (ns : List Inner) (es : List Entry) (f : IsFilled d) (theirs : HasTheirs d) (done : length d.waiting.items ≡ 0) (nodes : ns ≡ d.nodes) (entries : es ≡ d.entries.items) where
   none : d.waiting.items ≡ []
   none = no_items d.waiting.items done
 
   pub finished : AreWhole es ns
   finished =
-      whole es ns (subst (λ xs. AreFilled xs ns []) (sym entries) (subst (λ xs. AreFilled d.entries.items xs []) (sym nodes) (subst (AreFilled d.entries.items d.nodes.items) none f)))
+      whole es ns (subst (λ xs. AreFilled xs ns []) (sym entries) (subst (λ xs. AreFilled d.entries.items xs []) (sym nodes) (subst (AreFilled d.entries.items d.nodes) none f)))
       (ap length entries ∙ theirs ∙ ap (λ xs. child_counts xs + 1) (sym nodes))
 
   pub finished_root : root_node (all_facts ns es) ≡ draft_root d
   finished_root =
-      finished.root ∙ ap (λ xs. first_node xs []) nodes ∙ ap (first_node d.nodes.items) (sym none)
+      finished.root ∙ ap (λ xs. first_node xs []) nodes ∙ ap (first_node d.nodes) (sym none)

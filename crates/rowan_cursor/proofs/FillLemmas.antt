@@ -1,6 +1,6 @@
 -- Laws of filling a table: what one entry more, and one place more, leave true, and that a table is there in the end.
 use Rattle.std.proofs.Common.{◌≡◌, ℕ, zero, suc, ◌+◌, ◌-◌, ◌<◌, ◌≤◌, ◌⊎◌, inl, inr, List, [], ◌∷◌, ◌++◌, length, take, Option, Some, None, refl, sym, ◌∙◌, ap, subst, arith, length-append}
-use Rattle.std.specs.Prelude.{true, false, nat_eq, map, slice_get, Contains}
+use Rattle.std.specs.Prelude.{false, nat_eq, map, slice_get, Contains}
 use Rattle.std.specs.List.{AllByRecursion, IsDistinct}
 use Rattle.std.specs.List.Sorted.{IsPermutation}
 use Rattle.std.specs.Option.{option_map}
@@ -19,7 +19,7 @@ use Rattle.rowan_green.specs.Term.{NodeTerm, Term, node_children, node_len, term
 use Rattle.rowan_green.proofs.CacheLemmas.{slice_get-cases, slice_get-grown, slice_get-last}
 use Rattle.rowan_green.proofs.SearchLemmas.{child_start-le_all}
 use Rattle.rowan_cursor.specs.declared.table.entry.Entry.{Entry}
-use Rattle.rowan_cursor.specs.declared.table.entry.Inner.{Inner}
+use Rattle.rowan_cursor.specs.Nodes.{Inner}
 use Rattle.rowan_cursor.specs.declared.table.draft.Waiting.{Waiting}
 use Rattle.rowan_cursor.specs.DraftView.{first_node, HasPlace, IsAwaited, entry_number, HasEntry, IsChildEntry, IsRootEntry, AreFilled}
 use Rattle.rowan_cursor.specs.Table.{Facts, AreNodes, IsTable, IsTop, IsChildOf, IsAmong, inner_at, told, facts_of, all_facts, child_counts, node_in, root_node, green_of, children_in, len_in}

@@ -1,5 +1,5 @@
 -- Laws of a table's entries and of the nodes that they name.
-use Rattle.std.proofs.Common.{◌≡◌, true, false, Bor, ℕ, ◌+◌, ◌<◌, length, Option, Some, None, refl, sym, ◌∙◌, ap, subst, arith}
+use Rattle.std.proofs.Common.{◌≡◌, true, false, ℕ, ◌+◌, ◌<◌, length, Option, Some, None, refl, sym, ◌∙◌, ap, subst, arith}
 use Rattle.std.specs.Prelude.{IfSome, IsNone, slice_get}
 use Rattle.std.specs.Option.{is_some, option_map}
 use Rattle.std.proofs.lemmas.List.{length-map}
@@ -8,38 +8,42 @@ use Rattle.rowan_green.specs.declared.utility_types.NodeOrToken.TheVariants.{Nod
 use Rattle.rowan_green.specs.Lent.{into_node}
 use Rattle.rowan_green.specs.Term.{NodeTerm, Term}
 use Rattle.rowan_cursor.specs.declared.table.entry.Entry.{Entry}
-use Rattle.rowan_cursor.specs.declared.table.entry.Inner.{Inner}
 use Rattle.rowan_cursor.specs.declared.table.Table.{Table}
 use Rattle.rowan_cursor.specs.Moves.{is_node, child_paths}
 use Rattle.rowan_cursor.specs.Table.{Facts, Describes, IsRow, inner_at, told, facts_of, children_in, green_of, entry_path, root_node}
-use Rattle.rowan_cursor.specs.TableView.{entries_of, stands_for_node, IsWithin, IsTokenIn, IsInnerAt, AreChildNumbers}
+use Rattle.rowan_cursor.specs.TableView.{entries_of, stands_for_node, IsWithin, IsTokenIn, IsNodeNumber, AreChildNumbers}
 use Rattle.rowan_cursor.proofs.NodeLemmas.{facts_at}
-use Rattle.rowan_cursor.proofs.TableLemmas.{is_entry, content-none}
+use Rattle.rowan_cursor.proofs.TableLemmas.{is_entry, content-none, slice_get-some}
 
 -- the table has an entry with a number where it has one in its list
 pub within_list : (t : Table) (n : ℕ) → IsWithin t n → n < length t.entries.items
-within_list t n h = omega (arith, h, length-map t.entries.items (facts_of t.nodes.items))
+within_list t n h = omega (arith, h, length-map t.entries.items (facts_of t.nodes))
 
-pub entry_there : (t : Table) (n : ℕ) (e : Entry) → slice_get t.entries.items n ≡ Some e → Describes (entries_of t) n (facts_of t.nodes.items e)
+pub entry_there : (t : Table) (n : ℕ) (e : Entry) → slice_get t.entries.items n ≡ Some e → Describes (entries_of t) n (facts_of t.nodes e)
 entry_there t n e at =
-    is_entry (entries_of t) t.complete n (facts_of t.nodes.items e) (facts_at t.nodes.items t.entries.items n e at)
+    is_entry (entries_of t) t.complete n (facts_of t.nodes e) (facts_at t.nodes t.entries.items n e at)
 
-pub inner_there : (t : Table) (n : ℕ) (e : Entry) (k : ℕ) (x : Inner) → slice_get t.entries.items n ≡ Some e → e.node ≡ Some k → slice_get t.nodes.items k ≡ Some x → IsInnerAt t n x
-inner_there t n e k x at node found = record {
-  entry = e;
-  is = subst (λ o. Describes (entries_of t) n (told e o)) (ap (inner_at t.nodes.items) node ∙ found) (entry_there t n e at);
-}
+-- the node with this number among the nodes, which an entry names
+pub inner_there : (t : Table) (n : ℕ) (e : Entry) (k : ℕ) → slice_get t.entries.items n ≡ Some e → e.node ≡ Some k → IsNodeNumber t n k
+inner_there t n e k at named =
+    let x = slice_get-some t.nodes k (t.numbered.there n e k at named) in
+    record {
+      inner = x.0;
+      node = x.1;
+      entry = e;
+      is = subst (λ o. Describes (entries_of t) n (told e o)) (ap (inner_at t.nodes) named ∙ x.1) (entry_there t n e at);
+    }
 
 pub bare_there : (t : Table) (n : ℕ) (e : Entry) → slice_get t.entries.items n ≡ Some e → e.node ≡ None → slice_get (entries_of t) n ≡ Some (told e None)
 bare_there t n e at bare =
-    facts_at t.nodes.items t.entries.items n e at ∙ ap (λ o. Some (told e (inner_at t.nodes.items o))) bare
+    facts_at t.nodes t.entries.items n e at ∙ ap (λ o. Some (told e (inner_at t.nodes o))) bare
 
 pub token_there : (t : Table) (n : ℕ) (e : Entry) → slice_get t.entries.items n ≡ Some e → e.node ≡ None → IsTokenIn t n
 token_there t n e at bare =
     let d = entry_there t n e at in
     record {
-      within = slice_get_within (entries_of t) n (facts_of t.nodes.items e) d.at;
-      is = content-none _ (d.green ∙ ap (λ o. Some (green_of (told e (inner_at t.nodes.items o)))) bare);
+      within = slice_get_within (entries_of t) n (facts_of t.nodes e) d.at;
+      is = content-none _ (d.green ∙ ap (λ o. Some (green_of (told e (inner_at t.nodes o)))) bare);
     }
 
 content-node : (o : Option Term) (n : NodeTerm) → option_map into_node o ≡ Some (Some n) → is_node o ≡ true
@@ -47,8 +51,8 @@ content-node None n e = absurd cc
 content-node (Some (Node m)) n e = refl
 content-node (Some (Token u)) n e = absurd cc
 
-pub inner_stands : (t : Table) (n : ℕ) (x : Inner) → IsInnerAt t n x → stands_for_node t n ≡ true
-inner_stands t n x i = content-node _ x.green i.is.green
+pub inner_stands : (t : Table) (n k : ℕ) → IsNodeNumber t n k → stands_for_node t n ≡ true
+inner_stands t n k i = content-node _ i.inner.green i.is.green
 
 content-bare : (o : Option Term) (g : Option NodeTerm) → option_map into_node o ≡ Some g → is_node o ≡ false → g ≡ None
 content-bare None g e f = absurd cc
@@ -58,9 +62,9 @@ content-bare (Some (Token u)) g e f = sym (same_Some None g e)
 pub token_bare : (t : Table) (n : ℕ) (e : Facts) → IsTokenIn t n → slice_get (entries_of t) n ≡ Some e → green_of e ≡ None
 token_bare t n e i at = content-bare _ (green_of e) (is_entry (entries_of t) t.complete n e at).green i.is
 
-pub is_some-stands : (t : Table) (n : ℕ) (o : Option (Bor Inner)) → IfSome o (λ x. IsInnerAt t n x.now) → (IsNone o → IsTokenIn t n) → is_some o ≡ stands_for_node t n
+pub is_some-stands : (t : Table) (n : ℕ) (o : Option ℕ) → IfSome o (IsNodeNumber t n) → (IsNone o → IsTokenIn t n) → is_some o ≡ stands_for_node t n
 is_some-stands t n None some none = sym (none refl).is
-is_some-stands t n (Some x) some none = sym (inner_stands t n x.now some)
+is_some-stands t n (Some k) some none = sym (inner_stands t n k some)
 
 -- ---- the numbers of children
 

@@ -10,6 +10,7 @@ pub mod FoldLemmas
 pub mod InnerLemmas
 pub mod LeafLemmas
 pub mod NodeLemmas
+pub mod NodeListLemmas
 pub mod OffsetLemmas
 pub mod PathLemmas
 pub mod PreorderLaws

@@ -7,7 +7,7 @@ use Rattle.std.proofs.lemmas.Option.{slice_get_within, get_or_from_slice_get}
 use Rattle.rowan_green.specs.Term.{node_children}
 use Rattle.rowan_green.proofs.TableLemmas.{at_map}
 use Rattle.rowan_cursor.specs.declared.table.entry.Entry.{Entry}
-use Rattle.rowan_cursor.specs.declared.table.entry.Inner.{Inner}
+use Rattle.rowan_cursor.specs.Nodes.{Inner}
 use Rattle.rowan_cursor.specs.Table.{AreNodes, facts_of, all_facts, child_counts}
 
 -- ---- what entries tell

@@ -47,7 +47,7 @@ unfit-above root p q i n u e h passes =
 -- a token is a child of its parent
 pub token-place : (s : Table) (n i : ℕ) (e : Entry) (above : NodeTerm) → IsTokenIn s n → IsEntryAt s n e → i ≡ index (cursor_of s n) → StandsAt (cursor_of s e.parent) above → IsChildPath (root_of s) (path_at s n) (path_at s e.parent) i above
 token-place s n i e above token entry at node = record {
-  parent = sym (ap parent_path (entry.below (token_behind s n token)).path ∙ parent_path-child (path_at s e.parent) (entry_index (entries_of s) n (facts_of s.nodes.items e)));
+  parent = sym (ap parent_path (entry.below (token_behind s n token)).path ∙ parent_path-child (path_at s e.parent) (entry_index (entries_of s) n (facts_of s.nodes e)));
   index = at;
   node = node;
 }

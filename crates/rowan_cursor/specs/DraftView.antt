@@ -11,7 +11,7 @@ use Rattle.rowan_green.specs.Search.{child_start}
 use Rattle.rowan_green.specs.Sizes.{term_size, terms_size}
 use Rattle.rowan_green.specs.Term.{Term, NodeTerm, node, empty, node_children}
 use Rattle.rowan_cursor.specs.declared.table.entry.Entry.{Entry}
-use Rattle.rowan_cursor.specs.declared.table.entry.Inner.{Inner}
+use Rattle.rowan_cursor.specs.Nodes.{Inner}
 use Rattle.rowan_cursor.specs.declared.table.draft.Draft.{Draft}
 use Rattle.rowan_cursor.specs.declared.table.draft.Waiting.{Waiting}
 use Rattle.rowan_cursor.specs.Table.{child_counts, len_in}
@@ -90,23 +90,23 @@ pub record AreFilled (es : List Entry) (ns : List Inner) (ws : List Waiting) : T
 
 -- so the lists of a draft are filled
 abbrev pub IsFilled : Draft → Type 0
-IsFilled d = AreFilled d.entries.items d.nodes.items d.waiting.items
+IsFilled d = AreFilled d.entries.items d.nodes d.waiting.items
 
 -- the same, where one node more waits: the next, which was taken out
 abbrev pub IsFilledWith : Draft → Waiting → Type 0
-IsFilledWith d w = AreFilled d.entries.items d.nodes.items (d.waiting.items ++ w ∷ [])
+IsFilledWith d w = AreFilled d.entries.items d.nodes (d.waiting.items ++ w ∷ [])
 
 -- the children of the nodes that have their places have entries, and besides them only the root
 abbrev pub HasTheirs : Draft → Type 0
-HasTheirs d = length d.entries.items ≡ child_counts d.nodes.items + 1
+HasTheirs d = length d.entries.items ≡ child_counts d.nodes + 1
 
 -- the root of a draft
 abbrev pub draft_root : Draft → NodeTerm
-draft_root d = first_node d.nodes.items d.waiting.items
+draft_root d = first_node d.nodes d.waiting.items
 
 -- the same, where one node more waits: the next
 abbrev pub draft_root_with : Draft → Waiting → NodeTerm
-draft_root_with d w = first_node d.nodes.items (d.waiting.items ++ w ∷ [])
+draft_root_with d w = first_node d.nodes (d.waiting.items ++ w ∷ [])
 
 -- a node that has its place, and whose child at index i is the next to get an entry
 pub record IsNextIndex (d : Draft) (w : Waiting) (i : ℕ) : Type 0 where
@@ -116,7 +116,7 @@ pub record IsNextIndex (d : Draft) (w : Waiting) (i : ℕ) : Type 0 where
   pub place : ℕ
   pub named : entry.node ≡ Some place
   pub inner : Inner
-  pub node : slice_get d.nodes.items place ≡ Some inner
+  pub node : slice_get d.nodes place ≡ Some inner
   pub green : inner.green ≡ w.node.now
   pub next : length d.entries.items ≡ inner.first_child + i
 
@@ -136,7 +136,7 @@ size_left_with d w = waiting_size (d.waiting.items ++ w ∷ [])
 pub record IsTaken (old new : Draft) (w : Waiting) : Type 0 where
   pub waiting : old.waiting.items ≡ new.waiting.items ++ w ∷ []
   pub entries : new.entries.items ≡ old.entries.items
-  pub nodes : new.nodes.items ≡ old.nodes.items
+  pub nodes : new.nodes ≡ old.nodes
 
 -- the child at index i of a node has got its entry
 pub record AddsChild (old new : Draft) (n : NodeTerm) (i : ℕ) : Type 0 where
@@ -144,7 +144,7 @@ pub record AddsChild (old new : Draft) (n : NodeTerm) (i : ℕ) : Type 0 where
   pub at : slice_get (node_children n) i ≡ Some child
   pub entry : Entry
   pub entries : new.entries.items ≡ old.entries.items ++ entry ∷ []
-  pub nodes : new.nodes.items ≡ old.nodes.items
+  pub nodes : new.nodes ≡ old.nodes
   pub more : length old.waiting.items ≤ length new.waiting.items
   pub filled : IsFilled new
   pub root : draft_root new ≡ draft_root old
@@ -162,7 +162,7 @@ TakesPlace old new = (count : ℕ) → HasRoom old (count + 1) → HasRoom new c
 -- nothing has changed but the room
 pub record IsKept (old new : Draft) : Type 0 where
   pub entries : new.entries.items ≡ old.entries.items
-  pub nodes : new.nodes.items ≡ old.nodes.items
+  pub nodes : new.nodes ≡ old.nodes
   pub waiting : new.waiting.items ≡ old.waiting.items
 
 -- nothing has changed but the room, and no node waits

@@ -7,6 +7,7 @@ pub mod EventCode
 pub mod Events
 pub mod Folds
 pub mod Moves
+pub mod Nodes
 pub mod Pass
 pub mod Preorder
 pub mod PreorderRuns

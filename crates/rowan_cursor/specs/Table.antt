@@ -18,7 +18,7 @@ use Rattle.rowan_green.specs.Path.{Path, subterm, offset, len_of}
 use Rattle.rowan_cursor.specs.Cursor.{last_index}
 use Rattle.rowan_cursor.specs.Moves.{child_paths, numbers}
 use Rattle.rowan_cursor.specs.declared.table.entry.Entry.{Entry}
-use Rattle.rowan_cursor.specs.declared.table.entry.Inner.{Inner}
+use Rattle.rowan_cursor.specs.Nodes.{Inner}
 
 -- what a table tells of a node or token: the node, or none of a token; where its text starts; and
 -- the numbers of its parent and of a node's first child

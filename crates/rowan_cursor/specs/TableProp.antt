@@ -4,7 +4,7 @@ use Rattle.std.specs.Coded.{coded_option}
 use Rattle.std.proofs.Props.{props}
 use Rattle.rowan_green.specs.Coding.{coded_node}
 use Rattle.rowan_cursor.specs.declared.table.entry.Entry.{Entry}
-use Rattle.rowan_cursor.specs.declared.table.entry.Inner.{Inner}
+use Rattle.rowan_cursor.specs.Nodes.{Inner}
 use Rattle.rowan_cursor.specs.Table.{IsTable, AreNodes, Facts}
 
 pub IsTable-prop : (es : List Facts) → IsProp (IsTable es)

@@ -4,7 +4,7 @@ use Rattle.std.specs.Option.{option_map}
 use Rattle.rowan_green.specs.Path.{Path}
 use Rattle.rowan_green.specs.Term.{NodeTerm, node_children}
 use Rattle.rowan_cursor.specs.declared.table.entry.Entry.{Entry}
-use Rattle.rowan_cursor.specs.declared.table.entry.Inner.{Inner}
+use Rattle.rowan_cursor.specs.Nodes.{Inner}
 use Rattle.rowan_cursor.specs.declared.table.Table.{Table}
 use Rattle.rowan_cursor.specs.declared.table.search.Place.{Place}
 use Rattle.rowan_cursor.specs.Cursor.{Cursor, text_range}
@@ -13,7 +13,7 @@ use Rattle.rowan_cursor.specs.Table.{root_node, entry_path, entry_children, Desc
 
 -- what the entries tell
 abbrev pub entries_of : Table → List Facts
-entries_of t = all_facts t.nodes.items t.entries.items
+entries_of t = all_facts t.nodes t.entries.items
 
 -- the root of the tree
 abbrev pub root_of : Table → NodeTerm
@@ -87,12 +87,14 @@ StretchShowsBack t start end paths = IsRowBack (entries_of t) start end paths
 
 -- this entry has the number, and tells of what stands there
 abbrev pub IsEntryAt : Table → ℕ → Entry → Type 0
-IsEntryAt t n e = Describes (entries_of t) n (facts_of t.nodes.items e)
+IsEntryAt t n e = Describes (entries_of t) n (facts_of t.nodes e)
 
--- this node stands at the number, and an entry that names it
-pub record IsInnerAt (t : Table) (n : ℕ) (x : Inner) : Type 0 where
+-- the node with this number among the nodes stands at the number, and an entry that names it
+pub record IsNodeNumber (t : Table) (n k : ℕ) : Type 0 where
+  pub inner : Inner
+  pub node : slice_get t.nodes k ≡ Some inner
   pub entry : Entry
-  pub is : Describes (entries_of t) n (told entry (Some x))
+  pub is : Describes (entries_of t) n (told entry (Some inner))
 
 -- the numbers of the children of the element with a number go from this start to this end
 abbrev pub AreChildNumbers : Table → ℕ → ℕ → ℕ → Type 0
@@ -103,7 +105,7 @@ AreChildNumbers t n start end =
 -- the numbers of the children of the node with a number among the nodes go up to this one
 abbrev pub IsChildrenEnd : Table → ℕ → ℕ → Type 0
 IsChildrenEnd t k end =
-    (x : Inner) → slice_get t.nodes.items k ≡ Some x
+    (x : Inner) → slice_get t.nodes k ≡ Some x
     → end ≡ x.first_child + length (node_children x.green)
 
 -- the paths of the children of the element with a number

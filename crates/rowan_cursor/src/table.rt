@@ -4,6 +4,7 @@ mod chunks;
 mod draft;
 mod entry;
 mod events;
+mod nodes;
 mod replace;
 mod search;
 
@@ -11,7 +12,8 @@ ghost use Rattle.rowan_cursor.specs.Table.{IsTable, AreNodes, all_facts};
 ghost use Rattle.rowan_cursor.specs.TableProp.{IsTable-prop, AreNodes-prop};
 
 use draft::Draft;
-use entry::{Entry, Inner};
+use entry::Entry;
+use nodes::Nodes;
 use rowan_green::green::{GreenElementRef, GreenNode, GreenToken};
 use rowan_green::text::{TextRange, TextSize};
 use rowan_green::utility_types::NodeOrToken;
@@ -19,13 +21,13 @@ use std::alloc::{AllocError, Global};
 use std::ops::Range;
 
 /// A tree as a table of its nodes and tokens. Each is known by the number of its entry; the root has 0, and the children of a node
-/// stand side by side, behind it. The nodes stand in a list of their own, in the order in which their children do.
+/// stand side by side, behind it. The nodes stand beside the entries, in the order in which their children do.
 #[derive(Drop)]
 pub(crate) struct Table {
     entries: Vec<Entry>,
-    nodes: Vec<Inner>,
-    ghost numbered: { AreNodes nodes.items entries.items } by { AreNodes-prop nodes.items entries.items },
-    ghost complete: { IsTable (all_facts nodes.items entries.items) } by { IsTable-prop (all_facts nodes.items entries.items) },
+    nodes: Nodes,
+    ghost numbered: { AreNodes nodes entries.items } by { AreNodes-prop nodes entries.items },
+    ghost complete: { IsTable (all_facts nodes entries.items) } by { IsTable-prop (all_facts nodes entries.items) },
 }
 
 impl Table {
@@ -36,7 +38,7 @@ impl Table {
     ghost use Rattle.rowan_cursor.specs.Equal.{start_of};
     ghost use Rattle.rowan_cursor.specs.Moves.{parent_path, first_at, first_node_at, first_leaf_path, last_leaf_path, next_leaf_path, prev_leaf_path};
     ghost use Rattle.rowan_cursor.specs.Pass.{ComesBehind, ComesNext, ComesBefore, ComesBack};
-    ghost use Rattle.rowan_cursor.specs.TableView.{root_of, path_at, cursor_of, stands_for_node, row_paths, paths_below, paths_behind, paths_before, IsWithin, IsNodeIn, IsTokenIn, IsStretch, IsEntryAt, IsInnerAt, AreChildNumbers, IsChildrenEnd, StretchShows, StretchShowsBack, Leads, LeadsToNode, LeadsToToken};
+    ghost use Rattle.rowan_cursor.specs.TableView.{root_of, path_at, cursor_of, stands_for_node, row_paths, paths_below, paths_behind, paths_before, IsWithin, IsNodeIn, IsTokenIn, IsStretch, IsEntryAt, IsNodeNumber, AreChildNumbers, IsChildrenEnd, StretchShows, StretchShowsBack, Leads, LeadsToNode, LeadsToToken};
     ghost use Rattle.rowan_cursor.specs.TablePass.{StandsInside, first_token_from, first_token_past, first_token_behind, last_token_until, last_token_to, last_token_before};
 
     /// The table of a green tree. Refused only for want of memory, or of numbers: they have 32 bits.
@@ -58,25 +60,13 @@ impl Table {
         &self.entries[number]
     }
 
-    // The node at a number; none, where a token stands there.
-    fn inner(&self, number: usize) -> Option<&Inner>
+    // The number among the nodes; none, where a token stands there.
+    fn node_number(&self, number: usize) -> Option<usize>
         requires { IsWithin self.now number }
-        ensures some { IfSome result (λ inner. IsInnerAt self.now number inner.now) }
+        ensures some { IfSome result (IsNodeNumber self.now number) }
         ensures none { IsNone result → IsTokenIn self.now number }
     {
-        let node = self.entries[number].node.number()?;
-        Some(&self.nodes[node as usize])
-    }
-
-    // The node at a number, where there is one.
-    fn inner_node(&self, number: usize) -> &Inner
-        requires { IsNodeIn self.now number }
-        ensures { IsInnerAt self.now number result.now }
-    {
-        let Some(inner) = self.inner(number) else {
-            unreachable!();
-        };
-        inner
+        Some(self.entries[number].node.number()? as usize)
     }
 
     /// Whether a node stands at a number.
@@ -84,7 +74,7 @@ impl Table {
         requires { IsWithin self.now number }
         ensures { result ≡ stands_for_node self.now number }
     {
-        self.inner(number).is_some()
+        self.node_number(number).is_some()
     }
 
     /// The parent.
@@ -196,8 +186,8 @@ impl Table {
         ensures { result ≡ text_range (cursor_of self.now number) }
     {
         let start = self.start(number);
-        match self.inner(number) {
-            Some(node) => TextRange::at(start, node.text_len),
+        match self.node_number(number) {
+            Some(node) => TextRange::at(start, self.nodes.green(node).text_len()),
             None => TextRange::new(start, self.end_of_token(number)),
         }
     }
@@ -215,7 +205,7 @@ impl Table {
         requires { IsNodeIn self.now number }
         ensures { result ≡ (text_range (cursor_of self.now number)).end }
     {
-        TextRange::at(self.start(number), self.inner_node(number).text_len).end()
+        TextRange::at(self.start(number), self.node(number).text_len()).end()
     }
 
     // Where the text of a token ends: where the next sibling starts, or else where the parent ends.
@@ -246,7 +236,10 @@ impl Table {
         requires { IsNodeIn self.now number }
         ensures { StandsAt (cursor_of self.now number) result.now }
     {
-        &self.inner_node(number).green
+        let Some(node) = self.node_number(number) else {
+            unreachable!();
+        };
+        self.nodes.green(node)
     }
 
     /// The token.
@@ -265,11 +258,14 @@ impl Table {
         requires { IsWithin self.now number }
         ensures { term_at (cursor_of self.now number) ≡ Some (pointee result) }
     {
-        if let Some(inner) = self.inner(number) {
-            return NodeOrToken::Node(&inner.green);
+        if let Some(node) = self.node_number(number) {
+            return NodeOrToken::Node(self.nodes.green(node));
         }
-        let above = self.inner_node(self.entry(number).parent as usize);
-        let Some(found) = above.green.child_ref(number - above.first_child as usize) else {
+        let Some(above) = self.node_number(self.entry(number).parent as usize) else {
+            unreachable!();
+        };
+        let index = number - self.nodes.first_child(above);
+        let Some(found) = self.nodes.green(above).child_ref(index) else {
             unreachable!();
         };
         found.1
@@ -297,7 +293,7 @@ impl Table {
             return 0..0;
         };
         let node = node as usize;
-        self.nodes[node].first_child as usize..self.children_end(node)
+        self.nodes.first_child(node)..self.children_end(node)
     }
 
     /// The numbers of the siblings behind this one.
@@ -329,13 +325,14 @@ impl Table {
 
     // Where the children of a node end, by its number among the nodes: where those of the next one begin.
     fn children_end(&self, node: usize) -> usize
-        requires { node < length self.now.nodes.items }
+        requires { node < length self.now.nodes }
         ensures { IsChildrenEnd self.now node result }
     {
-        match self.nodes.get(node + 1) {
-            Some(next) => next.first_child as usize,
-            None => self.entries.len(),
+        let count = self.nodes.len();
+        if node + 1 == count {
+            return self.entries.len();
         }
+        self.nodes.first_child(node + 1)
     }
 
     /// The first of a row.

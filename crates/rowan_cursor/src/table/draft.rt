@@ -2,7 +2,8 @@
 ghost use Rattle.std.specs.Prelude.{◌≡◌, ◌≤◌, IfOk};
 
 use super::Table;
-use super::entry::{Entry, Inner};
+use super::entry::Entry;
+use super::nodes::{Nodes, give_back};
 use rowan_green::green::{GreenElement, GreenNode};
 use rowan_green::link::Link;
 use rowan_green::text::TextSize;
@@ -40,14 +41,13 @@ const _: () = prove!(size_of::<Waiting<'_>>() == 16);
 #[derive(Drop)]
 pub(super) struct Draft<'a> {
     entries: Vec<Entry>,
-    nodes: Vec<Inner>,
+    nodes: Nodes,
     waiting: Vec<Waiting<'a>>,
 }
 
 impl<'a> Draft<'a> {
     ghost use Rattle.std.specs.Prelude.{◌≡◌, ◌+◌, ◌<◌, IfOk, OnOk, IfSome, IsNone, length};
     ghost use Rattle.std.specs.List.Sorted.{IsPermutation};
-    ghost use Rattle.std.specs.Vec.{vec_len, vec_capacity};
     ghost use Rattle.rowan_green.specs.Term.{node_children};
     ghost use Rattle.rowan_cursor.specs.DraftView.{IsFilled, IsFilledWith, HasTheirs, IsTaken, IsDone, IsNextIndex, AddsChild, HasRoom, IsKept, TakesPlace, draft_root, draft_root_with, size_left, size_left_with};
     ghost use Rattle.rowan_cursor.specs.TableView.{root_of};
@@ -62,7 +62,7 @@ impl<'a> Draft<'a> {
         let mut draft = Draft {
             // Three nodes and tokens in four bytes, and one of them a node, are more than most trees have.
             entries: Vec::with_capacity(alloc, bytes - bytes / 4)?,
-            nodes: Vec::with_capacity(alloc, bytes / 4)?,
+            nodes: Nodes::with_capacity(alloc, bytes / 4)?,
             waiting: Vec::with_capacity(alloc, FIRST_WAITING)?,
         };
         let start = TextSize::from(0);
@@ -87,21 +87,16 @@ impl<'a> Draft<'a> {
         self.waiting.pop()
     }
 
-    // Makes room for one node more that has its place, and for so many nodes and tokens below it, of which all may be nodes. Where
-    // there is enough room, this calls nothing.
+    // Makes room for so many nodes and tokens more, of which all may be nodes. Where there is enough room, this calls nothing.
     fn reserve(&mut self, additional: usize) -> Result<(), AllocError>
         ensures kept { IsKept self.old self.new }
         ensures room { OnOk result (HasRoom self.new additional) }
-        ensures place { OnOk result (vec_len self.new.nodes < vec_capacity self.new.nodes) }
     {
         if self.entries.capacity() - self.entries.len() < additional {
             self.entries.reserve(additional)?;
         }
         if self.waiting.capacity() - self.waiting.len() < additional {
             self.waiting.reserve(additional)?;
-        }
-        if self.nodes.len() == self.nodes.capacity() {
-            self.nodes.reserve(1)?;
         }
         Ok(())
     }
@@ -126,11 +121,7 @@ impl<'a> Draft<'a> {
         self.reserve(count)?;
         let green = owner_of(parent.node)?;
         self.entries[parent.number as usize].node = Link::to(self.nodes.len() as u32);
-        self.nodes.push_reserved(Inner {
-            green,
-            text_len: parent.node.text_len(),
-            first_child: first_child as u32,
-        });
+        self.nodes.push(green, first_child as u32)?;
         let waited = self.waiting.len();
         for index in 0..count {
             self.push_child(parent, index);
@@ -144,7 +135,7 @@ impl<'a> Draft<'a> {
         requires { place ≤ length self.old.waiting.items }
         ensures waiting { IsPermutation self.old.waiting.items self.new.waiting.items }
         ensures entries { self.new.entries.items ≡ self.old.entries.items }
-        ensures nodes { self.new.nodes.items ≡ self.old.nodes.items }
+        ensures nodes { self.new.nodes ≡ self.old.nodes }
     {
         self.waiting[place..].reverse();
     }
@@ -199,7 +190,7 @@ impl<'a> Draft<'a> {
             ..
         } = self;
         give_back(&mut entries);
-        give_back(&mut nodes);
+        nodes.give_back();
         Table { entries, nodes }
     }
 }
@@ -231,14 +222,4 @@ fn first_bytes(text_len: TextSize) -> usize
     ensures { 16 ≤ result }
 {
     (u32::from(text_len) as usize).clamp(MIN_FIRST_BYTES, MAX_FIRST_BYTES)
-}
-
-// Gives back what a list has left over, where it fills less than half of its room. Else the room stays: a block that got smaller
-// would make the allocator take the one of the next table from the system again, page by page.
-fn give_back<T>(list: &mut Vec<T>)
-    ensures { list.new.items ≡ list.old.items }
-{
-    if list.len() < list.capacity() / 2 {
-        list.shrink_to_fit();
-    }
 }

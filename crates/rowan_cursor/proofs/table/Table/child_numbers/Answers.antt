@@ -21,12 +21,12 @@ returns-in_default-clause-bounds c =
     let at = slice_get_read s.entries.items _ c.args.number e refl (within_list s c.args.number c.requires) c.index.ensures in
     numbers_are s c.args.number 0 0 (told e None) (bare_there s c.args.number e at (sym c.in_default.ensures)) refl refl
 
-pub index-requires-2 : goal.index-requires-2
-index-requires-2 c =
+pub first_child-requires : goal.first_child-requires
+first_child-requires c =
     let s = c.args.self.now in
     let e = c.index.result.now in
     let at = slice_get_read s.entries.items _ c.args.number e refl (within_list s c.args.number c.requires) c.index.ensures in
-    omega (arith, s.numbered.there c.args.number e c.in-Some.node at (sym c.in-Some.ensures))
+    s.numbered.there c.args.number e c.in-Some.node at (sym c.in-Some.ensures)
 
 pub children_end-requires : goal.children_end-requires
 children_end-requires c =
@@ -40,21 +40,13 @@ returns-clause-row c =
     let s = c.args.self.now in
     let e = c.index.result.now in
     let at = slice_get_read s.entries.items _ c.args.number e refl (within_list s c.args.number c.requires) c.index.ensures in
-    let k = c.in-Some.node in
-    let named = sym c.in-Some.ensures in
-    let x = c.index-2.result.now in
-    let found = slice_get_read s.nodes.items _ k x refl (s.numbered.there c.args.number e k at named) c.index-2.ensures in
-    let i = inner_there s c.args.number e k x at named found in
-    numbers_row s c.args.number x.first_child c.children_end.result (told i.entry (Some x)) i.is.at refl (c.children_end.ensures x found)
+    let i = inner_there s c.args.number e c.in-Some.node at (sym c.in-Some.ensures) in
+    numbers_row s c.args.number c.first_child.result c.children_end.result (told i.entry (Some i.inner)) i.is.at (c.first_child.ensures i.inner i.node) (c.children_end.ensures i.inner i.node)
 
 pub returns-clause-bounds : goal.returns-clause-bounds
 returns-clause-bounds c =
     let s = c.args.self.now in
     let e = c.index.result.now in
     let at = slice_get_read s.entries.items _ c.args.number e refl (within_list s c.args.number c.requires) c.index.ensures in
-    let k = c.in-Some.node in
-    let named = sym c.in-Some.ensures in
-    let x = c.index-2.result.now in
-    let found = slice_get_read s.nodes.items _ k x refl (s.numbered.there c.args.number e k at named) c.index-2.ensures in
-    let i = inner_there s c.args.number e k x at named found in
-    numbers_are s c.args.number x.first_child c.children_end.result (told i.entry (Some x)) i.is.at refl (c.children_end.ensures x found)
+    let i = inner_there s c.args.number e c.in-Some.node at (sym c.in-Some.ensures) in
+    numbers_are s c.args.number c.first_child.result c.children_end.result (told i.entry (Some i.inner)) i.is.at (c.first_child.ensures i.inner i.node) (c.children_end.ensures i.inner i.node)

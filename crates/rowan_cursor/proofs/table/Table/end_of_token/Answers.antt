@@ -19,7 +19,7 @@ end_of_node-requires c =
     let s = c.args.self.now in
     let es = entries_of s in
     let n = c.args.number in
-    let e = facts_of s.nodes.items c.entry.result.now in
+    let e = facts_of s.nodes c.entry.result.now in
     let behind = token_behind s n c.requires in
     record {
       within = omega (arith, (c.entry.ensures.below behind).earlier, c.requires.within);
@@ -31,7 +31,7 @@ returns c =
     let s = c.args.self.now in
     let es = entries_of s in
     let n = c.args.number in
-    let e = facts_of s.nodes.items c.entry.result.now in
+    let e = facts_of s.nodes c.entry.result.now in
     let below = c.entry.ensures.below (token_behind s n c.requires) in
     let t = content-some _ (green_of e) c.entry.ensures.green in
     c.end_of_node.ensures ∙ end_at_last (root_node es) (entry_path es n) (entry_path es e.parent) (entry_index es n e) t.0 below.path t.1 c.in_default.ensures.path

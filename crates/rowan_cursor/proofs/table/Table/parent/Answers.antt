@@ -10,7 +10,7 @@ pub returns-clause-found : goal.returns-clause-found
 returns-clause-found c =
     let s = c.args.self.now in
     let es = entries_of s in
-    let e = facts_of s.nodes.items c.entry.result.now in
+    let e = facts_of s.nodes c.entry.result.now in
     let below = c.entry.ensures.below (omega arith) in
     record {
       path = sym (ap parent_path below.path ∙ parent_path-child (entry_path es e.parent) (entry_index es c.args.number e));

@@ -19,9 +19,9 @@ pub returns-then-index-entry : goal.returns-then-index-entry
 returns-then-index-entry c =
     let s = c.args.self.now in
     let es = entries_of s in
-    let e = facts_of s.nodes.items c.entry.result.now in
-    let d = facts_of s.nodes.items c.index.result.now in
-    let before = facts_at s.nodes.items s.entries.items (c.args.number - 1) c.index.result.now
+    let e = facts_of s.nodes c.entry.result.now in
+    let d = facts_of s.nodes c.index.result.now in
+    let before = facts_at s.nodes s.entries.items (c.args.number - 1) c.index.result.now
     (slice_get_read s.entries.items _ (c.args.number - 1) c.index.result.now refl (omega (arith, within_list s c.args.number c.requires)) c.index.ensures) in
     record {
       path = prev_apart es s.complete c.args.number e d c.entry.ensures.at (omega arith) before c.if-index-entry.true;
@@ -32,9 +32,9 @@ pub returns : goal.returns
 returns c =
     let s = c.args.self.now in
     let es = entries_of s in
-    let e = facts_of s.nodes.items c.entry.result.now in
-    let d = facts_of s.nodes.items c.index.result.now in
-    let before = facts_at s.nodes.items s.entries.items (c.args.number - 1) c.index.result.now
+    let e = facts_of s.nodes c.entry.result.now in
+    let d = facts_of s.nodes c.index.result.now in
+    let before = facts_at s.nodes s.entries.items (c.args.number - 1) c.index.result.now
     (slice_get_read s.entries.items _ (c.args.number - 1) c.index.result.now refl (omega (arith, within_list s c.args.number c.requires)) c.index.ensures) in
     record {
       path = prev_beside es s.complete c.args.number e d c.entry.ensures.at (omega arith) before c.if-index-entry.false;

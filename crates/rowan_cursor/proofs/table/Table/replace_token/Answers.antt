@@ -16,7 +16,7 @@ node-requires c =
     let behind = token_behind s c.args.number c.requires in
     record {
       within = omega (arith, (c.entry.ensures.below behind).earlier, c.requires.within);
-      is = node_above (entries_of s) s.complete c.args.number (facts_of s.nodes.items c.entry.result.now) c.entry.ensures.at behind;
+      is = node_above (entries_of s) s.complete c.args.number (facts_of s.nodes c.entry.result.now) c.entry.ensures.at behind;
     }
 
 pub returns-in_err-green-clause-err : goal.returns-in_err-green-clause-err

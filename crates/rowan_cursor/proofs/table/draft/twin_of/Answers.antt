@@ -1,4 +1,4 @@
-use Rattle.std.proofs.Common.{◌≡◌, ◌≤◌, [], ◌++◌, take, drop, length, None, refl, sym, ◌∙◌, ap, arith}
+use Rattle.std.proofs.Common.{◌≡◌, [], ◌++◌, take, drop, length, None, ◌∙◌, ap, arith}
 use Rattle.std.specs.Iterator.Adapters.{once_item}
 use Rattle.std.specs.Option.{option_to_list}
 use Rattle.rowan_green.specs.Term.{node_of, node_kind, node_children}

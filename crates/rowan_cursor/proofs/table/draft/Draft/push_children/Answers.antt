@@ -31,14 +31,14 @@ loop-index-init c =
     } in
     let a : Draft = record {
       entries = with_item r.entries w.number e;
-      nodes = c.push_reserved.new.self;
+      nodes = c.push.new.self;
       waiting = r.waiting;
     } in
     let within : w.number < length r.entries.items = omega (arith, next_within d w c.requires.draft, ap length kept.entries) in
     let found : slice_get r.entries.items w.number ≡ Some old = slice_get_read r.entries.items (length r.entries.items) w.number old refl within c.index_mut.ensures.value in
     let first : c.len-first_child.result ≡ length d.entries.items = omega (arith, c.len-first_child.ensures) in
-    let named : c.to.result ≡ Some (length r.nodes.items) = c.to.ensures ∙ ap (λ k. Some k) (omega (arith, c.len.ensures)) in
-    let p = placed_next d r a w _ old e c.requires.draft c.requires.children kept c.in_ok-green.ensures first found refl refl named refl c.push_reserved.ensures.items refl in
+    let named : c.to.result ≡ Some (length r.nodes) = c.to.ensures ∙ ap (λ k. Some k) (omega (arith, c.len.ensures)) in
+    let p = placed_next d r a w _ old e c.requires.draft c.requires.children kept c.in_ok-green.ensures first found refl refl named refl c.in_ok-push.ensures.ok refl in
     record {
       filled = p.filled;
       place = p.next;

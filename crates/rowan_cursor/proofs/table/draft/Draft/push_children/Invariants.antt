@@ -11,7 +11,7 @@ invariant-loop-index l = record {
   filled : IsFilled l.self;
   place : IsNextIndex l.self l.parent l.index;
   entries : length l.self.entries.items ≡ l.first_child + l.index;
-  children : child_counts l.self.nodes.items ≡ child_counts l.fn.self.nodes.items + length (node_children l.parent.node.now);
+  children : child_counts l.self.nodes ≡ child_counts l.fn.self.nodes + length (node_children l.parent.node.now);
   root : draft_root l.self ≡ draft_root_with l.fn.self l.parent;
   size : size_left l.self ≤ size_left l.fn.self + terms_size (take l.index (node_children l.parent.node.now));
   more : l.waited ≤ length l.self.waiting.items;
