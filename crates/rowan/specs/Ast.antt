@@ -1,6 +1,7 @@
--- Wrappers of nodes: which nodes cast to a wrapper, and how those among the children come one after the other. And children that
--- are tokens of a kind.
-use Rattle.std.specs.Prelude.{◌≡◌, ℕ, ◌<◌, if◌then◌else◌, Bool, false, List, [], ◌∷◌, length, filter, Option, Some, None, Result, Ok, Err}
+-- Wrappers of nodes: which nodes cast to a wrapper, and how those among the children come one after
+-- the other. And children that are tokens of a kind.
+use Rattle.std.specs.Prelude.{◌≡◌, ℕ, ◌<◌, if◌then◌else◌, Bool, false, List, [], ◌∷◌, length}
+use Rattle.std.specs.Prelude.{filter, Option, Some, None, Result, Ok, Err}
 use Rattle.std.specs.Option.{option_map, option_map_or}
 use Rattle.rowan_green.specs.declared.fault.Fault.{Fault}
 use Rattle.rowan_green.specs.declared.fault.Fault.TheVariants.{Memory}
@@ -17,9 +18,11 @@ casts_at meaning casts c = option_map_or casts (option_map meaning (kind c)) fal
 abbrev pub if_casts : (Cursor → Bool) → Cursor → Option Cursor
 if_casts casts c = if casts c then Some c else None
 
--- Of the nodes that are left, those that cast come next, the first of them first, each in its wrapper.
+-- Of the nodes that are left, those that cast come next, the first of them first, each in its
+-- wrapper.
 -- In place of one `Memory` may come while nodes are left, and then nothing is left.
--- Where a refusal is left, it comes next and alone. Where no node is left that casts, nothing comes.
+-- Where a refusal is left, it comes next and alone. Where no node is left that casts, nothing
+-- comes.
 abbrev pub YieldsWrappers : {N : Type 0} → (Cursor → Bool) → (N → Cursor) → Rest Cursor
     → Option (Result N Fault) → Rest Cursor → Type 0
 YieldsWrappers casts node_of (Ok cs) None after = (filter casts cs ≡ []) × (after ≡ Ok [])

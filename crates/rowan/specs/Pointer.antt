@@ -1,8 +1,10 @@
 -- Pointers: a kind of a language and a range of text, by which a node is found again.
---     A pointer is resolved on the chain of its range, which begins with the root and goes on with the child at the range, that
---     one's child, and so on: it resolves to the first node on this chain that has its range, and a raw kind that means its kind.
---     An edit of the text moves what stands behind it, and leaves what stands before.
-use Rattle.std.specs.Prelude.{◌≡◌, ℕ, ◌+◌, ◌-◌, ◌≤◌, if◌then◌else◌, ◌&&◌, Bool, true, false, List, [], ◌∷◌, length, min, nat_le, nat_eq, Option, Some, None}
+--     A pointer is resolved on the chain of its range, which begins with the root and goes on with
+--     the child at the range, that one's child, and so on: it resolves to the first node on this
+--     chain that has its range, and a raw kind that means its kind. An edit of the text moves what
+--     stands behind it, and leaves what stands before.
+use Rattle.std.specs.Prelude.{◌≡◌, ℕ, ◌+◌, ◌-◌, ◌≤◌, if◌then◌else◌, ◌&&◌, Bool, true, false, List}
+use Rattle.std.specs.Prelude.{[], ◌∷◌, length, min, nat_le, nat_eq, Option, Some, None}
 use Rattle.std.specs.List.{find}
 use Rattle.std.specs.Option.{option_map, option_and_then}
 use Rattle.rowan_green.specs.declared.utility_types.NodeOrToken.TheVariants.{Node, Token}
@@ -61,8 +63,8 @@ pub record IsFirstMeant (means : ℕ → Bool) (span : Span) (root : NodeTerm) (
   pub is : IsChain root span [] chain
   pub first : found ≡ option_map (cursor_at root) (find (is_meant means span root) ([] ∷ chain))
 
--- the steps of this search: a visit of each node up to the first that is meant, and comparisons of the children of these nodes
--- by halves, one at least on the way to each node but the root
+-- the steps of this search: a visit of each node up to the first that is meant, and comparisons of
+-- the children of these nodes by halves, one at least on the way to each node but the root
 pub record CountsVisits (means : ℕ → Bool) (span : Span) (root : NodeTerm) (old new : Tally)
     : Type 0 where
   pub chain : List Path
@@ -74,7 +76,8 @@ pub record CountsVisits (means : ℕ → Bool) (span : Span) (root : NodeTerm) (
   pub least : let visited = nodes_at root (up_to (is_meant means span root) ([] ∷ chain)) in
       min (old.comparisons + (length visited - 1)) count_limit ≤ new.comparisons
 
--- what is found from the node at a path, and the steps of the search: where that is no root nothing is, without a step
+-- what is found from the node at a path, and the steps of the search: where that is no root nothing
+-- is, without a step
 abbrev pub resolves_from : Path → (ℕ → Bool) → Span → NodeTerm → Option Cursor → Type 0
 resolves_from [] means span root found = IsFirstMeant means span root found
 resolves_from (i ∷ p) means span root found = found ≡ None
@@ -90,8 +93,8 @@ abbrev pub CountsResolving : (ℕ → Bool) → Span → Cursor → Tally → Ta
 CountsResolving means span c old new = counts_from c.path means span c.root old new
 
 -- what is found is the node at q, or a node above it, of a raw kind that is meant and of the range
-pub record LeadsAbove (means : ℕ → Bool) (span : Span) (root : NodeTerm) (q : Path) (found : Option Cursor)
-    : Type 0 where
+pub record LeadsAbove (means : ℕ → Bool) (span : Span) (root : NodeTerm) (q : Path)
+    (found : Option Cursor) : Type 0 where
   pub path : Path
   pub is : found ≡ Some (cursor_at root path)
   pub above : begins path q ≡ true
@@ -116,7 +119,8 @@ abbrev pub carried : {K : Type 0} → Span → ℕ → Pointer K → Option (Poi
 carried replaced new p =
     option_map (λ range. record { kind = p.kind; range = range }) (range_after replaced new p.range)
 
--- the pointer over replacements, as they come in turn to t: each takes the range that what it replaces has by then
+-- the pointer over replacements, as they come in turn to t: each takes the range that what it
+-- replaces has by then
 abbrev pub carried_in_turn : {K : Type 0} → Term → List Replacement → Pointer K → Option (Pointer K)
 carried_in_turn t [] p = Some p
 carried_in_turn t (r ∷ rs) p =

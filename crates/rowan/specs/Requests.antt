@@ -1,11 +1,13 @@
 -- What a rewriting asks a builder's cache for, and the tokens and the text that it adds.
 use Rattle.std.specs.Prelude.{ℕ, List, [], ◌∷◌, ◌++◌}
 use Rattle.std.specs.List.{flat_map}
-use Rattle.rowan_green.specs.declared.utility_types.NodeOrToken.TheVariants.{Node as node_term, Token as token_term}
+use Rattle.rowan_green.specs.declared.utility_types.NodeOrToken.TheVariants.{Node as node_term}
+use Rattle.rowan_green.specs.declared.utility_types.NodeOrToken.TheVariants.{Token as token_term}
 use Rattle.rowan_green.specs.Term.{TokenTerm, Term}
 use Rattle.rowan_green.specs.Word.{Symbol}
 use Rattle.rowan.specs.declared.script.calls.Call.{Call}
-use Rattle.rowan.specs.declared.script.calls.Call.TheVariants.{Token, StartNode, FinishNode, Mark, StartNodeAt, StartNodeAtCheckpoint}
+use Rattle.rowan.specs.declared.script.calls.Call.TheVariants.{Token, StartNode, FinishNode, Mark}
+use Rattle.rowan.specs.declared.script.calls.Call.TheVariants.{StartNodeAt, StartNodeAtCheckpoint}
 use Rattle.rowan.specs.declared.script.calls.Outcome.{Outcome}
 use Rattle.rowan.specs.declared.script.calls.Outcome.TheVariants.{Accepted, Marked, Refused}
 use Rattle.rowan.specs.Rewriting.{token_of, Accepts, Gives, with_mark, InTurn, Rewrites}

@@ -2,17 +2,23 @@
 --     A call is accepted, and then the word changes as the call says; or it took a checkpoint, or
 --     was refused, and then the word stays.
 -- The checkpoints that were taken are the marks, numbered from 0 in the order of the calls.
-use Rattle.std.specs.Prelude.{◌≡◌, ℕ, ◌<◌, List, [], ◌∷◌, ◌++◌, length, Option, Some, None, String, string_bytes}
+use Rattle.std.specs.Prelude.{◌≡◌, ℕ, ◌<◌, List, [], ◌∷◌, ◌++◌, length, Option, Some, None, String}
+use Rattle.std.specs.Prelude.{string_bytes}
 use Rattle.std.specs.List.{slice_get}
 use Rattle.std.specs.declared.alloc.Global.{Global}
 use Rattle.rowan_green.specs.declared.fault.Fault.{Fault}
-use Rattle.rowan_green.specs.declared.fault.Fault.TheVariants.{TextTooLong, CheckpointPast, CheckpointBefore, NothingOpen, Memory, UnknownMark}
+use Rattle.rowan_green.specs.declared.fault.Fault.TheVariants.{TextTooLong, CheckpointPast}
+use Rattle.rowan_green.specs.declared.fault.Fault.TheVariants.{CheckpointBefore, NothingOpen}
+use Rattle.rowan_green.specs.declared.fault.Fault.TheVariants.{Memory, UnknownMark}
 use Rattle.rowan_green.specs.declared.green.SyntaxKind.{SyntaxKind}
 use Rattle.rowan_green.specs.Fits.{byte_limit}
 use Rattle.rowan_green.specs.Term.{TokenTerm, NodeTerm}
-use Rattle.rowan_green.specs.Word.{Symbol, Open, Leaf, Closes, Wraps, HasCount, WhyNoToken, HasNoneOpen, WhyNotClosed, IsPast, IsBeforeOpening, WhyNotWrapped}
+use Rattle.rowan_green.specs.Word.{Symbol, Open, Leaf, Closes, Wraps, HasCount, WhyNoToken}
+use Rattle.rowan_green.specs.Word.{HasNoneOpen, WhyNotClosed, IsPast, IsBeforeOpening}
+use Rattle.rowan_green.specs.Word.{WhyNotWrapped}
 use Rattle.rowan.specs.declared.script.calls.Call.{Call}
-use Rattle.rowan.specs.declared.script.calls.Call.TheVariants.{Token, StartNode, FinishNode, Mark, StartNodeAt, StartNodeAtCheckpoint}
+use Rattle.rowan.specs.declared.script.calls.Call.TheVariants.{Token, StartNode, FinishNode, Mark}
+use Rattle.rowan.specs.declared.script.calls.Call.TheVariants.{StartNodeAt, StartNodeAtCheckpoint}
 use Rattle.rowan.specs.declared.script.calls.Outcome.{Outcome}
 use Rattle.rowan.specs.declared.script.calls.Outcome.TheVariants.{Accepted, Marked, Refused}
 

@@ -1,9 +1,9 @@
 -- Traces: what steps report, one report a step.
---     A step makes the call of its name on the element where the steps before it led. Where the call finds an element, the step
---     moves there; where it puts another node or token, the step goes to the new root; and otherwise the next step starts from
---     the same element.
---     A node and a token have different calls, and some calls ask that an offset or a range lies in the node's. A step whose call
---     is not made leads nowhere, as one whose call finds nothing.
+--     A step makes the call of its name on the element where the steps before it led. Where the
+--     call finds an element, the step moves there; where it puts another node or token, the step
+--     goes to the new root; and otherwise the next step starts from the same element.
+--     A node and a token have different calls, and some calls ask that an offset or a range lies in
+--     the node's. A step whose call is not made leads nowhere, as one whose call finds nothing.
 use Rattle.std.specs.Prelude.{◌≡◌, List, [], ◌∷◌, ◌++◌, Option, Some, None, IsSomeAnd, slice_get}
 use Rattle.std.specs.List.{last_or}
 use Rattle.std.specs.Option.{option_map, unwrap_or}
@@ -14,13 +14,24 @@ use Rattle.rowan_green.specs.Replacements.{Replacement}
 use Rattle.rowan_green.specs.Span.{Holds}
 use Rattle.rowan_green.specs.Term.{NodeTerm, Term}
 use Rattle.rowan_cursor.specs.Cursor.{Cursor, text_range}
-use Rattle.rowan_cursor.specs.Moves.{Element, place_of, tree_top, parent, first_child, last_child, first_child_or_token, last_child_or_token, next_sibling, prev_sibling, next_sibling_or_token, prev_sibling_or_token, first_token, last_token, next_token, prev_token}
+use Rattle.rowan_cursor.specs.Moves.{Element, place_of, tree_top, parent, first_child, last_child}
+use Rattle.rowan_cursor.specs.Moves.{first_child_or_token, last_child_or_token, next_sibling}
+use Rattle.rowan_cursor.specs.Moves.{prev_sibling, next_sibling_or_token, prev_sibling_or_token}
+use Rattle.rowan_cursor.specs.Moves.{first_token, last_token, next_token, prev_token}
 use Rattle.rowan_cursor.specs.Replacement.{IsReplacement, WhyNoReplacement}
 use Rattle.rowan_cursor.specs.Search.{LiesIn, FindsChild, IsCovering, tokens_at}
 use Rattle.rowan.specs.declared.script.steps.Report.{Report}
 use Rattle.rowan.specs.declared.script.steps.Report.TheVariants.{Moved, Nowhere, Replaced, Refused}
 use Rattle.rowan.specs.declared.script.steps.Step.{Step}
-use Rattle.rowan.specs.declared.script.steps.Step.TheVariants.{Parent, TreeTop, FirstChild, LastChild, FirstChildOrToken, LastChildOrToken, NextSibling, PrevSibling, NextSiblingOrToken, PrevSiblingOrToken, FirstToken, LastToken, NextToken, PrevToken, ChildAtRange, Covering, LeftTokenAt, RightTokenAt, ReplaceNode, ReplaceToken}
+use Rattle.rowan.specs.declared.script.steps.Step.TheVariants.{Parent, TreeTop, FirstChild}
+use Rattle.rowan.specs.declared.script.steps.Step.TheVariants.{LastChild, FirstChildOrToken}
+use Rattle.rowan.specs.declared.script.steps.Step.TheVariants.{LastChildOrToken, NextSibling}
+use Rattle.rowan.specs.declared.script.steps.Step.TheVariants.{PrevSibling, NextSiblingOrToken}
+use Rattle.rowan.specs.declared.script.steps.Step.TheVariants.{PrevSiblingOrToken, FirstToken}
+use Rattle.rowan.specs.declared.script.steps.Step.TheVariants.{LastToken, NextToken, PrevToken}
+use Rattle.rowan.specs.declared.script.steps.Step.TheVariants.{ChildAtRange, Covering, LeftTokenAt}
+use Rattle.rowan.specs.declared.script.steps.Step.TheVariants.{RightTokenAt, ReplaceNode}
+use Rattle.rowan.specs.declared.script.steps.Step.TheVariants.{ReplaceToken}
 
 -- ---- one step
 
@@ -44,7 +55,8 @@ HasCall (Token c) PrevToken = Unit {0}
 HasCall (Token c) (ReplaceToken token) = Unit {0}
 HasCall (Token c) step = ⊥
 
--- what the call finds at a cursor, or none where it finds nothing; that of a replacement finds no element, and is told below
+-- what the call finds at a cursor, or none where it finds nothing; that of a replacement finds no
+-- element, and is told below
 abbrev pub IsFound : Step → Cursor → Option Element → Type 0
 IsFound Parent c found = found ≡ option_map Node (parent c)
 IsFound TreeTop c found = found ≡ Some (Node (tree_top c))

@@ -1,11 +1,14 @@
-//! Laws of runs, each as the contract of a function that does nothing; and the laws of green trees and of cursors.
-ghost use Rattle.std.specs.Prelude.{◌≡◌, ℕ, ◌+◌, ◌<◌, ◌≤◌, Bool, true, List, [], ◌∷◌, ◌++◌, length, Option, Some, IsPermutation};
+//! Laws of runs, traces and pointers, each as the contract of a function that does nothing. Those
+//! of green trees are in `green`, those of cursors in `cursor`, and those of languages in `api`.
+ghost use Rattle.std.specs.Prelude.{◌≡◌, ℕ, ◌+◌, ◌<◌, ◌≤◌, Bool, true, List, [], ◌∷◌, ◌++◌, length};
+ghost use Rattle.std.specs.Prelude.{Option, Some, IsPermutation};
 ghost use Rattle.std.specs.Option.{option_and_then};
 ghost use Rattle.rowan_green.specs.Builder.{BuilderValue};
 ghost use Rattle.rowan_green.specs.Cache.{first_seen};
 ghost use Rattle.rowan_green.specs.Fits.{byte_limit};
 ghost use Rattle.rowan_green.specs.Path.{Path, subterm, range, tokens, put, separate};
-ghost use Rattle.rowan_green.specs.Replacements.{Replacement, Makes, SeparateFromAll, PairwiseSeparate, moved_in_turn};
+ghost use Rattle.rowan_green.specs.Replacements.{Replacement, Makes, SeparateFromAll};
+ghost use Rattle.rowan_green.specs.Replacements.{PairwiseSeparate, moved_in_turn};
 ghost use Rattle.rowan_green.specs.Span.{Span};
 ghost use Rattle.rowan_green.specs.Stream.{intern_all, BuildsOn};
 ghost use Rattle.rowan_green.specs.Term.{NodeTerm, node_len, Term, term_len};
@@ -14,7 +17,8 @@ ghost use Rattle.rowan_green.specs.declared.utility_types.NodeOrToken.TheVariant
 ghost use Rattle.rowan_cursor.specs.Cursor.{Cursor};
 ghost use Rattle.rowan_cursor.specs.Moves.{Element, nodes_at, cursor_at};
 ghost use Rattle.rowan_cursor.specs.Search.{IsChain};
-ghost use Rattle.rowan.specs.Pointer.{Pointer, pointer_to, means_kind, is_meant, up_to, Resolves, LeadsAbove, carried, carried_in_turn};
+ghost use Rattle.rowan.specs.Pointer.{Pointer, pointer_to, means_kind, is_meant, up_to, Resolves};
+ghost use Rattle.rowan.specs.Pointer.{LeadsAbove, carried, carried_in_turn};
 ghost use Rattle.rowan.specs.declared.script.calls.Call.{Call};
 ghost use Rattle.rowan.specs.declared.script.calls.Outcome.{Outcome};
 ghost use Rattle.rowan.specs.declared.script.steps.Report.{Report};
@@ -25,12 +29,13 @@ ghost use Rattle.rowan.specs.Run.{Run};
 ghost use Rattle.rowan.specs.Trace.{Trace, root_of, tree_of, last_root, last_tree, replacements};
 
 use crate::api::Language;
+pub use rowan_api::laws as api;
 pub use rowan_cursor::laws as cursor;
 pub use rowan_green::laws as green;
 
-/// A run asks its cache for the terms of its stream, in their order. So where the cache kept what is first seen of some terms,
-/// as each cache does, it keeps what is first seen of these followed by the stream, and a cache that kept nothing what is first
-/// seen of the stream.
+/// A run asks its cache for the terms of its stream, in their order. So where the cache kept what
+/// is first seen of some terms, as each cache does, it keeps what is first seen of these followed
+/// by the stream, and a cache that kept nothing what is first seen of the stream.
 pub fn cache_keeps_the_stream()
     ensures cache { (old new : BuilderValue) (calls : List Call) (outcomes : List Outcome)
         (run : Run old calls outcomes new) → new.cache ≡ intern_all old.cache (stream run.words) }
@@ -44,8 +49,8 @@ pub fn cache_keeps_the_stream()
         → new.cache.seen ≡ first_seen old.cache.limit (stream run.words) }
 {}
 
-/// The calls and their outcomes alone determine the word after a run, and what the run asks the cache for: trees never depend
-/// on the cache.
+/// The calls and their outcomes alone determine the word after a run, and what the run asks the
+/// cache for: trees never depend on the cache.
 pub fn word_is_independent_of_the_cache()
     ensures word { (old old' new new' : BuilderValue) (calls : List Call) (outcomes : List Outcome)
         → old.word ≡ old'.word
@@ -68,8 +73,8 @@ pub fn run_adds_the_accepted_text()
         → word_text v ≡ word_text w ++ accepted_text calls outcomes }
 {}
 
-/// The leaves of a tree that is finished from a word that began empty are the accepted tokens, each with its kind and its text,
-/// in the order of the calls.
+/// The leaves of a tree that is finished from a word that began empty are the accepted tokens, each
+/// with its kind and its text, in the order of the calls.
 pub fn tree_has_the_accepted_tokens()
     ensures { (w : List Symbol) (calls : List Call) (outcomes : List Outcome) (n : NodeTerm)
         → Rewrites [] calls outcomes w
@@ -77,23 +82,24 @@ pub fn tree_has_the_accepted_tokens()
         → tokens (Node n) ≡ accepted_tokens calls outcomes }
 {}
 
-/// What the calls of a builder say of its cache holds of a run, too: the cache grew, and was asked for the subterms that ended
-/// meanwhile.
+/// What the calls of a builder say of its cache holds of a run, too: the cache grew, and was asked
+/// for the subterms that ended meanwhile.
 pub fn run_builds_on()
     ensures { (old new : BuilderValue) (calls : List Call) (outcomes : List Outcome)
         → Run old calls outcomes new → BuildsOn old new }
 {}
 
-/// The replacements of a trace that were accepted, one after the other, make its last tree of its first.
+/// The replacements of a trace that were accepted, one after the other, make its last tree of its
+/// first.
 pub fn trace_makes_its_replacements()
     ensures { (e : Element) (steps : List Step) (reports : List Report)
         → Trace e steps reports
         → Makes (tree_of e) (replacements e steps reports) (last_tree e reports) }
 {}
 
-/// What stands at a path that is separate from those of all accepted replacements of a trace stands in its last tree, too, and the
-/// range there is the old one, moved with each replacement in turn. What a replacement put stands in the last tree, if all later
-/// ones were at separate paths.
+/// What stands at a path that is separate from those of all accepted replacements of a trace stands
+/// in its last tree, too, and the range there is the old one, moved with each replacement in turn.
+/// What a replacement put stands in the last tree, if all later ones were at separate paths.
 pub fn trace_leaves_what_stands_apart()
     ensures subterm { (e : Element) (steps : List Step) (reports : List Report) (q : Path)
         → Trace e steps reports
@@ -112,8 +118,8 @@ pub fn trace_leaves_what_stands_apart()
         → subterm (last_tree e reports) r.path ≡ Some r.new }
 {}
 
-/// Two traces from one tree whose accepted replacements are the same, in any order, end with equal trees, if those are at pairwise
-/// separate paths.
+/// Two traces from one tree whose accepted replacements are the same, in any order, end with equal
+/// trees, if those are at pairwise separate paths.
 pub fn order_of_a_traces_replacements_is_free()
     ensures { (e d : Element) (steps steps' : List Step) (reports reports' : List Report)
         → tree_of e ≡ tree_of d
@@ -124,8 +130,9 @@ pub fn order_of_a_traces_replacements_is_free()
         → last_tree e reports ≡ last_tree d reports' }
 {}
 
-/// A pointer outlives each replacement beside its node. Where the node has text and the new tree is within the limits, the pointer
-/// carried over the edit is the pointer to that node in the new tree.
+/// A pointer outlives each replacement beside its node. Where the node has text and the new tree is
+/// within the limits, the pointer carried over the edit is the pointer to that node in the new
+/// tree.
 pub fn pointers_outlive_replacements_beside<L: Language>()
     ensures { (root new : NodeTerm) (p q : Path) (u w : Term) (n : NodeTerm)
         → put (Node root) p u ≡ Node new → node_len new ≤ byte_limit
@@ -135,7 +142,8 @@ pub fn pointers_outlive_replacements_beside<L: Language>()
         (pointer_to L.meaning (cursor_at root q)) ≡ pointer_to L.meaning (cursor_at new q) }
 {}
 
-/// The pointer to a node with text leads to that node, or to one above it that has the same range and an equal kind.
+/// The pointer to a node with text leads to that node, or to one above it that has the same range
+/// and an equal kind.
 pub fn pointers_lead_to_their_nodes<L: Language>()
     ensures { (root : NodeTerm) (q : Path) (n : NodeTerm) (pointer : Pointer L.Kind)
         (found : Option Cursor)
@@ -146,9 +154,10 @@ pub fn pointers_lead_to_their_nodes<L: Language>()
         → LeadsAbove means pointer.range root q found }
 {}
 
-/// Pointers outlive whole traces. A pointer to a node with text that stands apart from all accepted replacements of a trace, carried
-/// over each in turn, is the pointer to that node in the last tree; and there it leads to the node, or to one above it that has
-/// the same range and an equal kind.
+/// Pointers outlive whole traces. A pointer to a node with text that stands apart from all accepted
+/// replacements of a trace, carried over each in turn, is the pointer to that node in the last
+/// tree; and there it leads to the node, or to one above it that has the same range and an equal
+/// kind.
 pub fn pointers_outlive_traces<L: Language>()
     ensures carried { (e : Element) (steps : List Step) (reports : List Report)
         (q : Path) (n : NodeTerm)
@@ -170,8 +179,8 @@ pub fn pointers_outlive_traces<L: Language>()
         → LeadsAbove means last.range (last_root e reports) q found }
 {}
 
-/// One chain of a range begins at each element. A search along that of the root visits one node more at most than the longest path
-/// has places.
+/// One chain of a range begins at each element. A search along that of the root visits one node
+/// more at most than the longest path has places.
 pub fn one_chain_begins_at_each_element()
     ensures some { (root : NodeTerm) (span : Span) (p : Path)
         → (chain : List Path) × IsChain root span p chain }

@@ -1,5 +1,5 @@
-//! Scripts: builder calls as values and their replay on a builder, steps through a tree as values and their trace, sessions of both,
-//! and the elements of a tree by their places.
+//! Scripts: builder calls as values and their replay on a builder, steps through a tree as values
+//! and their trace, sessions of both, and the elements of a tree by their places.
 mod answers;
 mod calls;
 mod places;
@@ -23,21 +23,23 @@ use std::alloc::Global;
 pub use steps::{Report, Step};
 pub use traces::trace;
 
-/// Makes the calls on the builder, in order, and gives the outcome of each. A refused call leaves the builder as it was and
-/// ends nothing: the next call is made.
+/// Makes the calls on the builder, in order, and gives the outcome of each. A refused call leaves
+/// the builder as it was and ends nothing: the next call is made.
 ///
-/// A mark that was taken has the next number, from 0, in this replay alone. A wrap at a mark that was not taken yet is refused
-/// with `UnknownMark`.
+/// A mark that was taken has the next number, from 0, in this replay alone. A wrap at a mark that
+/// was not taken yet is refused with `UnknownMark`.
 ///
-/// The room for the outcomes and the marks is asked for first. Where there is none, the answer is `Memory` and no call was
-/// made. It is not refused for another cause.
+/// The room for the outcomes and the marks is asked for first. Where there is none, the answer is
+/// `Memory` and no call was made. It is not refused for another cause.
 ///
 /// ```rust
 /// let name = Call::Token(SyntaxKind(1), String::from(alloc, "f")?);
-/// let calls = vec![in alloc; Call::Mark, name, Call::StartNodeAt(0, SyntaxKind(0)), Call::FinishNode]?;
+/// let wrap = Call::StartNodeAt(0, SyntaxKind(0));
+/// let calls = vec![in alloc; Call::Mark, name, wrap, Call::FinishNode]?;
 /// let mut builder = GreenNodeBuilder::new(alloc);
 /// let outcomes = replay(alloc, &mut builder, calls.as_slice())?;
-/// // The outcomes are `Marked`, and `Accepted` three times; the builder holds a node of kind 0 around the token.
+/// // The outcomes are `Marked`, and `Accepted` three times. The builder holds a node of kind 0
+/// // around the token.
 /// ```
 pub fn replay<H: CacheHome>(
     alloc: Global,

@@ -1,49 +1,84 @@
 -- Printed forms: the debug line of a term, the debug lines of all that is in it, and its JSON.
---     They depend on the term, on the offset where its text starts in the whole text, and on how each
---     raw kind is called.
---     A text past ASCII has quotes of its own, those of the library: `quoted` says what stands
---     between quotes for ASCII.
-use Rattle.std.specs.Prelude.{ℕ, ◌+◌, ◌*◌, ◌&&◌, ◌==◌, not, Bool, if◌then◌else◌, nat_lt, nat_le, List, [], ◌∷◌, ◌++◌, length, take, drop, replicate, decimal, codes, Option, Some, None}
-use Rattle.std.specs.List.{flat_map, take_while}
+-- They depend on the term, on the offset where its text starts in the whole text, and on how each
+-- raw kind is called. Lines are relations, since the library does not say which characters past
+-- ASCII it writes as their codes: `IsEscape` says what it leaves open.
+use Rattle.std.specs.Prelude.{◌≡◌, ℕ, ◌+◌, ◌*◌, ◌<◌, ◌≤◌, ◌⊎◌, ◌&&◌, ◌==◌, not, Bool, if◌then◌else◌}
+use Rattle.std.specs.Prelude.{nat_lt, nat_le, List, [], ◌∷◌, ◌++◌, length, take, drop, replicate}
+use Rattle.std.specs.Prelude.{decimal, codes, chars, Option, Some, None}
+use Rattle.std.specs.List.{take_while}
+use Rattle.std.specs.Char.{encode_utf8}
+use Rattle.std.specs.Char.Escape.{backslash, escape_unicode}
 use Rattle.std.specs.Fmt.{debug_escape}
-use Rattle.serde_json.specs.Data.{Data, null, number, unsigned, string, array, object, member, no_members}
+use Rattle.serde_json.specs.Data.{Data, null, number, unsigned, string, array, object, member}
+use Rattle.serde_json.specs.Data.{no_members}
 use Rattle.serde_json.specs.View.{items_of}
 use Rattle.rowan_green.specs.declared.utility_types.NodeOrToken.TheVariants.{Node, Token}
-use Rattle.rowan_green.specs.Term.{TokenTerm, NodeTerm, node, Forest, empty, node_then, token_then, Term, node_kind, term_kind, node_len, token_len}
+use Rattle.rowan_green.specs.Term.{TokenTerm, NodeTerm, node, Forest, empty, node_then, token_then}
+use Rattle.rowan_green.specs.Term.{Term, node_kind, term_kind, node_len, token_len}
 use Rattle.rowan_green.specs.Path.{offset}
 use Rattle.rowan_green.specs.Span.{Span}
 use Rattle.rowan_cursor.specs.Cursor.{Cursor, term_at}
 
 -- how raw kinds are called, by the kinds that they mean
-abbrev pub called : {Kind : Type 0} → (Kind → List ℕ) → (ℕ → Kind) → ℕ → List ℕ
-called name meaning raw = name (meaning raw)
+abbrev pub raw_name : {Kind : Type 0} → (Kind → List ℕ) → (ℕ → Kind) → ℕ → List ℕ
+raw_name name meaning raw = name (meaning raw)
 
 -- where a text of a length lies
 abbrev pub extent : ℕ → ℕ → Span
 extent start len = record { start = start; end = start + len }
 
+-- new is old, and behind it one of these texts
+abbrev pub Adds : (List ℕ → Type 0) → (old new : List ℕ) → Type 0
+Adds Is old new = (added : List ℕ) × Is added × (new ≡ old ++ added)
+
 -- ---- texts in quotes
+
+-- a text of so many bytes is long
+abbrev pub long_length : ℕ
+long_length = 25
+
+-- the first byte at which a long text may be cut
+abbrev pub first_cut : ℕ
+first_cut = 21
+
+abbrev pub is_long : List ℕ → Bool
+is_long text = nat_le long_length (length text)
 
 -- a byte that goes on with a character
 abbrev pub goes_on : ℕ → Bool
 goes_on byte = nat_le 128 byte && nat_lt byte 192
 
--- the part of a text before the first border of characters at byte 21 or later: 21 bytes, and what
--- goes on with the character there
-abbrev pub beginning : List ℕ → List ℕ
-beginning text = take 21 text ++ take_while goes_on (drop 21 text)
+-- the part of a text before the first border of characters from the first cut on
+abbrev pub front_of : List ℕ → List ℕ
+front_of text = take first_cut text ++ take_while goes_on (drop first_cut text)
 
--- what is shown of a text: all of it, if it has fewer than 25 bytes; else its beginning and points
-abbrev pub shown : List ℕ → List ℕ
-shown text = if nat_lt (length text) 25 then text else beginning text ++ codes " ..."
+-- the part of a text that stands in quotes, and what stands there behind it
+abbrev pub visible_part : List ℕ → List ℕ
+visible_part text = if is_long text then front_of text else text
 
--- a byte that stands for itself between quotes
+abbrev pub points_of : List ℕ → List ℕ
+points_of text = if is_long text then codes " ..." else []
+
+-- the code of `"`
+abbrev pub double_quote : ℕ
+double_quote = 34
+
+-- what stands in quotes for a character: its escape in ASCII; past ASCII the character itself or
+-- its code, as in `\u{ad}`, and nothing says which
+abbrev pub IsEscape : (character : ℕ) (escape : List ℕ) → Type 0
+IsEscape character escape = (character < 128 → escape ≡ debug_escape double_quote character)
+    × (128 ≤ character → (escape ≡ encode_utf8 character) ⊎ (escape ≡ escape_unicode character))
+
+-- what stands in quotes for characters, one behind the other
+abbrev pub AreEscapes : (characters escapes : List ℕ) → Type 0
+AreEscapes [] escapes = escapes ≡ []
+AreEscapes (character ∷ characters) escapes = (first : List ℕ) × (rest : List ℕ)
+    × IsEscape character first × AreEscapes characters rest × (escapes ≡ first ++ rest)
+
+-- a character that stands for itself in quotes: one of ASCII that prints, but `"` and the backslash
 abbrev pub is_plain : ℕ → Bool
-is_plain byte = nat_le 32 byte && nat_le byte 126 && not (byte == 34) && not (byte == 92)
-
--- an ASCII text in quotes
-abbrev pub quoted : List ℕ → List ℕ
-quoted text = codes "\"" ++ flat_map (debug_escape 34) text ++ codes "\""
+is_plain character = nat_le 32 character && nat_le character 126
+    && not (character == double_quote) && not (character == backslash)
 
 -- ---- lines
 
@@ -54,53 +89,67 @@ headline kind range = kind ++ codes "@" ++ decimal range.start ++ codes ".." ++ 
 abbrev pub node_line : (ℕ → List ℕ) → ℕ → NodeTerm → List ℕ
 node_line name start n = headline (name (node_kind n)) (extent start (node_len n))
 
-abbrev pub token_line : (ℕ → List ℕ) → ℕ → TokenTerm → List ℕ
-token_line name start t =
-    headline (name t.kind) (extent start (token_len t)) ++ codes " " ++ quoted (shown t.text)
+-- the line of a text of a kind and a range: the headline, and the text in quotes
+pub record IsTextLine (kind : List ℕ) (range : Span) (text line : List ℕ) : Type 0 where
+  pub inside : List ℕ
+  pub escapes : AreEscapes (chars (visible_part text)) inside
+  pub whole : line ≡ headline kind range ++ codes " \"" ++ inside ++ points_of text ++ codes "\""
+
+abbrev pub IsTokenLine : (ℕ → List ℕ) → ℕ → TokenTerm → List ℕ → Type 0
+IsTokenLine name start t line = IsTextLine (name t.kind) (extent start (token_len t)) t.text line
 
 -- a line at a level, with two spaces for each level and the newline
-abbrev pub indented : ℕ → List ℕ → List ℕ
-indented level line = replicate (2 * level) 32 ++ line ++ codes "\n"
+abbrev pub line_at : ℕ → List ℕ → List ℕ
+line_at level line = replicate (2 * level) 32 ++ line ++ codes "\n"
 
 abbrev mutual
-  -- the lines of a node and all that is in it, from the offset and at the level of the node
-  pub node_lines : (ℕ → List ℕ) → ℕ → ℕ → NodeTerm → List ℕ
-  node_lines name start level (node k f) =
-      indented level (node_line name start (node k f)) ++ forest_lines name start (level + 1) f
+  -- the lines of a node and of all that is in it, from the offset and at the level of the node
+  pub AreNodeLines : (ℕ → List ℕ) → ℕ → ℕ → NodeTerm → List ℕ → Type 0
+  AreNodeLines name start level (node k f) lines = (below : List ℕ)
+      × AreForestLines name start (level + 1) f below
+      × (lines ≡ line_at level (node_line name start (node k f)) ++ below)
 
-  pub forest_lines : (ℕ → List ℕ) → ℕ → ℕ → Forest → List ℕ
-  forest_lines name start level empty = []
-  forest_lines name start level (node_then n f) =
-      node_lines name start level n ++ forest_lines name (start + node_len n) level f
-  forest_lines name start level (token_then t f) =
-      indented level (token_line name start t) ++ forest_lines name (start + token_len t) level f
+  pub AreForestLines : (ℕ → List ℕ) → ℕ → ℕ → Forest → List ℕ → Type 0
+  AreForestLines name start level empty lines = lines ≡ []
+  AreForestLines name start level (node_then n f) lines = (own : List ℕ) × (rest : List ℕ)
+      × AreNodeLines name start level n own
+      × AreForestLines name (start + node_len n) level f rest
+      × (lines ≡ own ++ rest)
+  AreForestLines name start level (token_then t f) lines = (own : List ℕ) × (rest : List ℕ)
+      × IsTokenLine name start t own
+      × AreForestLines name (start + token_len t) level f rest
+      × (lines ≡ line_at level own ++ rest)
 
-abbrev pub term_line : (ℕ → List ℕ) → ℕ → Term → List ℕ
-term_line name start (Node n) = node_line name start n
-term_line name start (Token t) = token_line name start t
+abbrev pub IsTermLine : (ℕ → List ℕ) → ℕ → Term → List ℕ → Type 0
+IsTermLine name start (Node n) line = line ≡ node_line name start n
+IsTermLine name start (Token t) line = IsTokenLine name start t line
 
-abbrev pub term_lines : (ℕ → List ℕ) → ℕ → Term → List ℕ
-term_lines name start (Node n) = node_lines name start 0 n
-term_lines name start (Token t) = indented 0 (token_line name start t)
+abbrev pub AreTermLines : (ℕ → List ℕ) → ℕ → ℕ → Term → List ℕ → Type 0
+AreTermLines name start level (Node n) lines = AreNodeLines name start level n lines
+AreTermLines name start level (Token t) lines = (line : List ℕ)
+    × IsTokenLine name start t line × (lines ≡ line_at level line)
 
--- what is printed of a term, if there is one
-abbrev pub printed_of : (Term → List ℕ) → Option Term → List ℕ
-printed_of print None = []
-printed_of print (Some t) = print t
+-- this is printed of a term, if there is one
+abbrev pub IsPrinted : (Term → List ℕ → Type 0) → Option Term → List ℕ → Type 0
+IsPrinted Prints None text = text ≡ []
+IsPrinted Prints (Some t) text = Prints t text
 
 -- the line of what stands at a cursor
-abbrev pub debug_line : (ℕ → List ℕ) → Cursor → List ℕ
-debug_line name c = printed_of (term_line name (offset (Node c.root) c.path)) (term_at c)
+abbrev pub IsDebugLine : (ℕ → List ℕ) → Cursor → List ℕ → Type 0
+IsDebugLine name c line =
+    IsPrinted (IsTermLine name (offset (Node c.root) c.path)) (term_at c) line
 
 -- the lines of what stands at a cursor and of all that is in it
-abbrev pub debug_tree : (ℕ → List ℕ) → Cursor → List ℕ
-debug_tree name c = printed_of (term_lines name (offset (Node c.root) c.path)) (term_at c)
+abbrev pub IsDebugTree : (ℕ → List ℕ) → Cursor → List ℕ → Type 0
+IsDebugTree name c lines =
+    IsPrinted (AreTermLines name (offset (Node c.root) c.path) 0) (term_at c) lines
 
 -- ---- JSON
 
 -- a range, as the list of its start and its end
 abbrev pub range_json : Span → Data
-range_json range = array (items_of (number (unsigned range.start) ∷ number (unsigned range.end) ∷ []))
+range_json range =
+    array (items_of (number (unsigned range.start) ∷ number (unsigned range.end) ∷ []))
 
 -- a node of a kind, with the values of its children
 abbrev pub node_object : List ℕ → Span → List Data → Data
@@ -136,6 +185,7 @@ abbrev pub term_json : (ℕ → List ℕ) → ℕ → Term → Data
 term_json name start (Node n) = node_json name start n
 term_json name start (Token t) = token_json name start t
 
+-- the value of a term, if there is one
 abbrev pub json_of : (Term → Data) → Option Term → Data
 json_of value None = null
 json_of value (Some t) = value t
@@ -144,6 +194,10 @@ json_of value (Some t) = value t
 abbrev pub tree_json : (ℕ → List ℕ) → Cursor → Data
 tree_json name c = json_of (term_json name (offset (Node c.root) c.path)) (term_at c)
 
+abbrev pub term_name : (ℕ → List ℕ) → Option Term → List ℕ
+term_name name None = []
+term_name name (Some t) = name (term_kind t)
+
 -- how the kind of what stands at a cursor is called
-abbrev pub kind_called : (ℕ → List ℕ) → Cursor → List ℕ
-kind_called name c = printed_of (λ t. name (term_kind t)) (term_at c)
+abbrev pub kind_name : (ℕ → List ℕ) → Cursor → List ℕ
+kind_name name c = term_name name (term_at c)

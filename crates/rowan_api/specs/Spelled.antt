@@ -1,4 +1,5 @@
--- JSON as it is written: the tokens of values, and what is still to be written of nodes that are open.
+-- JSON as it is written: the tokens of values, and what is still to be written of nodes that are
+-- open.
 use Rattle.std.specs.Prelude.{◌≡◌, ℕ, ◌+◌, List, [], ◌∷◌, ◌++◌, codes, decimal}
 use Rattle.json.specs.Token as json
 use Rattle.json.specs.Tree.{json_tokens}
@@ -7,7 +8,7 @@ use Rattle.serde_json.specs.Data.{Data}
 use Rattle.serde_json.specs.Written.{outline}
 use Rattle.rowan_green.specs.Span.{Span}
 use Rattle.rowan_green.specs.Term.{Term, node_kind, node_len, term_len}
-use Rattle.rowan_api.specs.Opened.{left, next_start}
+use Rattle.rowan_api.specs.Opened.{children_left, next_start}
 use Rattle.rowan_api.specs.Printed.{extent, term_json}
 use Rattle.rowan_api.specs.declared.api.open_node.OpenNode.{OpenNode}
 
@@ -34,12 +35,12 @@ values_tokens [] = []
 values_tokens (d ∷ ds) = value_tokens d ++ values_tokens ds
 
 -- where the value of a node begins, up to those of its children
-abbrev pub begun : List json.Token
-begun = json.begin_object ∷ json.key (codes "children") ∷ json.begin_array ∷ []
+abbrev pub begin_tokens : List json.Token
+begin_tokens = json.begin_object ∷ json.key (codes "children") ∷ json.begin_array ∷ []
 
 -- where the value of a node of a kind and a range ends, behind those of its children
-abbrev pub ended : List ℕ → Span → List json.Token
-ended kind range = json.end_array ∷ kind_tokens kind ++ range_tokens range
+abbrev pub end_tokens : List ℕ → Span → List json.Token
+end_tokens kind range = json.end_array ∷ kind_tokens kind ++ range_tokens range
 
 -- the values of terms side by side, the first of which starts at the offset
 abbrev pub values_from : (ℕ → List ℕ) → ℕ → List Term → List Data
@@ -47,11 +48,12 @@ values_from name start [] = []
 values_from name start (t ∷ ts) =
     term_json name start t ∷ values_from name (start + term_len t) ts
 
--- what is still to be written of a node that is open: the values of the children that are left, and its end
+-- what is still to be written of a node that is open: the values of the children that are left, and
+-- its end
 abbrev pub left_tokens : (ℕ → List ℕ) → OpenNode → List json.Token
 left_tokens name n =
-    values_tokens (values_from name (next_start n) (left n))
-    ++ ended (name (node_kind n.green.now)) (extent n.start (node_len n.green.now))
+    values_tokens (values_from name (next_start n) (children_left n))
+    ++ end_tokens (name (node_kind n.green.now)) (extent n.start (node_len n.green.now))
 
 -- of all of them, the innermost first
 abbrev pub open_tokens : (ℕ → List ℕ) → List OpenNode → List json.Token

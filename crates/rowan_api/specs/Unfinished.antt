@@ -5,7 +5,7 @@ use Rattle.serde_json.specs.View.{view}
 use Rattle.rowan_green.specs.declared.utility_types.NodeOrToken.TheVariants.{Node, Token}
 use Rattle.rowan_cursor.specs.Cursor.{text_range}
 use Rattle.rowan_cursor.specs.Moves.{Element}
-use Rattle.rowan_api.specs.Printed.{kind_called, node_object, tree_json}
+use Rattle.rowan_api.specs.Printed.{kind_name, node_object, tree_json}
 use Rattle.rowan_api.specs.declared.api.json_value.Draft.{Draft}
 
 -- of the innermost open node, and of each node around it, outermost first
@@ -20,15 +20,15 @@ values_of d = record {
 }
 
 -- a node that is entered is open and has no values yet; a token is finished
-abbrev pub entered : (ℕ → List ℕ) → Element → Unfinished → Unfinished
-entered name (Node c) u = record { inner = []; outer = u.outer ++ u.inner ∷ [] }
-entered name (Token c) u = record { inner = u.inner ++ tree_json name c ∷ []; outer = u.outer }
+abbrev pub after_enter : (ℕ → List ℕ) → Element → Unfinished → Unfinished
+after_enter name (Node c) u = record { inner = []; outer = u.outer ++ u.inner ∷ [] }
+after_enter name (Token c) u = record { inner = u.inner ++ tree_json name c ∷ []; outer = u.outer }
 
 -- the innermost values, of the node that is left, become one of those around it
-abbrev pub left : (ℕ → List ℕ) → Element → Unfinished → Unfinished
-left name (Token c) u = u
-left name (Node c) u = record {
+abbrev pub after_leave : (ℕ → List ℕ) → Element → Unfinished → Unfinished
+after_leave name (Token c) u = u
+after_leave name (Node c) u = record {
   inner = slice_index_or u.outer (length u.outer - 1) []
-      ++ node_object (kind_called name c) (text_range c) u.inner ∷ [];
+      ++ node_object (kind_name name c) (text_range c) u.inner ∷ [];
   outer = take (length u.outer - 1) u.outer;
 }

@@ -1,10 +1,12 @@
 //! Languages, and the cursors of their trees.
 //!
-//! A typed cursor is a raw one of `cursor`, with the kinds of a [`Language`]. To contracts both are the same value, a root and a
-//! path, and `From` turns each into the other without a change, as `from_raw` and `into_raw` do for elements. So each call of a
-//! typed cursor has the clauses of the raw call of its name, and what is proved of the raw cursors holds of the typed ones of
-//! every language. Only `kind` answers otherwise: the kind that the raw kind means. A typed cursor takes no more memory than the
-//! raw one, and a typed call does no more than the raw call and this reading of its answer.
+//! A typed cursor is a raw one of `cursor`, with the kinds of a [`Language`]. To contracts both are
+//! the same value, a root and a path, and `From` turns each into the other without a change, as
+//! `from_raw` and `into_raw` do for elements. So each call of a typed cursor has the clauses of the
+//! raw call of its name, and what is proved of the raw cursors holds of the typed ones of every
+//! language. Only `kind` answers otherwise: the kind that the raw kind means. A typed cursor takes
+//! no more memory than the raw one, and a typed call does no more than the raw call and this
+//! reading of its answer.
 
 mod element;
 mod json_text;

@@ -11,14 +11,16 @@ pub fn raw_kind_means_its_kind<L: Language>(kind: L::Kind) -> L::Kind
     L::kind_from_raw(L::kind_to_raw(kind))
 }
 
-/// A node or token that is given the kinds of a language is the same cursor: it has the same root, and the same path in it.
+/// A node or token that is given the kinds of a language is the same cursor: it has the same root,
+/// and the same path in it.
 pub fn typed_element_is_the_raw_one<L: Language>(raw: cursor::SyntaxElement) -> SyntaxElement<L>
     ensures { result ≡ raw }
 {
     SyntaxElement::from_raw(raw)
 }
 
-/// A node or token that loses the kinds of its language is the same cursor. So the two conversions undo each other.
+/// A node or token that loses the kinds of its language is the same cursor. So the two conversions
+/// undo each other.
 pub fn raw_element_is_the_typed_one<L: Language>(typed: SyntaxElement<L>) -> cursor::SyntaxElement
     ensures { result ≡ typed }
 {

@@ -238,7 +238,7 @@ fn push_element(
 }
 
 fn length_text(alloc: Global, len: TextSize, text: &str) -> Result<String, AllocError> {
-    let quoted = operand::quoted(alloc, text)?;
+    let quoted = operand::quote(alloc, text)?;
     format!(in alloc; "Text {len:?} {quoted}")
 }
 
@@ -246,13 +246,13 @@ fn chunks_text(alloc: Global, chunks: &[String]) -> Result<String, AllocError> {
     let mut text = String::from_str(alloc, "Chunks")?;
     for chunk in chunks {
         text.push_str("; ")?;
-        text.push_str(operand::quoted(alloc, chunk.as_str())?.as_str())?;
+        text.push_str(operand::quote(alloc, chunk.as_str())?.as_str())?;
     }
     Ok(text)
 }
 
 fn quoted_text(alloc: Global, word: &str, text: &str) -> Result<String, AllocError> {
-    let quoted = operand::quoted(alloc, text)?;
+    let quoted = operand::quote(alloc, text)?;
     format!(in alloc; "{word}{quoted}")
 }
 
@@ -262,6 +262,6 @@ fn char_text(alloc: Global, found: Option<char>) -> Result<String, AllocError> {
     };
     let mut text = String::new(alloc);
     text.push(character)?;
-    let quoted = operand::quoted(alloc, text.as_str())?;
+    let quoted = operand::quote(alloc, text.as_str())?;
     format!(in alloc; "Char {quoted}")
 }

@@ -38,7 +38,7 @@ pub fn build<'cache, 's>(
         let answer = match &line.instruction {
             Instruction::Finish => match builder.finish() {
                 Ok(tree) => {
-                    answers.push(line.answered(Answer::Finished(tree.clone()?)))?;
+                    answers.push(line.with_answer(Answer::Finished(tree.clone()?)))?;
                     return Ok(Built::Finished(tree, rest));
                 }
                 Err(unfinished) => {
@@ -54,7 +54,7 @@ pub fn build<'cache, 's>(
             | Instruction::Step(_)
             | Instruction::EditList(_) => Answer::NoTree,
         };
-        answers.push(line.answered(answer))?;
+        answers.push(line.with_answer(answer))?;
     }
     run.make(&mut builder, answers)?;
     Ok(Built::Open)

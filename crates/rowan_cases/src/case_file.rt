@@ -22,7 +22,8 @@ pub struct Case<'a> {
     pub lines: Vec<Line>,
 }
 
-/// The line `Cache N L`: the builder borrows the cache of this number, which is made with this limit.
+/// The line `Cache N L`: the builder borrows the cache of this number, which is made with this
+/// limit.
 #[derive(Clone, Copy)]
 pub struct CacheLine {
     pub line: usize,
@@ -39,7 +40,7 @@ pub struct Line {
 
 impl Line {
     /// An answer to this line.
-    pub fn answered<'a>(&self, answer: Answer<'a>) -> Answered<'a> {
+    pub fn with_answer<'a>(&self, answer: Answer<'a>) -> Answered<'a> {
         Answered {
             line: self.number,
             answer,
@@ -48,7 +49,8 @@ impl Line {
 }
 
 impl<'a> CaseFile<'a> {
-    /// Reads a case file. A line that is no instruction is an error that names the line, and then nothing is run.
+    /// Reads a case file. A line that is no instruction is an error that names the line, and then
+    /// nothing is run.
     pub fn parse(alloc: Global, text: &'a str) -> Result<CaseFile<'a>> {
         let mut file = CaseFile {
             cases: Vec::new(alloc),
@@ -85,7 +87,7 @@ impl<'a> CaseFile<'a> {
 
 impl<'a> Case<'a> {
     /// The answer to its first line.
-    pub fn begun(&self) -> Answered<'a> {
+    pub fn beginning(&self) -> Answered<'a> {
         Answered {
             line: self.number,
             answer: Answer::Case(self.name),

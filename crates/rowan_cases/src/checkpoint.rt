@@ -1,4 +1,5 @@
-//! Checkpoints by their numbers: a builder that holds so many tokens gives the checkpoint of that number.
+//! Checkpoints by their numbers: a builder that holds so many tokens gives the checkpoint of that
+//! number.
 
 use rowan::{Checkpoint, Fault, GreenNodeBuilder, SyntaxKind};
 use std::alloc::Global;

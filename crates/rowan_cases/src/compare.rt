@@ -9,7 +9,8 @@ use std::fmt;
 pub enum Comparison<'a> {
     /// All answers are equal, so many.
     Equal(usize),
-    /// The answer to this line of the case file is another one. There is nothing on a side that has fewer answers.
+    /// The answer to this line of the case file is another one. There is nothing on a side that has
+    /// fewer answers.
     Other {
         line: Option<usize>,
         wanted: Option<&'a str>,

@@ -5,8 +5,8 @@ use rowan::NodeOrToken;
 use rowan::cursor::SyntaxElement;
 use std::alloc::{AllocError, Global};
 
-/// Writes what an element is: a node or a token, its raw kind, its range, its index among all children, and the text of a
-/// token.
+/// Writes what an element is: a node or a token, its raw kind, its range, its index among all
+/// children, and the text of a token.
 pub fn push_element(
     alloc: Global,
     text: &mut String,
@@ -19,7 +19,7 @@ pub fn push_element(
         }
         NodeOrToken::Token(token) => {
             let (kind, range, index) = (token.kind().0, token.text_range(), token.index());
-            let quoted = operand::quoted(alloc, token.text())?;
+            let quoted = operand::quote(alloc, token.text())?;
             format!(in alloc; "token {kind} {range:?} {index} {quoted}")?
         }
     };

@@ -73,16 +73,16 @@ pub fn support<'a>(
     };
     let parent: SyntaxNode<Lang> = SyntaxNode::from(node.clone()?);
     match support {
-        Support::Child(wrapper) => Ok(found(wrapper.child(&parent)?)),
+        Support::Child(wrapper) => Ok(element_or_nowhere(wrapper.child(&parent)?)),
         Support::Children(wrapper) => Ok(Answer::Elements(wrapper.children(alloc, &parent)?)),
         Support::Token(kind) => {
             let token = support::token(&parent, kind)?;
-            Ok(found(token.map(|token| NodeOrToken::Token(token.into()))))
+            Ok(element_or_nowhere(token.map(|token| NodeOrToken::Token(token.into()))))
         }
     }
 }
 
-fn found<'a>(element: Option<SyntaxElement>) -> Answer<'a> {
+fn element_or_nowhere<'a>(element: Option<SyntaxElement>) -> Answer<'a> {
     match element {
         Some(element) => Answer::Element(element),
         None => Answer::Nowhere,

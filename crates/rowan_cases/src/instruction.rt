@@ -32,8 +32,8 @@ pub enum Instruction {
 }
 
 impl Instruction {
-    /// Reads an instruction: its name, a space and its operands. A line is refused where its first word names none, and
-    /// where the operands are not those of the instruction.
+    /// Reads an instruction: its name, a space and its operands. A line is refused where its first
+    /// word names none, and where the operands are not those of the instruction.
     pub fn parse(alloc: Global, line: &str) -> Result<Instruction> {
         let (name, operands) = line.split_once(' ').unwrap_or((line, ""));
         if let Some(call) = Call::parse(alloc, name, operands)? {

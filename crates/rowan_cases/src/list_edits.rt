@@ -31,8 +31,9 @@ impl<'s> ListEdits<'s> {
         Ok(())
     }
 
-    /// Makes the edits that were added, from the text of an element's tree on, answers them, and goes to the last root. Each edit
-    /// is made in one list with those before it that were not refused.
+    /// Makes the edits that were added, from the text of an element's tree on, answers them, and
+    /// goes to the last root. Each edit is made in one list with those before it that were not
+    /// refused.
     pub fn make(
         &mut self,
         here: &mut SyntaxElement,
@@ -57,7 +58,7 @@ impl<'s> ListEdits<'s> {
                     Answer::Refused(fault)
                 }
             };
-            answers.push(line.answered(answer))?;
+            answers.push(line.with_answer(answer))?;
         }
         Ok(())
     }

@@ -1,8 +1,9 @@
 //! Answers case files by public calls of the library, and compares answers with stored ones.
 //!
-//! Without arguments it reads a case file on standard input and writes its answers. Each argument names stored answers: for
-//! each it prints how many answers are equal, or which is the first other one, and then it ends with status 1. After `other:`
-//! it is the other way round: it ends with status 1 where all are equal. `docs/CASES.md` describes all of this.
+//! Without arguments it reads a case file on standard input and writes its answers. Each argument
+//! names stored answers: for each it prints how many answers are equal, or which is the first other
+//! one, and then it ends with status 1. After `other:` it is the other way round: it ends with status
+//! 1 where all are equal. `crates/rowan_cases/README.md` describes all of this.
 #![tactic(auto)]
 
 mod answer;

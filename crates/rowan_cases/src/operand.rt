@@ -99,6 +99,6 @@ pub fn character(alloc: Global, quoted: &str) -> Result<char> {
 }
 
 /// A text as a JSON string.
-pub fn quoted(alloc: Global, text: &str) -> Result<String, AllocError> {
+pub fn quote(alloc: Global, text: &str) -> Result<String, AllocError> {
     Value::String(String::from_str(alloc, text)?).to_string(alloc)
 }

@@ -1,4 +1,5 @@
-//! Stored runs of the program rowan, and how they come out today, over an input and an output in memory.
+//! Stored runs of the program rowan, and how they come out today, over an input and an output in
+//! memory.
 
 use crate::stored::{read_bytes, read_text};
 use anyhow::{Context, Result};

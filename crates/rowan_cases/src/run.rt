@@ -1,4 +1,5 @@
-//! The builder calls of a case, which are made as scripts: runs of calls, each with the outcomes of all.
+//! The builder calls of a case, which are made as scripts: runs of calls, each with the outcomes of
+//! all.
 
 use crate::answer::{Answer, Answered};
 use crate::case_file::Line;
@@ -54,7 +55,8 @@ impl<'s> Run<'s> {
                     script::Call::StartNodeAt(mark, *kind)
                 }
             },
-            // All checkpoints past the elements of the builder are refused alike, so one of them stands for a far one.
+            // All checkpoints past the elements of the builder are refused alike, so one of them
+            // stands for a far one.
             Call::StartNodeAtCheckpoint(tokens, kind) => {
                 let tokens = (*tokens as usize).min(self.too_many);
                 let checkpoint = checkpoint::with_tokens(self.alloc, tokens)?;
@@ -74,7 +76,7 @@ impl<'s> Run<'s> {
         let outcomes = replay(self.alloc, builder, calls.as_slice())?;
         for (line, outcome) in lines.into_iter().zip(outcomes) {
             let answer = self.answer(outcome)?;
-            answers.push(line.answered(answer))?;
+            answers.push(line.with_answer(answer))?;
         }
         Ok(())
     }

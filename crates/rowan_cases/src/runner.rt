@@ -76,7 +76,7 @@ fn answer_cases<'s>(
 ) -> Result<(), Fault> {
     let mut caches = Vec::new(alloc);
     for case in file.cases.as_slice() {
-        answers.push(case.begun())?;
+        answers.push(case.beginning())?;
         match &case.cache {
             None => {
                 let mut own = NodeCache::new(alloc);
@@ -102,7 +102,7 @@ fn answer_cases_over<'s>(
     answers: &mut Vec<Answered<'s>>,
 ) -> Result<(), Fault> {
     for case in file.cases.as_slice() {
-        answers.push(case.begun())?;
+        answers.push(case.beginning())?;
         answer_lines(alloc, cache, case.lines.as_slice(), answers)?;
     }
     Ok(())
@@ -137,7 +137,7 @@ fn answer_lines<'s>(
     lines: &'s [Line],
     answers: &mut Vec<Answered<'s>>,
 ) -> Result<(), Fault> {
-    match built(alloc, cache, lines, answers)? {
+    match answer_building(alloc, cache, lines, answers)? {
         Built::Finished(tree, rest) => answer_steps(alloc, cache, tree, rest, answers),
         Built::Parse(line, text, rest) => match parse(alloc, cache, line, text, answers)? {
             Some(tree) => answer_steps(alloc, cache, tree, rest, answers),
@@ -148,7 +148,7 @@ fn answer_lines<'s>(
 }
 
 /// Answers the building part of a case.
-fn built<'s>(
+fn answer_building<'s>(
     alloc: Global,
     cache: &mut NodeCache,
     lines: &'s [Line],
@@ -162,8 +162,8 @@ fn built<'s>(
     )
 }
 
-/// Answers the lines behind the building part. Steps of which scripts are made, and edits of which lists are made, are put off to
-/// the next other line.
+/// Answers the lines behind the building part. Steps of which scripts are made, and edits of which
+/// lists are made, are put off to the next other line.
 fn answer_steps<'s>(
     alloc: Global,
     cache: &NodeCache,
@@ -192,7 +192,7 @@ fn answer_steps<'s>(
                     Instruction::Step(step) => standing.answer(alloc, step)?,
                     _ => Answer::NoBuilder,
                 };
-                answers.push(line.answered(answer))?;
+                answers.push(line.with_answer(answer))?;
             }
         }
     }
@@ -215,7 +215,7 @@ fn parse<'s>(
         }
         Err(fault) => (None, Answer::Refused(fault)),
     };
-    answers.push(line.answered(answer))?;
+    answers.push(line.with_answer(answer))?;
     Ok(tree)
 }
 
@@ -233,7 +233,7 @@ fn answer_without_tree<'s>(
             }
             Instruction::Call(_) | Instruction::Finish | Instruction::Parse(_) => Answer::NoBuilder,
         };
-        answers.push(line.answered(answer))?;
+        answers.push(line.with_answer(answer))?;
     }
     Ok(())
 }

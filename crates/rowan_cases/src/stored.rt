@@ -10,7 +10,8 @@ use std::alloc::Global;
 use std::fs;
 use std::rt::Files;
 
-/// Compares what an argument names. The answers are to be equal to the stored ones, but after `other:` they are to differ.
+/// Compares what an argument names. The answers are to be equal to the stored ones, but after
+/// `other:` they are to differ.
 pub fn is_as_wanted(rt: &(impl Files + Print + AllocGlobal), argument: &str) -> Result<bool> {
     match argument.strip_prefix("other:") {
         Some(name) => Ok(!is_equal(rt, name)?),
@@ -18,8 +19,9 @@ pub fn is_as_wanted(rt: &(impl Files + Print + AllocGlobal), argument: &str) -> 
     }
 }
 
-/// Compares what a name stands for, and prints what was found: `NAME` is a case file, `shared:LIMIT:NAME` one whose cases share a
-/// cache, `FOLDER.run` whole runs of the program, and `FOLDER.COMMAND` texts with what the program prints of them.
+/// Compares what a name stands for, and prints what was found: `NAME` is a case file,
+/// `shared:LIMIT:NAME` one whose cases share a cache, `FOLDER.run` whole runs of the program, and
+/// `FOLDER.COMMAND` texts with what the program prints of them.
 fn is_equal(rt: &(impl Files + Print + AllocGlobal), argument: &str) -> Result<bool> {
     if let Some(shared) = argument.strip_prefix("shared:") {
         let (limit, name) = shared.split_once(':').context("a limit is missing")?;
@@ -41,14 +43,17 @@ fn is_case_file_equal(
 ) -> Result<bool> {
     let text = read_text(rt, name, "case")?;
     let wanted = read_text(rt, name, "out")?;
-    let (comparison, kept) = compared(rt.alloc(), text.as_str(), wanted.as_str(), caches).context(
-        format_args!("answering {name}.case"),
-    )?;
+    let (comparison, kept) = compare_answers(
+        rt.alloc(),
+        text.as_str(),
+        wanted.as_str(),
+        caches,
+    ).context(format_args!("answering {name}.case"))?;
     println!(rt; "{argument}: {comparison}{kept}")?;
     Ok(matches!(comparison, Comparison::Equal(_)))
 }
 
-fn compared<'a>(
+fn compare_answers<'a>(
     alloc: Global,
     text: &str,
     wanted: &'a str,

@@ -49,13 +49,14 @@ impl<'s> Trace<'s> {
         let reports = script::trace(self.alloc, &start, steps.as_slice())?;
         for (line, report) in lines.into_iter().zip(reports.into_iter().skip(way_len)) {
             let answer = answer(here, report)?;
-            answers.push(line.answered(answer))?;
+            answers.push(line.with_answer(answer))?;
         }
         Ok(())
     }
 }
 
-/// A node, and the steps that lead from it to an element: a trace starts at a node, also where the element is a token.
+/// A node, and the steps that lead from it to an element: a trace starts at a node, also where the
+/// element is a token.
 fn way_to(alloc: Global, element: &SyntaxElement) -> Result<(SyntaxNode, Vec<Step>), Fault> {
     let mut steps = Vec::new(alloc);
     let token = match element {

@@ -1,5 +1,7 @@
 -- Walks over chunks: what is left at a token, and what a step takes from it.
-use Rattle.std.proofs.Common.{◌≡◌, ℕ, ◌+◌, ◌-◌, ◌<◌, ◌≤◌, true, false, cond, List, [], ◌∷◌, ◌++◌, map, length, filter, Option, Some, None, IfSome, inl, inr, refl, sym, ◌∙◌, ap, subst, arith, length-append}
+use Rattle.std.proofs.Common.{◌≡◌, ℕ, ◌+◌, ◌-◌, ◌<◌, ◌≤◌, true, false, cond, List, [], ◌∷◌, ◌++◌}
+use Rattle.std.proofs.Common.{map, length, filter, Option, Some, None, IfSome, inl, inr, refl, sym}
+use Rattle.std.proofs.Common.{◌∙◌, ap, subst, arith, length-append}
 use Rattle.std.specs.Prelude.{nat_le, ◌&&◌}
 use Rattle.std.specs.List.{concat}
 use Rattle.std.specs.Str.{IsCharBoundary, IsUtf8}
@@ -14,7 +16,9 @@ use Rattle.rowan_green.specs.Term.{NodeTerm, TokenTerm, Term}
 use Rattle.rowan_green.specs.Path.{Path, subterm, len_of, text_of, begins}
 use Rattle.rowan_cursor.specs.declared.table.Table.{Table}
 use Rattle.rowan_cursor.specs.declared.table.chunks.ChunkWalk.{ChunkWalk}
-use Rattle.rowan_cursor.specs.Chunks.{texts_at, remaining_leaves, remaining_texts, IsTokenInside, MayCut, IsWalk, slice_of, IsSliceOf}
+use Rattle.rowan_cursor.specs.declared.table.slice.Slice.{Slice}
+use Rattle.rowan_cursor.specs.Chunks.{texts_at, remaining_leaves, remaining_texts, IsTokenInside}
+use Rattle.rowan_cursor.specs.Chunks.{MayCut, IsWalk, slice_of, IsSliceOf}
 use Rattle.rowan_cursor.specs.Moves.{children_of, is_node, is_node_at, first_at}
 use Rattle.rowan_cursor.specs.Pass.{of_some, after, since, since_child, leaf_list, first_inside}
 use Rattle.rowan_cursor.specs.SyntaxText.{slice_text, token_texts, meets, common_part, cut_chunks}
@@ -30,15 +34,19 @@ none-first : (qs : List Path) → first_at qs ≡ None → qs ≡ []
 none-first [] e = refl
 none-first (q ∷ qs) e = absurd cc
 
-pub nothing_inside : (top : Path) (qs : List Path) → first_inside top qs ≡ None → filter (begins top) qs ≡ []
+pub nothing_inside : (top : Path) (qs : List Path) → first_inside top qs ≡ None
+    → filter (begins top) qs ≡ []
 nothing_inside top qs e = none-first (filter (begins top) qs) (sym (find-first (begins top) qs) ∙ e)
 
-pub inside-own : (root : NodeTerm) (p : Path) → filter (begins p) (since leaf_list (Some (Node root)) p) ≡ map (λ q. p ++ q) (of_some leaf_list (subterm (Node root) p))
+pub inside-own : (root : NodeTerm) (p : Path)
+    → filter (begins p) (since leaf_list (Some (Node root)) p)
+    ≡ map (λ q. p ++ q) (of_some leaf_list (subterm (Node root) p))
 inside-own root p =
     let own = map (λ q. p ++ q) (of_some leaf_list (subterm (Node root) p)) in
     let ls = after leaf_list (Some (Node root)) p in
     filter-append (begins p) own ls
-    ∙ ap (λ us. us ++ filter (begins p) ls) (all_below p (of_some leaf_list (subterm (Node root) p)))
+    ∙ ap (λ us. us ++ filter (begins p) ls) (all_below p
+    (of_some leaf_list (subterm (Node root) p)))
     ∙ ap (λ us. own ++ us) (after-outside leaf_list (Some (Node root)) p) ∙ append-nil own
 
 token_children : (t : Option Term) → is_node t ≡ false → length (children_of t) ≡ 0
@@ -47,48 +55,75 @@ token_children (Some (Node n)) h = absurd (true≢false h)
 token_children (Some (Token t)) h = refl
 
 -- a token is the first of what is left at it, and then comes what is behind it
-pub token-left : (root : NodeTerm) (top p : Path) (c : Term) → subterm (Node root) p ≡ Some c → is_node_at root p ≡ false → begins top p ≡ true → filter (begins top) (since leaf_list (Some (Node root)) p) ≡ p ∷ filter (begins top) (since_child leaf_list (Some (Node root)) p 0)
+pub token-left : (root : NodeTerm) (top p : Path) (c : Term) → subterm (Node root) p ≡ Some c
+    → is_node_at root p ≡ false → begins top p ≡ true
+    → filter (begins top) (since leaf_list (Some (Node root)) p)
+    ≡ p ∷ filter (begins top) (since_child leaf_list (Some (Node root)) p 0)
 token-left root top p c e h inside =
     let ls = after leaf_list (Some (Node root)) p in
-    let none = since_child-none leaf_list (Some (Node root)) p 0 (omega (arith, token_children (subterm (Node root) p) h)) in
-    ap (λ us. filter (begins top) (map (λ q. p ++ q) us ++ ls)) (found_token (subterm (Node root) p) c e h)
+    let none = since_child-none leaf_list (Some (Node root)) p 0
+    (omega (arith, token_children (subterm (Node root) p) h)) in
+    ap (λ us. filter (begins top) (map (λ q. p ++ q) us ++ ls))
+    (found_token (subterm (Node root) p) c e h)
     ∙ ap (λ q. filter (begins top) (q ∷ ls)) (append-nil p)
     ∙ cond-true (begins top p) (p ∷ filter (begins top) ls) (filter (begins top) ls) inside
     ∙ ap (λ us. p ∷ filter (begins top) us) (sym none)
 
 -- the text of a token is the first of what is left at it
-pub remaining_texts-token : (table : Table) (top n : ℕ) (next : Option ℕ) (t : TokenTerm) → remaining_leaves table top (Some n) ≡ path_at table n ∷ remaining_leaves table top next → subterm (Node (root_of table)) (path_at table n) ≡ Some (Token t) → remaining_texts table top (Some n) ≡ t.text ∷ remaining_texts table top next
+pub remaining_texts-token : (table : Table) (top n : ℕ) (next : Option ℕ) (t : TokenTerm)
+    → remaining_leaves table top (Some n) ≡ path_at table n ∷ remaining_leaves table top next
+    → subterm (Node (root_of table)) (path_at table n) ≡ Some (Token t)
+    → remaining_texts table top (Some n) ≡ t.text ∷ remaining_texts table top next
 remaining_texts-token table top n next t left at =
     ap (texts_at (root_of table)) left ∙ ap (λ u. text_of u ∷ remaining_texts table top next) at
 
-pub remaining_texts-step : (table : Table) (top n : ℕ) (here next : Option ℕ) (t : TokenTerm) (text : List ℕ) → here ≡ Some n → remaining_leaves table top (Some n) ≡ path_at table n ∷ remaining_leaves table top next → subterm (Node (root_of table)) (path_at table n) ≡ Some (Token t) → text ≡ t.text → remaining_texts table top here ≡ text ∷ remaining_texts table top next
+pub remaining_texts-step : (table : Table) (top n : ℕ) (here next : Option ℕ) (t : TokenTerm)
+    (text : List ℕ) → here ≡ Some n → remaining_leaves table top (Some n)
+    ≡ path_at table n ∷ remaining_leaves table top next
+    → subterm (Node (root_of table)) (path_at table n) ≡ Some (Token t) → text ≡ t.text
+    → remaining_texts table top here ≡ text ∷ remaining_texts table top next
 remaining_texts-step table top n here next t text is left at same =
-    ap (remaining_texts table top) is ∙ remaining_texts-token table top n next t left at ∙ ap (λ u. u ∷ remaining_texts table top next) (sym same)
+    ap (remaining_texts table top) is ∙ remaining_texts-token table top n next t left at
+    ∙ ap (λ u. u ∷ remaining_texts table top next) (sym same)
 
 -- Chunks that are left.
-pub chunks-skip : (range : Span) (at : ℕ) (text : List ℕ) (texts : List (List ℕ)) → meets range at text ≡ false → cut_chunks range at (text ∷ texts) ≡ cut_chunks range (at + length text) texts
+pub chunks-skip : (range : Span) (at : ℕ) (text : List ℕ) (texts : List (List ℕ))
+    → meets range at text ≡ false → cut_chunks range at (text ∷ texts)
+    ≡ cut_chunks range (at + length text) texts
 chunks-skip range at text texts h =
-    ap (λ b. cond b (common_part range at text ∷ []) [] ++ cut_chunks range (at + length text) texts) h
+    ap (λ b. cond b (common_part range at text ∷ []) []
+    ++ cut_chunks range (at + length text) texts) h
 
-pub chunks-take : (range : Span) (at : ℕ) (text : List ℕ) (texts : List (List ℕ)) → meets range at text ≡ true → cut_chunks range at (text ∷ texts) ≡ common_part range at text ∷ cut_chunks range (at + length text) texts
+pub chunks-take : (range : Span) (at : ℕ) (text : List ℕ) (texts : List (List ℕ))
+    → meets range at text ≡ true → cut_chunks range at (text ∷ texts)
+    ≡ common_part range at text ∷ cut_chunks range (at + length text) texts
 chunks-take range at text texts h =
-    ap (λ b. cond b (common_part range at text ∷ []) [] ++ cut_chunks range (at + length text) texts) h
+    ap (λ b. cond b (common_part range at text ∷ []) []
+    ++ cut_chunks range (at + length text) texts) h
 
 -- Borders.
-border-front : (s t : List ℕ) (i : ℕ) → i ≤ length s → IsCharBoundary (s ++ t) i → IsCharBoundary s i
-border-front s t i h b =
-    (h, λ l high. (let same = get_or_append_left s t 0 i l in let more = length-append s t in subst (λ x. 192 ≤ x) same (b.1 (omega arith) (subst (λ x. 128 ≤ x) (sym same) high))))
+border-front : (s t : List ℕ) (i : ℕ) → i ≤ length s → IsCharBoundary (s ++ t) i
+    → IsCharBoundary s i
+border-front s t i h b = (
+  h,
+  λ l high. (let same = get_or_append_left s t 0 i l in let more = length-append s t in
+      subst (λ x. 192 ≤ x) same (b.1 (omega arith) (subst (λ x. 128 ≤ x) (sym same) high))),
+)
 
 border-back : (s t : List ℕ) (i : ℕ) → IsCharBoundary (s ++ t) (length s + i) → IsCharBoundary t i
 border-back s t i b =
     let more = length-append s t in
-    let same = get_or-append-add s t i 0 in
-    (omega (arith, b.0), λ l high. subst (λ x. 192 ≤ x) same (b.1 (omega arith) (subst (λ x. 128 ≤ x) (sym same) high)))
+    let same = get_or-append-add s t i 0 in (
+      omega (arith, b.0),
+      λ l high. subst (λ x. 192 ≤ x) same
+          (b.1 (omega arith) (subst (λ x. 128 ≤ x) (sym same) high)),
+    )
 
 pub cut-front : (s t : List ℕ) (at o : ℕ) → MayCut (s ++ t) at o → MayCut s at o
 cut-front s t at o m =
     record {
-      border = λ l h. (let more = length-append s t in border-front s t (o - at) (omega arith) (m.border l (omega arith)));
+      border = λ l h. (let more = length-append s t in
+          border-front s t (o - at) (omega arith) (m.border l (omega arith)));
     }
 
 pub cut-back : (s t : List ℕ) (at o : ℕ) → MayCut (s ++ t) at o → MayCut t (at + length s) o
@@ -97,7 +132,8 @@ cut-back s t at o m =
       border = λ l h. (
           let more = length-append s t in
           let here : o - at ≡ length s + (o - (at + length s)) = omega arith in
-          border-back s t (o - (at + length s)) (subst (IsCharBoundary (s ++ t)) here (m.border (omega arith) (omega arith))));
+          border-back s t (o - (at + length s))
+          (subst (IsCharBoundary (s ++ t)) here (m.border (omega arith) (omega arith))));
     }
 
 -- The first of a walk.
@@ -105,54 +141,88 @@ pub len-text : (t : Option Term) → length (text_of t) ≡ len_of t
 len-text None = refl
 len-text (Some t) = refl
 
-pub remaining_texts-start : (table : Table) (top : ℕ) (next : Option ℕ) → remaining_leaves table top next ≡ remaining_leaves table top (Some top) → remaining_texts table top next ≡ token_texts (subterm (Node (root_of table)) (path_at table top))
+pub remaining_texts-start : (table : Table) (top : ℕ) (next : Option ℕ)
+    → remaining_leaves table top next ≡ remaining_leaves table top (Some top)
+    → remaining_texts table top next ≡ token_texts
+    (subterm (Node (root_of table)) (path_at table top))
 remaining_texts-start table top next left =
-    ap (texts_at (root_of table)) (left ∙ inside-own (root_of table) (path_at table top)) ∙ texts_at-below (root_of table) (path_at table top)
+    ap (texts_at (root_of table)) (left ∙ inside-own (root_of table) (path_at table top))
+    ∙ texts_at-below (root_of table) (path_at table top)
 
 -- a slice has no more bytes than an offset counts
-pub slice_fits : (table : Table) (n : ℕ) (range : Span) → IsSliceOf table n range → length (slice_text (slice_of table n range)) ≤ byte_limit
-slice_fits table n range is =
-    let there = stands_at (entries_of table) table.complete n is.node.within in
-    let e = slice_get-some (entries_of table) n is.node.within in
-    let entry = is_entry (entries_of table) table.complete n e.0 e.1 in
-    omega (arith, slice_text-len (slice_of table n range) there.0 there.1 is.slice, is.slice.from, is.slice.to, len-text (subterm (Node (root_of table)) (path_at table n)), entry.start, entry.end)
+pub slice_fits : (table : Table) (slice : Slice) → IsSliceOf table slice
+    → length (slice_text (slice_of table slice)) ≤ byte_limit
+slice_fits table slice is =
+    let there = stands_at (entries_of table) table.complete slice.node is.node.within in
+    let e = slice_get-some (entries_of table) slice.node is.node.within in
+    let entry = is_entry (entries_of table) table.complete slice.node e.0 e.1 in
+    omega (
+      arith,
+      slice_text-len (slice_of table slice) there.0 there.1 is.slice,
+      is.slice.from,
+      is.slice.to,
+      len-text (subterm (Node (root_of table)) (path_at table slice.node)),
+      entry.start,
+      entry.end,
+    )
 
 -- A step of a walk.
-pub walk_step : (table : Table) (walk : ChunkWalk) (next : Option ℕ) (at : ℕ) (text : List ℕ) → IsWalk table walk → remaining_texts table walk.node walk.next ≡ text ∷ remaining_texts table walk.node next → IfSome next (IsTokenInside table walk.node) → at ≡ walk.at + length text → IsWalk table (record walk { next = next; at = at })
+pub walk_step : (table : Table) (walk : ChunkWalk) (next : Option ℕ) (at : ℕ) (text : List ℕ)
+    → IsWalk table walk → remaining_texts table walk.slice.node walk.next
+    ≡ text ∷ remaining_texts table walk.slice.node next
+    → IfSome next (IsTokenInside table walk.slice.node) → at ≡ walk.at + length text
+    → IsWalk table (record walk { next = next; at = at })
 walk_step table walk next at text w left token there =
-    let rest = concat (remaining_texts table walk.node next) in
-    let cut : (o : ℕ) → MayCut (concat (remaining_texts table walk.node walk.next)) walk.at o → MayCut rest at o =
-    λ o m. subst (λ a. MayCut rest a o) (sym there) (cut-back text rest walk.at o (subst (λ ts. MayCut (concat ts) walk.at o) left m)) in
+    let rest = concat (remaining_texts table walk.slice.node next) in
+    let cut : (o : ℕ) → MayCut (concat (remaining_texts table walk.slice.node walk.next)) walk.at o
+    → MayCut rest at o =
+    λ o m. subst (λ a. MayCut rest a o) (sym there)
+    (cut-back text rest walk.at o (subst (λ ts. MayCut (concat ts) walk.at o) left m)) in
     record {
       within = w.within;
       token = token;
-      limit = omega (arith, w.limit, ap (λ ts. length (concat ts)) left, length-append text rest, there);
-      start_cut = cut walk.range.start w.start_cut;
-      end_cut = cut walk.range.end w.end_cut;
+      limit = omega (
+        arith,
+        w.limit,
+        ap (λ ts. length (concat ts)) left,
+        length-append text rest,
+        there,
+      );
+      start_cut = cut walk.slice.range.start w.start_cut;
+      end_cut = cut walk.slice.range.end w.end_cut;
     }
 
-pub cut_here : (table : Table) (o : ℕ) (walk : ChunkWalk) (text : List ℕ) (texts : List (List ℕ)) → MayCut (concat (remaining_texts table walk.node walk.next)) walk.at o → remaining_texts table walk.node walk.next ≡ text ∷ texts → MayCut text walk.at o
+pub cut_here : (table : Table) (o : ℕ) (walk : ChunkWalk) (text : List ℕ) (texts : List (List ℕ))
+    → MayCut (concat (remaining_texts table walk.slice.node walk.next)) walk.at o
+    → remaining_texts table walk.slice.node walk.next ≡ text ∷ texts → MayCut text walk.at o
 cut_here table o walk text texts m left =
     cut-front text (concat texts) walk.at o (subst (λ ts. MayCut (concat ts) walk.at o) left m)
 
-pub fits_here : (table : Table) (walk : ChunkWalk) (text : List ℕ) (texts : List (List ℕ)) → IsWalk table walk → remaining_texts table walk.node walk.next ≡ text ∷ texts → walk.at + length text ≤ byte_limit
+pub fits_here : (table : Table) (walk : ChunkWalk) (text : List ℕ) (texts : List (List ℕ))
+    → IsWalk table walk → remaining_texts table walk.slice.node walk.next ≡ text ∷ texts
+    → walk.at + length text ≤ byte_limit
 fits_here table walk text texts w left =
     omega (arith, w.limit, ap (λ ts. length (concat ts)) left, length-append text (concat texts))
 
 -- where the range has ended no chunk is left
-pub chunks-past : (range : Span) (at : ℕ) (texts : List (List ℕ)) → range.end < at → cut_chunks range at texts ≡ []
+pub chunks-past : (range : Span) (at : ℕ) (texts : List (List ℕ)) → range.end < at
+    → cut_chunks range at texts ≡ []
 chunks-past range at [] h = refl
 chunks-past range at (text ∷ texts) h =
-    chunks-skip range at text texts (ap (λ b. b && nat_le range.start (at + length text)) (lt-leb at range.end h)) ∙ chunks-past range (at + length text) texts (omega arith)
+    chunks-skip range at text texts (ap (λ b. b && nat_le range.start (at + length text))
+    (lt-leb at range.end h)) ∙ chunks-past range (at + length text) texts (omega arith)
 
 -- where a part may end
-pub part_end : (text : List ℕ) (at o to : ℕ) → IsUtf8 text → MayCut text at o → at ≤ o → to ≤ length text → (to < length text → to ≡ o - at) → IsCharBoundary text to
+pub part_end : (text : List ℕ) (at o to : ℕ) → IsUtf8 text → MayCut text at o → at ≤ o
+    → to ≤ length text → (to < length text → to ≡ o - at) → IsCharBoundary text to
 part_end text at o to utf8 m order within until = elim (cases_lt to (length text)) [
-  | inr end ↦ (let e : to ≡ length text = omega arith in subst (IsCharBoundary text) (sym e) (IsCharBoundary-end text))
+  | inr end ↦ (let e : to ≡ length text = omega arith in
+      subst (IsCharBoundary text) (sym e) (IsCharBoundary-end text))
   | inl l ↦ (
       let same = until l in
       elim (cases_lt 0 to) [
         | inl some ↦ subst (IsCharBoundary text) (sym same) (m.border (omega arith) (omega arith))
-        | inr none ↦ (let e : to ≡ 0 = omega arith in subst (IsCharBoundary text) (sym e) (IsCharBoundary-start text utf8))
+        | inr none ↦ (let e : to ≡ 0 = omega arith in
+            subst (IsCharBoundary text) (sym e) (IsCharBoundary-start text utf8))
       ])
 ]

@@ -12,6 +12,8 @@ pub mod LeafLemmas
 pub mod NodeLemmas
 pub mod NodeListLemmas
 pub mod OffsetLemmas
+pub mod OwnTokenLemmas
+pub mod PartLemmas
 pub mod PathLemmas
 pub mod PreorderLaws
 pub mod ReplaceLemmas

@@ -12,29 +12,53 @@ use Rattle.rowan_cursor.specs.Table.{AreNodes, facts_of, all_facts, child_counts
 
 -- ---- what entries tell
 
-pub facts_at : (ns : List Inner) (es : List Entry) (n : ℕ) (e : Entry) → slice_get es n ≡ Some e → slice_get (all_facts ns es) n ≡ Some (facts_of ns e)
+pub facts_at : (ns : List Inner) (es : List Entry) (n : ℕ) (e : Entry) → slice_get es n ≡ Some e
+    → slice_get (all_facts ns es) n ≡ Some (facts_of ns e)
 facts_at ns es n e at = at_map (facts_of ns) es n e at
 
 -- ---- where the children of a node end
 
-pub child_counts-more : (ns : List Inner) (k : ℕ) (x : Inner) → slice_get ns k ≡ Some x → child_counts (take (k + 1) ns) ≡ child_counts (take k ns) + length (node_children x.green)
+pub child_counts-more : (ns : List Inner) (k : ℕ) (x : Inner) → slice_get ns k ≡ Some x
+    → child_counts (take (k + 1) ns) ≡ child_counts (take k ns) + length (node_children x.green)
 child_counts-more ns k x at =
     sum_by_more (λ (y : Inner). length (node_children y.green)) ns k x (slice_get_within ns k x at)
-    ∙ ap (λ (y : Inner). child_counts (take k ns) + length (node_children y.green)) (get_or_from_slice_get ns k x x at)
+    ∙ ap (λ (y : Inner). child_counts (take k ns) + length (node_children y.green))
+    (get_or_from_slice_get ns k x x at)
 
-pub row_end-next : (ns : List Inner) (es : List Entry) → AreNodes ns es → (k : ℕ) (x y : Inner) → slice_get ns k ≡ Some x → slice_get ns (k + 1) ≡ Some y → y.first_child ≡ x.first_child + length (node_children x.green)
+pub row_end-next : (ns : List Inner) (es : List Entry) → AreNodes ns es → (k : ℕ) (x y : Inner)
+    → slice_get ns k ≡ Some x → slice_get ns (k + 1) ≡ Some y
+    → y.first_child ≡ x.first_child + length (node_children x.green)
 row_end-next ns es t k x y at next =
     omega (arith, t.firsts k x at, t.firsts (k + 1) y next, child_counts-more ns k x at)
 
-pub row_end-last : (ns : List Inner) (es : List Entry) → AreNodes ns es → (k : ℕ) (x : Inner) → slice_get ns k ≡ Some x → length ns ≤ k + 1 → length es ≡ x.first_child + length (node_children x.green)
+pub row_end-last : (ns : List Inner) (es : List Entry) → AreNodes ns es → (k : ℕ) (x : Inner)
+    → slice_get ns k ≡ Some x → length ns ≤ k + 1
+    → length es ≡ x.first_child + length (node_children x.green)
 row_end-last ns es t k x at last =
-    omega (arith, t.all, t.firsts k x at, child_counts-more ns k x at, ap child_counts (take_all (k + 1) ns last))
+    omega (
+      arith,
+      t.all,
+      t.firsts k x at,
+      child_counts-more ns k x at,
+      ap child_counts (take_all (k + 1) ns last),
+    )
 
 -- the children of a node stand before those of the nodes behind, and all of them before the end
-pub row_end-before : (ns : List Inner) (k m : ℕ) (x : Inner) → slice_get ns k ≡ Some x → k < m → child_counts (take k ns) + length (node_children x.green) ≤ child_counts (take m ns)
+pub row_end-before : (ns : List Inner) (k m : ℕ) (x : Inner) → slice_get ns k ≡ Some x → k < m
+    → child_counts (take k ns) + length (node_children x.green) ≤ child_counts (take m ns)
 row_end-before ns k m x at less =
-    omega (arith, child_counts-more ns k x at, sum_by-take-le (λ (y : Inner). length (node_children y.green)) (take m ns) (k + 1), ap child_counts (take-take (k + 1) m ns (omega arith)))
+    omega (
+      arith,
+      child_counts-more ns k x at,
+      sum_by-take-le (λ (y : Inner). length (node_children y.green)) (take m ns) (k + 1),
+      ap child_counts (take-take (k + 1) m ns (omega arith)),
+    )
 
-pub row_end-within : (ns : List Inner) (k : ℕ) (x : Inner) → slice_get ns k ≡ Some x → child_counts (take k ns) + length (node_children x.green) ≤ child_counts ns
+pub row_end-within : (ns : List Inner) (k : ℕ) (x : Inner) → slice_get ns k ≡ Some x
+    → child_counts (take k ns) + length (node_children x.green) ≤ child_counts ns
 row_end-within ns k x at =
-    omega (arith, child_counts-more ns k x at, sum_by-take-le (λ (y : Inner). length (node_children y.green)) ns (k + 1))
+    omega (
+      arith,
+      child_counts-more ns k x at,
+      sum_by-take-le (λ (y : Inner). length (node_children y.green)) ns (k + 1),
+    )

@@ -1,5 +1,6 @@
 -- Walks over the texts of the tokens inside an element of a table.
-use Rattle.std.specs.Prelude.{◌≡◌, false, ℕ, ◌+◌, ◌-◌, ◌<◌, ◌≤◌, List, [], ◌++◌, map, filter, length, Option, Some, None, IfSome}
+use Rattle.std.specs.Prelude.{◌≡◌, false, ℕ, ◌+◌, ◌-◌, ◌<◌, ◌≤◌, List, [], ◌++◌, map, filter}
+use Rattle.std.specs.Prelude.{length, Option, Some, None, IfSome}
 use Rattle.std.specs.List.{concat}
 use Rattle.std.specs.Str.{IsCharBoundary}
 use Rattle.rowan_green.specs.declared.utility_types.NodeOrToken.TheVariants.{Node}
@@ -9,11 +10,13 @@ use Rattle.rowan_green.specs.Term.{NodeTerm}
 use Rattle.rowan_green.specs.Path.{Path, subterm, text_of, begins}
 use Rattle.rowan_cursor.specs.declared.table.Table.{Table}
 use Rattle.rowan_cursor.specs.declared.table.chunks.ChunkWalk.{ChunkWalk}
+use Rattle.rowan_cursor.specs.declared.table.slice.Slice.{Slice}
 use Rattle.rowan_cursor.specs.Equal.{start_of}
 use Rattle.rowan_cursor.specs.Pass.{since, leaf_list}
 use Rattle.rowan_cursor.specs.SyntaxText.{TextSlice, cut_chunks, IsTextSlice}
 use Rattle.rowan_cursor.specs.TablePass.{StandsInside}
-use Rattle.rowan_cursor.specs.TableView.{root_of, path_at, cursor_of, stands_for_node, IsWithin, IsNodeIn}
+use Rattle.rowan_cursor.specs.TableView.{root_of, path_at, cursor_of, stands_for_node, IsWithin}
+use Rattle.rowan_cursor.specs.TableView.{IsNodeIn}
 
 -- the texts at some paths
 abbrev pub texts_at : NodeTerm → List Path → List (List ℕ)
@@ -41,15 +44,19 @@ pub record MayCut (text : List ℕ) (at offset : ℕ) : Type 0 where
 
 -- a walk has come to a token inside its node, or to the end, and knows where what is left starts
 pub record IsWalk (table : Table) (walk : ChunkWalk) : Type 0 where
-  pub within : IsWithin table walk.node
-  pub token : IfSome walk.next (IsTokenInside table walk.node)
-  pub limit : walk.at + length (concat (remaining_texts table walk.node walk.next)) ≤ byte_limit
-  pub start_cut : MayCut (concat (remaining_texts table walk.node walk.next)) walk.at walk.range.start
-  pub end_cut : MayCut (concat (remaining_texts table walk.node walk.next)) walk.at walk.range.end
+  pub within : IsWithin table walk.slice.node
+  pub token : IfSome walk.next (IsTokenInside table walk.slice.node)
+  pub limit : walk.at + length (concat (remaining_texts table walk.slice.node walk.next))
+      ≤ byte_limit
+  pub start_cut : MayCut (concat (remaining_texts table walk.slice.node walk.next)) walk.at
+      walk.slice.range.start
+  pub end_cut : MayCut (concat (remaining_texts table walk.slice.node walk.next)) walk.at
+      walk.slice.range.end
 
 -- the chunks that are still to come
 abbrev pub remaining_chunks : Table → ChunkWalk → List (List ℕ)
-remaining_chunks table walk = cut_chunks walk.range walk.at (remaining_texts table walk.node walk.next)
+remaining_chunks table walk = cut_chunks walk.slice.range walk.at
+    (remaining_texts table walk.slice.node walk.next)
 
 -- of the tokens inside the element with the number top, those before the element with the number n
 -- end before an offset
@@ -60,14 +67,14 @@ pub record SkipsTo (table : Table) (x top n : ℕ) : Type 0 where
   pub start : start_of (cursor_of table n) ≡ start_of (cursor_of table top) + length (concat texts)
   pub early : 0 < length texts → start_of (cursor_of table n) < x
 
--- a range of the text of the node with this number, as a slice
-abbrev pub slice_of : Table → ℕ → Span → TextSlice
-slice_of table n range = record { node = cursor_of table n; range = range }
+-- a slice of the text of the node with a number, by the cursor at the node
+abbrev pub slice_of : Table → Slice → TextSlice
+slice_of table slice = record { node = cursor_of table slice.node; range = slice.range }
 
--- a slice of the text of the node with this number
-pub record IsSliceOf (table : Table) (n : ℕ) (range : Span) : Type 0 where
-  pub node : IsNodeIn table n
-  pub slice : IsTextSlice (slice_of table n range)
+-- the table has the node of a slice, and the range lies in the node's text
+pub record IsSliceOf (table : Table) (s : Slice) : Type 0 where
+  pub node : IsNodeIn table s.node
+  pub slice : IsTextSlice (slice_of table s)
 
 -- the byte at an offset of a text stands at a place of one of its chunks
 pub record IsByteIn (text : List ℕ) (offset : ℕ) (chunk : List ℕ) (place : ℕ) : Type 0 where

@@ -1,7 +1,9 @@
--- A draft: a table that is still to be filled. A node that has an entry waits for its place among the nodes, and for the entries of
--- its children, which it gets together. Those that wait stand in a list, and the last is the next.
--- What is known of a draft stays true while it grows: entries are only added, and an entry that names a place names it for good.
-use Rattle.std.specs.Prelude.{◌≡◌, ℕ, ◌+◌, ◌-◌, ◌<◌, ◌≤◌, nat_eq, List, [], ◌∷◌, ◌++◌, map, length, take, Option, Some, None, slice_get}
+-- A draft: a table that is still to be filled. A node that has an entry waits for its place among
+-- the nodes, and for the entries of its children, which it gets together. Those that wait stand in
+-- a list, and the last is the next. What is known of a draft stays true while it grows: entries are
+-- only added, and an entry that names a place names it for good.
+use Rattle.std.specs.Prelude.{◌≡◌, ℕ, ◌+◌, ◌-◌, ◌<◌, ◌≤◌, nat_eq, List, [], ◌∷◌, ◌++◌, map, length}
+use Rattle.std.specs.Prelude.{take, Option, Some, None, slice_get}
 use Rattle.std.specs.List.{sum_by, IsDistinct}
 use Rattle.std.specs.Option.{option_map}
 use Rattle.std.specs.Vec.{vec_len, vec_capacity}
@@ -47,9 +49,10 @@ pub record HasEntry (greens : List (Option NodeTerm)) (es : List Entry) (w : Wai
   pub bare : entry.node ≡ None
   pub green : slice_get greens w.number ≡ Some (Some w.node.now)
 
--- entry c, with the number n, is that of a child: its parent's entry stands before it and names the place of a node, and it is
--- the child of that node which stands so far behind the first one
-pub record IsChildEntry (greens : List (Option NodeTerm)) (es : List Entry) (ns : List Inner) (n : ℕ) (c : Entry) : Type 0 where
+-- entry c, with the number n, is that of a child: its parent's entry stands before it and names the
+-- place of a node, and it is the child of that node which stands so far behind the first one
+pub record IsChildEntry (greens : List (Option NodeTerm)) (es : List Entry) (ns : List Inner)
+    (n : ℕ) (c : Entry) : Type 0 where
   pub above : Entry
   pub at : slice_get es c.parent ≡ Some above
   pub earlier : c.parent < n
@@ -60,12 +63,14 @@ pub record IsChildEntry (greens : List (Option NodeTerm)) (es : List Entry) (ns 
   pub from : inner.first_child ≤ n
   pub child : option_map into_node (slice_get (node_children inner.green) (n - inner.first_child))
       ≡ slice_get greens n
-  pub start : c.start ≡ above.start + child_start (node_children inner.green) (n - inner.first_child)
+  pub start : c.start ≡ above.start + child_start (node_children inner.green)
+      (n - inner.first_child)
 
 -- the first entry is that of the root
-pub record IsRootEntry (root : NodeTerm) (greens : List (Option NodeTerm)) (e : Entry) : Type 0 where
-  pub start : e.start ≡ 0
-  pub green : slice_get greens 0 ≡ Some (Some root)
+pub record IsRootEntry (root : NodeTerm) (greens : List (Option NodeTerm)) (e : Entry) : Type 0
+  where
+    pub start : e.start ≡ 0
+    pub green : slice_get greens 0 ≡ Some (Some root)
 
 -- these are the entries of a draft, the nodes that have their places, and those that wait for them
 pub record AreFilled (es : List Entry) (ns : List Inner) (ws : List Waiting) : Type 0 where
@@ -77,7 +82,8 @@ pub record AreFilled (es : List Entry) (ns : List Inner) (ws : List Waiting) : T
   pub root : (e : Entry) → slice_get es 0 ≡ Some e → IsRootEntry (first_node ns ws) greens e
   pub ends : (n : ℕ) (e : Entry) (g : Option NodeTerm) → slice_get es n ≡ Some e
       → slice_get greens n ≡ Some g → e.start + len_in g ≤ byte_limit
-  pub named : (n k : ℕ) (e : Entry) → slice_get es n ≡ Some e → e.node ≡ Some k → HasPlace greens ns n k
+  pub named : (n k : ℕ) (e : Entry) → slice_get es n ≡ Some e → e.node ≡ Some k
+      → HasPlace greens ns n k
   pub once : (n m k : ℕ) (e d : Entry) → slice_get es n ≡ Some e → slice_get es m ≡ Some d
       → e.node ≡ Some k → d.node ≡ Some k → n ≡ m
   pub bare : (n : ℕ) (e : Entry) (g : NodeTerm) → slice_get es n ≡ Some e → e.node ≡ None
@@ -86,7 +92,8 @@ pub record AreFilled (es : List Entry) (ns : List Inner) (ws : List Waiting) : T
   pub apart : IsDistinct nat_eq (map entry_number ws)
   pub firsts : (k : ℕ) (x : Inner) → slice_get ns k ≡ Some x
       → x.first_child ≡ child_counts (take k ns) + 1
-  pub children : (n : ℕ) (c : Entry) → slice_get es n ≡ Some c → 0 < n → IsChildEntry greens es ns n c
+  pub children : (n : ℕ) (c : Entry) → slice_get es n ≡ Some c → 0 < n
+      → IsChildEntry greens es ns n c
 
 -- so the lists of a draft are filled
 abbrev pub IsFilled : Draft → Type 0

@@ -1,5 +1,6 @@
 -- What is left of a walk through what is at and below a node, by the event that comes next.
-use Rattle.std.specs.Prelude.{◌≡◌, ℕ, suc, true, List, [], ◌∷◌, ◌++◌, length, drop, Option, Some, None}
+use Rattle.std.specs.Prelude.{◌≡◌, ℕ, suc, true, List, [], ◌∷◌, ◌++◌, length, drop, Option, Some}
+use Rattle.std.specs.Prelude.{None}
 use Rattle.std.proofs.Props.{props}
 use Rattle.rowan_green.specs.declared.utility_types.NodeOrToken.TheVariants.{Node}
 use Rattle.rowan_green.specs.declared.utility_types.WalkEvent.{WalkEvent}

@@ -4,7 +4,8 @@
 --     the order of the tree, but what stands before a path is listed from the path on, so nearest
 --     first.
 --     Tokens follow one another in the order of the leaves, whatever stands between them.
-use Rattle.std.specs.Prelude.{ℕ, ◌+◌, ◌-◌, Bool, true, false, List, [], ◌∷◌, ◌++◌, map, length, reverse, Option, Some, None, slice_get}
+use Rattle.std.specs.Prelude.{ℕ, ◌+◌, ◌-◌, Bool, true, false, List, [], ◌∷◌, ◌++◌, map, length}
+use Rattle.std.specs.Prelude.{reverse, Option, Some, None, slice_get}
 use Rattle.std.specs.List.{find, filter, range_with_len}
 use Rattle.std.specs.Option.{option_map, option_map_or}
 use Rattle.rowan_green.specs.declared.utility_types.NodeOrToken.{NodeOrToken}

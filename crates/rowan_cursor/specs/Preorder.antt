@@ -4,13 +4,15 @@
 --     A skip drops of the events that are left those before the first Leave whose Enter is not
 --     among them.
 --     Descendants are all elements whose paths begin with the start's path, in the tree's order.
-use Rattle.std.specs.Prelude.{ℕ, zero, suc, List, [], ◌∷◌, ◌++◌, map, filter, Option, Some, None, Ok, Err}
+use Rattle.std.specs.Prelude.{ℕ, zero, suc, List, [], ◌∷◌, ◌++◌, map, filter, Option, Some, None}
+use Rattle.std.specs.Prelude.{Ok, Err}
 use Rattle.std.specs.Option.{unwrap_or}
 use Rattle.rowan_green.specs.declared.utility_types.NodeOrToken.TheVariants.{Node, Token}
 use Rattle.rowan_green.specs.declared.utility_types.WalkEvent.{WalkEvent}
 use Rattle.rowan_green.specs.declared.utility_types.WalkEvent.TheVariants.{Enter, Leave}
 use Rattle.rowan_green.specs.WalkEvent.{event_value}
-use Rattle.rowan_green.specs.Term.{NodeTerm, node, Forest, empty, node_then, token_then, Term, node_kind}
+use Rattle.rowan_green.specs.Term.{NodeTerm, node, Forest, empty, node_then, token_then, Term}
+use Rattle.rowan_green.specs.Term.{node_kind}
 use Rattle.rowan_green.specs.Word.{Symbol, Open, Leaf, Close}
 use Rattle.rowan_green.specs.Path.{Path, subterm, begins}
 use Rattle.rowan_cursor.specs.Cursor.{Cursor, term_at}

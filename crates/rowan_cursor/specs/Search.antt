@@ -1,10 +1,13 @@
--- Searches by place: the child at a range of the root's text, the element that covers a range, and the tokens at an offset;
---     and the last child that starts before an offset, by which a search for the first token of a range goes down.
---     The chain of a range goes from an element to its child at the range, to that one's child, and so on, until there is none.
---     The covering element is the last of it.
---     The leaves that touch an offset are those with bytes in whose range the offset lies, the ends of the range included.
+-- Searches by place: the child at a range of the root's text, the element that covers a range, and
+-- the tokens at an offset; and the last child that starts before an offset, by which a search for
+-- the first token of a range goes down.
+--     The chain of a range goes from an element to its child at the range, to that one's child, and
+--     so on, until there is none. The covering element is the last of it.
+--     The leaves that touch an offset are those with bytes in whose range the offset lies, the ends
+--     of the range included.
 -- All offsets are counted from the start of the root's text.
-use Rattle.std.specs.Prelude.{◌≡◌, ℕ, ◌+◌, ◌-◌, ◌<◌, ◌≤◌, Bool, true, ◌&&◌, nat_lt, nat_le, List, [], ◌∷◌, ◌++◌, map, filter, Option, Some, None}
+use Rattle.std.specs.Prelude.{◌≡◌, ℕ, ◌+◌, ◌-◌, ◌<◌, ◌≤◌, Bool, true, ◌&&◌, nat_lt, nat_le, List}
+use Rattle.std.specs.Prelude.{[], ◌∷◌, ◌++◌, map, filter, Option, Some, None}
 use Rattle.rowan_green.specs.declared.utility_types.NodeOrToken.TheVariants.{Node, Token}
 use Rattle.rowan_green.specs.Term.{TokenTerm, NodeTerm, token_len}
 use Rattle.rowan_green.specs.Path.{Path, subterm, begins, offset, range}
@@ -12,7 +15,8 @@ use Rattle.rowan_green.specs.Search.{IsChildAt, digits}
 use Rattle.rowan_green.specs.Span.{Span}
 use Rattle.rowan_green.specs.Steps.{Tally, count_limit}
 use Rattle.rowan_cursor.specs.Cursor.{Cursor}
-use Rattle.rowan_cursor.specs.Moves.{Element, element_at, cursor_at, children_of, child_count, leaf_paths}
+use Rattle.rowan_cursor.specs.Moves.{Element, element_at, cursor_at, children_of, child_count}
+use Rattle.rowan_cursor.specs.Moves.{leaf_paths}
 
 -- one range lies in another
 abbrev pub LiesIn : Span → Span → Type 0
@@ -28,12 +32,14 @@ pub record IsRangeChild (root : NodeTerm) (span : Span) (p q : Path) : Type 0 wh
   pub child : IsChildAt (children_of (subterm (Node root) p))
       (span.start - offset (Node root) p) (span.end - offset (Node root) p) place
 
--- of the children of the element at p, only that at q can be the one at a range; and it is, if the range lies in its own
+-- of the children of the element at p, only that at q can be the one at a range; and it is, if the
+-- range lies in its own
 pub record IsOnlyRangeChild (root : NodeTerm) (span : Span) (p q : Path) : Type 0 where
   pub is : span.start ≤ span.end → LiesIn span (range (Node root) q) → IsRangeChild root span p q
   pub only : (r : Path) → IsRangeChild root span p r → r ≡ q
 
--- the steps of a search by halves among so many children: no visit, and a comparison at least if it has found one
+-- the steps of a search by halves among so many children: no visit, and a comparison at least if it
+-- has found one
 pub record CountsSearch (children : ℕ) (Found : Type 0) (old new : Tally) : Type 0 where
   pub most : new.comparisons ≤ old.comparisons + digits children
   pub least : Found → old.comparisons < count_limit → old.comparisons < new.comparisons
@@ -56,7 +62,8 @@ pub record Covers (root : NodeTerm) (span : Span) (p q : Path) : Type 0 where
   pub is : IsChain root span p chain
   pub last : q ≡ chain_end p chain
 
--- the element at q is the last child of that at p that starts before an offset; the first child, if none starts before it
+-- the element at q is the last child of that at p that starts before an offset; the first child, if
+-- none starts before it
 pub record IsChildBefore (root : NodeTerm) (x : ℕ) (p q : Path) : Type 0 where
   pub place : ℕ
   pub path : q ≡ p ++ place ∷ []

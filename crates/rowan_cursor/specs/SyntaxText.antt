@@ -4,7 +4,9 @@
 --     whose range meets that of the slice, the ends of both included, the bytes that both have.
 --     So a token that is empty or only touches the slice gives an empty chunk.
 -- Offsets into a slice are bytes from its start.
-use Rattle.std.specs.Prelude.{◌≡◌, ℕ, ◌+◌, ◌-◌, ◌<◌, ◌≤◌, Bool, ◌&&◌, ◌==◌, nat_le, if◌then◌else◌, List, [], ◌∷◌, ◌++◌, map, length, drop, slice_range, encode_utf8, unwrap_or, Option, Some, None}
+use Rattle.std.specs.Prelude.{◌≡◌, ℕ, ◌+◌, ◌-◌, ◌<◌, ◌≤◌, Bool, ◌&&◌, ◌==◌, nat_le, if◌then◌else◌}
+use Rattle.std.specs.Prelude.{List, [], ◌∷◌, ◌++◌, map, length, drop, slice_range, encode_utf8}
+use Rattle.std.specs.Prelude.{unwrap_or, Option, Some, None}
 use Rattle.std.specs.Option.{MatchOption}
 use Rattle.std.specs.Cmp.{IsEquivalence, decided, on_equiv}
 use Rattle.std.specs.Cmp.Lexicographic.{bytes_decides}

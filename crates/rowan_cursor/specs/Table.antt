@@ -1,12 +1,13 @@
 -- The table of a tree: an entry for each of its nodes and tokens, the root first.
 --     The children of a node stand side by side in their order, behind the node itself.
---     An entry knows the number of its parent, and where its text starts. That of a node knows, too,
---     which of the nodes it is: they stand in a list of their own, in the order in which their children
---     got entries, with the numbers of their first children. The table keeps no token: a token is found
---     among the children of its parent.
+--     An entry knows the number of its parent, and where its text starts. That of a node knows,
+--     too, which of the nodes it is: they stand in a list of their own, in the order in which their
+--     children got entries, with the numbers of their first children. The table keeps no token: a
+--     token is found among the children of its parent.
 --     The path of an entry is read off by going up: from parent to parent, to the root.
 -- All facts are local: each speaks of one entry, or of an entry and its parent.
-use Rattle.std.specs.Prelude.{◌≡◌, ℕ, zero, suc, ◌+◌, ◌-◌, ◌<◌, ◌≤◌, List, [], ◌∷◌, ◌++◌, map, length, take, reverse, Some, Option, None, slice_get}
+use Rattle.std.specs.Prelude.{◌≡◌, ℕ, zero, suc, ◌+◌, ◌-◌, ◌<◌, ◌≤◌, List, [], ◌∷◌, ◌++◌, map}
+use Rattle.std.specs.Prelude.{length, take, reverse, Some, Option, None, slice_get}
 use Rattle.std.specs.List.{sum_by}
 use Rattle.std.specs.Option.{option_map, option_map_or}
 use Rattle.rowan_green.specs.declared.utility_types.NodeOrToken.TheVariants.{Node}
@@ -34,8 +35,8 @@ inner_at ns None = None
 inner_at ns (Some k) = slice_get ns k
 
 -- what an entry tells, with the node that it names
-abbrev pub told : Entry → Option Inner → Facts
-told e x = record {
+abbrev pub entry_facts : Entry → Option Inner → Facts
+entry_facts e x = record {
   green = option_map (λ n. n.green) x;
   start = e.start;
   parent = e.parent;
@@ -44,7 +45,7 @@ told e x = record {
 
 -- what an entry tells, over the list of the nodes
 abbrev pub facts_of : List Inner → Entry → Facts
-facts_of ns e = told e (inner_at ns e.node)
+facts_of ns e = entry_facts e (inner_at ns e.node)
 
 -- what all entries tell
 abbrev pub all_facts : List Inner → List Entry → List Facts

@@ -5,7 +5,8 @@ use Rattle.rowan_green.specs.declared.utility_types.NodeOrToken.TheVariants.{Nod
 use Rattle.rowan_green.specs.Path.{Path, begins}
 use Rattle.rowan_cursor.specs.declared.table.Table.{Table}
 use Rattle.rowan_cursor.specs.Moves.{child_count}
-use Rattle.rowan_cursor.specs.Pass.{leaf_list, after, before, since, since_child, until, until_child, first_inside, last_inside}
+use Rattle.rowan_cursor.specs.Pass.{leaf_list, after, before, since, since_child, until}
+use Rattle.rowan_cursor.specs.Pass.{until_child, first_inside, last_inside}
 use Rattle.rowan_cursor.specs.TableView.{root_of, path_at, IsWithin}
 
 -- the element is that at the top, or below it

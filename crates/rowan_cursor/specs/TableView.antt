@@ -1,5 +1,6 @@
 -- What the numbers of a table stand for: the elements of its tree, by their paths and as cursors.
-use Rattle.std.specs.Prelude.{◌≡◌, ℕ, ◌+◌, ◌-◌, ◌<◌, ◌≤◌, Bool, true, false, List, map, length, Option, Some, IfSome, slice_get}
+use Rattle.std.specs.Prelude.{◌≡◌, ℕ, ◌+◌, ◌-◌, ◌<◌, ◌≤◌, Bool, true, false, List, map, length}
+use Rattle.std.specs.Prelude.{Option, Some, IfSome, slice_get}
 use Rattle.std.specs.Option.{option_map}
 use Rattle.rowan_green.specs.Path.{Path}
 use Rattle.rowan_green.specs.Term.{NodeTerm, node_children}
@@ -8,8 +9,15 @@ use Rattle.rowan_cursor.specs.Nodes.{Inner}
 use Rattle.rowan_cursor.specs.declared.table.Table.{Table}
 use Rattle.rowan_cursor.specs.declared.table.search.Place.{Place}
 use Rattle.rowan_cursor.specs.Cursor.{Cursor, text_range}
-use Rattle.rowan_cursor.specs.Moves.{cursor_at, is_node_at, Element, element_at, numbers, child_paths, following, preceding}
-use Rattle.rowan_cursor.specs.Table.{root_node, entry_path, entry_children, Describes, IsRow, IsRowBack, Facts, all_facts, facts_of, told}
+use Rattle.rowan_cursor.specs.Moves.{cursor_at, is_node_at, Element, element_at, numbers}
+use Rattle.rowan_cursor.specs.Moves.{child_paths, following, preceding}
+use Rattle.rowan_cursor.specs.Table.{root_node, entry_path, entry_children, Describes, IsRow}
+use Rattle.rowan_cursor.specs.Table.{IsRowBack, Facts, all_facts, facts_of, entry_facts}
+
+-- how many entries a table has at most: their numbers have 32 bits, of which the greatest stands
+-- for none
+abbrev pub entry_limit : ℕ
+entry_limit = 4294967295
 
 -- what the entries tell
 abbrev pub entries_of : Table → List Facts
@@ -94,7 +102,7 @@ pub record IsNodeNumber (t : Table) (n k : ℕ) : Type 0 where
   pub inner : Inner
   pub node : slice_get t.nodes k ≡ Some inner
   pub entry : Entry
-  pub is : Describes (entries_of t) n (told entry (Some inner))
+  pub is : Describes (entries_of t) n (entry_facts entry (Some inner))
 
 -- the numbers of the children of the element with a number go from this start to this end
 abbrev pub AreChildNumbers : Table → ℕ → ℕ → ℕ → Type 0
@@ -125,7 +133,8 @@ pub record IsPlace (t : Table) (place : Place) : Type 0 where
   pub within : IsWithin t place.number
   pub lies : place.range ≡ text_range (cursor_of t place.number)
 
--- the element with this number is one of the children of another. Their numbers go up to `stop`, and that one's text to `limit`
+-- the element with this number is one of the children of another. Their numbers go up to `stop`,
+-- and that one's text to `limit`
 pub record IsChildUpTo (t : Table) (stop limit n : ℕ) : Type 0 where
   pub parent : ℕ
   pub first : ℕ

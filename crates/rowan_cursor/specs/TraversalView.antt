@@ -2,54 +2,53 @@
 use Rattle.std.specs.Prelude.{List, map}
 use Rattle.rowan_green.specs.declared.utility_types.WalkEvent.{WalkEvent}
 use Rattle.rowan_green.specs.Path.{Path}
-use Rattle.rowan_green.specs.Term.{NodeTerm}
-use Rattle.rowan_cursor.specs.declared.cursor.remainder.Remainder.{Remainder}
-use Rattle.rowan_cursor.specs.declared.cursor.remainder.Remainder.TheVariants.{Walk, Refusal, Nothing}
 use Rattle.rowan_cursor.specs.declared.cursor.traversal.Traversal.{Traversal}
+use Rattle.rowan_cursor.specs.declared.table.Table.{Table}
 use Rattle.rowan_cursor.specs.Cursor.{Cursor}
-use Rattle.rowan_cursor.specs.Events.{remaining_events, LeavesNoToken}
+use Rattle.rowan_cursor.specs.Events.{remaining_events, NextStays, LeavesNoToken}
 use Rattle.rowan_cursor.specs.Moves.{Element, cursor_at, element_at, nodes_at}
 use Rattle.rowan_cursor.specs.Preorder.{event_map, events_of_nodes, entered_by}
-use Rattle.rowan_cursor.specs.TableView.{root_of}
+use Rattle.rowan_cursor.specs.TableView.{root_of, IsNodeIn}
 
-abbrev pub root_of_traversal : Traversal → NodeTerm
-root_of_traversal t = root_of t.table.value
+-- a traversal of the table starts at a node, and what comes next is at or below it
+pub record HasTraversal (t : Table) (walk : Traversal) : Type 0 where
+  pub node : IsNodeIn t walk.start
+  pub inside : NextStays t walk.start walk.next
+
+-- and no token that was entered is still to be left
+pub record HasNodeTraversal (t : Table) (walk : Traversal) : Type 0 where
+  pub traversal : HasTraversal t walk
+  pub tokens : LeavesNoToken t walk.next
 
 -- the events that are left, by their paths
-abbrev pub remaining_path_events : Traversal → List (WalkEvent Path)
-remaining_path_events t = remaining_events t.table.value t.start t.next
+abbrev pub remaining_path_events : Table → Traversal → List (WalkEvent Path)
+remaining_path_events t walk = remaining_events t walk.start walk.next
 
 -- the events of nodes that are left, by their paths
-abbrev pub remaining_node_path_events : Traversal → List (WalkEvent Path)
-remaining_node_path_events t = events_of_nodes (root_of_traversal t) (remaining_path_events t)
+abbrev pub remaining_node_path_events : Table → Traversal → List (WalkEvent Path)
+remaining_node_path_events t walk = events_of_nodes (root_of t) (remaining_path_events t walk)
 
 -- the paths that are still to be entered
-abbrev pub paths_entered : Traversal → List Path
-paths_entered t = entered_by (remaining_path_events t)
+abbrev pub paths_entered : Table → Traversal → List Path
+paths_entered t walk = entered_by (remaining_path_events t walk)
 
 -- the paths of nodes that are still to be entered
-abbrev pub node_paths_entered : Traversal → List Path
-node_paths_entered t = nodes_at (root_of_traversal t) (paths_entered t)
+abbrev pub node_paths_entered : Table → Traversal → List Path
+node_paths_entered t walk = nodes_at (root_of t) (paths_entered t walk)
 
 -- the events
-abbrev pub traversal_events : Traversal → List (WalkEvent Element)
-traversal_events t = map (event_map (element_at (root_of_traversal t))) (remaining_path_events t)
+abbrev pub traversal_events : Table → Traversal → List (WalkEvent Element)
+traversal_events t walk = map (event_map (element_at (root_of t))) (remaining_path_events t walk)
 
 -- the events of nodes
-abbrev pub traversal_node_events : Traversal → List (WalkEvent Cursor)
-traversal_node_events t =
-    map (event_map (cursor_at (root_of_traversal t))) (remaining_node_path_events t)
+abbrev pub traversal_node_events : Table → Traversal → List (WalkEvent Cursor)
+traversal_node_events t walk =
+    map (event_map (cursor_at (root_of t))) (remaining_node_path_events t walk)
 
 -- the elements that are still to be entered
-abbrev pub traversal_elements : Traversal → List Element
-traversal_elements t = map (element_at (root_of_traversal t)) (paths_entered t)
+abbrev pub traversal_elements : Table → Traversal → List Element
+traversal_elements t walk = map (element_at (root_of t)) (paths_entered t walk)
 
 -- the nodes that are still to be entered
-abbrev pub traversal_nodes : Traversal → List Cursor
-traversal_nodes t = map (cursor_at (root_of_traversal t)) (node_paths_entered t)
-
--- no token that was entered is still to be left
-abbrev pub HasLeftTokens : Remainder Traversal → Type 0
-HasLeftTokens (Walk t) = LeavesNoToken t.table.value t.next
-HasLeftTokens Refusal = Unit {0}
-HasLeftTokens Nothing = Unit {0}
+abbrev pub traversal_nodes : Table → Traversal → List Cursor
+traversal_nodes t walk = map (cursor_at (root_of t)) (node_paths_entered t walk)

@@ -1,4 +1,11 @@
 //! Cursors over green trees, without the kinds of a language.
+//!
+//! # Errors
+//!
+//! All cursors of one tree share it, and a cursor that a call answers is one more owner. So each
+//! call that answers a cursor or a text is refused where the count of the tree's owners is full,
+//! and then the answer is `Err(Fault::Memory)`. It asks for no memory. An iterator gives that `Err`
+//! as its item, and then it ends. What else a call may refuse stands at the call.
 
 mod ancestors;
 mod climb;

@@ -1,5 +1,6 @@
 //! Laws of cursors, each as the contract of a function that does nothing.
-ghost use Rattle.std.specs.Prelude.{◌≡◌, ℕ, ◌<◌, false, List, [], ◌∷◌, ◌++◌, ◌↔◌, IsTrue, Some, None, length};
+ghost use Rattle.std.specs.Prelude.{◌≡◌, ℕ, ◌<◌, false, List, [], ◌∷◌, ◌++◌, ◌↔◌, IsTrue, Some};
+ghost use Rattle.std.specs.Prelude.{None, length};
 ghost use Rattle.std.specs.List.{concat, flat_map};
 ghost use Rattle.rowan_green.specs.declared.utility_types.NodeOrToken.TheVariants.{Node};
 ghost use Rattle.rowan_green.specs.Path.{Path, offset};
@@ -8,11 +9,14 @@ ghost use Rattle.rowan_green.specs.Term.{Term};
 ghost use Rattle.rowan_green.specs.Word.{term_word};
 ghost use Rattle.rowan_cursor.specs.Cursor.{Cursor, term_at, text_at, text_range};
 ghost use Rattle.rowan_cursor.specs.Equal.{same_place, start_of};
-ghost use Rattle.rowan_cursor.specs.Preorder.{preorder_with_tokens, preorder, descendants_with_tokens, descendants, entered_by, event_symbols};
+ghost use Rattle.rowan_cursor.specs.Preorder.{preorder_with_tokens, preorder};
+ghost use Rattle.rowan_cursor.specs.Preorder.{descendants_with_tokens, descendants, entered_by};
+ghost use Rattle.rowan_cursor.specs.Preorder.{event_symbols};
 ghost use Rattle.rowan_cursor.specs.PreorderRuns.{WalkCall, output_of, rest_after, LeavesAll};
 ghost use Rattle.rowan_cursor.specs.Moves.{Element, place_of, cursor_at};
 ghost use Rattle.rowan_cursor.specs.Search.{LiesIn, IsCovering, FindsChild, IsLeafOver, tokens_at};
-ghost use Rattle.rowan_cursor.specs.SyntaxText.{TextSlice, IsTextSlice, chunks, slice_len, slice_text, token_texts};
+ghost use Rattle.rowan_cursor.specs.SyntaxText.{TextSlice, IsTextSlice, chunks, slice_len};
+ghost use Rattle.rowan_cursor.specs.SyntaxText.{slice_text, token_texts};
 
 /// Two cursors are equal exactly if the same stands there, and its text starts at the same offset.
 pub fn cursors_are_equal_by_value_and_start()
@@ -26,7 +30,8 @@ pub fn nothing_equals_what_is_in_it()
         → d.path ≡ c.path ++ i ∷ q → term_at d ≡ Some t → same_place c d ≡ false }
 {}
 
-/// In a walk that ran to its end each element that was entered was left, the last one first, whatever was skipped.
+/// In a walk that ran to its end each element that was entered was left, the last one first,
+/// whatever was skipped.
 pub fn walks_leave_what_they_enter()
     ensures with_tokens { (c : Cursor) (calls : List WalkCall) →
         let events = preorder_with_tokens c in
@@ -57,8 +62,8 @@ pub fn nothing_smaller_covers_a_range()
         → FindsChild span (place_of e) None }
 {}
 
-/// Where one token is at an offset between two bytes of a node, it has both of them; and a token that has the bytes on both
-/// sides of an offset is the one that is there.
+/// Where one token is at an offset between two bytes of a node, it has both of them; and a token
+/// that has the bytes on both sides of an offset is the one that is there.
 pub fn one_token_has_the_bytes_on_both_sides()
     ensures has { (c t : Cursor) (x : ℕ) → tokens_at x c ≡ t ∷ []
         → (text_range c).start < x → x < (text_range c).end

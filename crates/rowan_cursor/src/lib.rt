@@ -1,5 +1,5 @@
-//! Cursors: places in a green tree, which know their root and the way from it. Where a call answers a `Result`, its `Err` is
-//! `Fault::Memory`.
+//! Cursors: places in a green tree, which know their root and the way from it. Where a call answers
+//! a `Result`, its `Err` is `Fault::Memory`.
 #![tactic(auto)]
 
 pub mod cursor;

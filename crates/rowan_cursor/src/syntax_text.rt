@@ -1,27 +1,30 @@
-//! Texts of nodes, and slices of them. A text is read in chunks, which the tree lends: one for each token that it meets.
+//! Texts of nodes, and slices of them. A text is read in chunks, which the tree lends: one for each
+//! token that it meets.
 mod range;
 
 ghost use Rattle.std.specs.Prelude.{◌≡◌, ◌↔◌, ◌≤◌, ℕ, IfOk, IfErr, IsTrue, string_bytes};
 ghost use Rattle.std.specs.Str.{IsCharBoundary};
 ghost use Rattle.rowan_cursor.specs.TableView.{IsNodeIn, cursor_of};
 ghost use Rattle.rowan_cursor.specs.Folds.{FoldsUntilErr, VisitsUntilErr, VisitsAll};
-ghost use Rattle.rowan_cursor.specs.SyntaxText.{slice_text, slice_len, chunks, whole_text, part_of, first_of, last_of, CanCut, HasChar, FindsChar, ReadsChar};
+ghost use Rattle.rowan_cursor.specs.SyntaxText.{slice_text, slice_len, chunks, whole_text, part_of};
+ghost use Rattle.rowan_cursor.specs.SyntaxText.{first_of, last_of, CanCut, HasChar, FindsChar};
+ghost use Rattle.rowan_cursor.specs.SyntaxText.{ReadsChar};
 
-use crate::table::Table;
+use crate::table::{Slice, Table};
 pub use range::SyntaxTextRange;
 use rowan_green::fault::Fault;
-use rowan_green::text::{TextRange, TextSize};
+use rowan_green::text::TextSize;
 use std::alloc::AllocError;
 use std::fmt;
 use std::marker::Model;
 use std::rc::Rc;
 
-/// The text of a node, or a slice of it. A clone shares the tree. Offsets into it are bytes from its start.
+/// The text of a node, or a slice of it. A clone shares the tree. Offsets into it are bytes from
+/// its start.
 #[derive(Drop)]
 pub struct SyntaxText {
     table: Rc<Table>,
-    node: usize,
-    range: TextRange,
+    slice: Slice,
 }
 
 impl Model for SyntaxText {
@@ -34,9 +37,9 @@ impl Model for SyntaxText {
 
     ghost use Rattle.rowan_cursor.specs.Chunks.{slice_of, IsSliceOf};
 
-    ghost view = { λ t. slice_of t.table.value t.node t.range };
+    ghost view = { λ t. slice_of t.table.value t.slice };
 
-    ghost invariant = { λ t. IsSliceOf t.table.value t.node t.range };
+    ghost invariant = { λ t. IsSliceOf t.table.value t.slice };
 }
 
 impl SyntaxText {
@@ -47,21 +50,24 @@ impl SyntaxText {
     {
         let range = table.text_range(node);
         let table = table.clone()?;
-        Ok(SyntaxText { table, node, range })
+        Ok(SyntaxText {
+            table,
+            slice: Slice { node, range },
+        })
     }
 
     /// The number of bytes.
     pub fn len(&self) -> TextSize
         ensures { result ≡ slice_len self.now }
     {
-        self.range.len()
+        self.slice.range.len()
     }
 
     /// Whether there are no bytes.
     pub fn is_empty(&self) -> bool
         ensures { IsTrue result ↔ (self.now.range.start ≡ self.now.range.end) }
     {
-        self.range.is_empty()
+        self.slice.range.is_empty()
     }
 
     /// Whether a character is in the text. Takes no memory.
@@ -75,7 +81,7 @@ impl SyntaxText {
     pub fn find_char(&self, c: char) -> Option<TextSize>
         ensures { FindsChar (slice_text self.now) c result }
     {
-        self.table.find_char(self.node, self.range, c)
+        self.slice.find_char(&self.table, c)
     }
 
     /// Whether an offset is at most the length and not inside a character. Takes no memory.
@@ -83,25 +89,27 @@ impl SyntaxText {
         ensures border { IsTrue result ↔ IsCharBoundary (slice_text self.now) offset }
         ensures within { IsTrue result → offset ≤ slice_len self.now }
     {
-        self.table.is_border(self.node, self.range, offset)
+        self.slice.is_border(&self.table, offset)
     }
 
-    /// The character that begins at an offset: none past the end or inside a character. Takes no memory.
+    /// The character that begins at an offset: none past the end or inside a character. Takes no
+    /// memory.
     pub fn char_at(&self, offset: TextSize) -> Option<char>
         ensures { ReadsChar (slice_text self.now) offset result }
     {
-        self.table.char_at(self.node, self.range, offset)
+        self.slice.char_at(&self.table, offset)
     }
 
     /// Whether this is the text. Takes no memory.
     pub fn eq_str(&self, text: &str) -> bool
         ensures { IsTrue result ↔ (slice_text self.now ≡ text.now) }
     {
-        self.table.has_text(self.node, self.range, text)
+        self.slice.has_text(&self.table, text)
     }
 
-    /// The part in a range, whose ends are counted in bytes from the start of the text. They are in order, at most the length,
-    /// and not inside a character, of which `is_border` tells. Refused only for want of memory.
+    /// The part in a range, whose ends are counted in bytes from the start of the text. They are in
+    /// order, at most the length, and not inside a character, of which `is_border` tells. Refused
+    /// only for want of memory.
     pub fn slice<R: SyntaxTextRange>(&self, range: R) -> Result<SyntaxText, Fault>
     where
         R: Drop,
@@ -112,18 +120,15 @@ impl SyntaxText {
     {
         let start = range.start().unwrap_or(TextSize::from(0));
         let end = range.end().unwrap_or(self.len());
-        let part = self.table.part_range(self.node, self.range, start, end);
+        let slice = self.slice.part(&self.table, start, end);
         let table = self.table.clone()?;
-        Ok(SyntaxText {
-            table,
-            node: self.node,
-            range: part,
-        })
+        Ok(SyntaxText { table, slice })
     }
 
-    /// What a closure makes of a first value and the chunks in their order: each call takes the value so far and the next
-    /// chunk. The first `Err` that the closure answers ends it. Takes no memory of its own.
-    pub fn try_fold_chunks<T, E, F: FnMut(T, &str) -> Result<T, E>>(
+    /// What a closure makes of a first value and the chunks in their order: each call takes the
+    /// value so far and the next chunk. The first `Err` that the closure answers ends it. Takes no
+    /// memory of its own.
+    pub fn try_fold_chunks<T, F: FnMut(T, &str) -> Result<T, E>, E>(
         &self,
         init: T,
         f: F,
@@ -131,15 +136,16 @@ impl SyntaxText {
         requires { F.IsAlwaysCallable f }
         ensures { (last : F) × FoldsUntilErr F.FnMut f init (chunks self.now) result last }
     {
-        self.table.fold_chunks(self.node, self.range, init, f)
+        self.slice.fold(&self.table, init, f)
     }
 
-    /// Calls a closure at each chunk, in their order, up to the first `Err` that it answers. Takes no memory of its own.
-    pub fn try_for_each_chunk<E, F: FnMut(&str) -> Result<(), E>>(&self, f: F) -> Result<(), E>
+    /// Calls a closure at each chunk, in their order, up to the first `Err` that it answers. Takes
+    /// no memory of its own.
+    pub fn try_for_each_chunk<F: FnMut(&str) -> Result<(), E>, E>(&self, f: F) -> Result<(), E>
         requires { F.IsAlwaysCallable f }
         ensures { (last : F) × VisitsUntilErr F.FnMut f (chunks self.now) result last }
     {
-        self.table.try_visit_chunks(self.node, self.range, f)
+        self.slice.try_visit(&self.table, f)
     }
 
     /// Calls a closure at each chunk, in their order. Takes no memory of its own.
@@ -147,7 +153,7 @@ impl SyntaxText {
         requires { F.IsAlwaysCallable f }
         ensures { (last : F) × VisitsAll F.FnMut f (chunks self.now) last }
     {
-        self.table.visit_chunks(self.node, self.range, f)
+        self.slice.visit(&self.table, f)
     }
 
     /// The text as a string of its own. Refused only for want of memory.
@@ -155,7 +161,7 @@ impl SyntaxText {
         ensures ok { IfOk result (λ text. string_bytes text ≡ slice_text self.now) }
         ensures err { IfErr result (λ e. e ≡ Fault.Memory) }
     {
-        Ok(self.table.copied_chunks(self.node, self.range)?)
+        Ok(self.slice.text(&self.table)?)
     }
 }
 
@@ -166,8 +172,7 @@ impl Clone for SyntaxText {
         let table = self.table.clone()?;
         Ok(SyntaxText {
             table,
-            node: self.node,
-            range: self.range,
+            slice: self.slice,
         })
     }
 }
@@ -181,9 +186,8 @@ impl PartialEq for SyntaxText {
     ghost laws = { partial_equiv_from_equiv same_text-laws };
 
     fn eq(&self, other: &SyntaxText) -> bool {
-        let table = &other.table;
-        self.table
-            .has_text_of(self.node, self.range, table, other.node, other.range)
+        self.slice
+            .has_text_of(&self.table, &other.slice, &other.table)
     }
 }
 
@@ -200,12 +204,12 @@ impl fmt::Display for SyntaxText {
     ghost output = { λ text. Some (slice_text text) };
 
     fn fmt<W: fmt::Write>(&self, f: &mut fmt::Formatter<W>) -> fmt::Result {
-        self.table.write_chunks(self.node, self.range, f)
+        self.slice.write(&self.table, f)
     }
 }
 
 impl fmt::Debug for SyntaxText {
     fn fmt<W: fmt::Write>(&self, f: &mut fmt::Formatter<W>) -> fmt::Result {
-        self.table.quote_chunks(self.node, self.range, f)
+        self.slice.quote(&self.table, f)
     }
 }

@@ -7,6 +7,7 @@ mod events;
 mod nodes;
 mod replace;
 mod search;
+mod slice;
 
 ghost use Rattle.rowan_cursor.specs.Table.{IsTable, AreNodes, all_facts};
 ghost use Rattle.rowan_cursor.specs.TableProp.{IsTable-prop, AreNodes-prop};
@@ -17,31 +18,47 @@ use nodes::Nodes;
 use rowan_green::green::{GreenElementRef, GreenNode, GreenToken};
 use rowan_green::text::{TextRange, TextSize};
 use rowan_green::utility_types::NodeOrToken;
+pub(crate) use slice::Slice;
 use std::alloc::{AllocError, Global};
 use std::ops::Range;
 
-/// A tree as a table of its nodes and tokens. Each is known by the number of its entry; the root has 0, and the children of a node
-/// stand side by side, behind it. The nodes stand beside the entries, in the order in which their children do.
+/// A tree as a table of its nodes and tokens. Each is known by the number of its entry; the root
+/// has 0, and the children of a node stand side by side, behind it. The nodes stand beside the
+/// entries, in the order in which their children do.
 #[derive(Drop)]
 pub(crate) struct Table {
     entries: Vec<Entry>,
     nodes: Nodes,
     ghost numbered: { AreNodes nodes entries.items } by { AreNodes-prop nodes entries.items },
-    ghost complete: { IsTable (all_facts nodes entries.items) } by { IsTable-prop (all_facts nodes entries.items) },
+    ghost complete: { IsTable (all_facts nodes entries.items) } by { IsTable-prop _ },
 }
 
 impl Table {
-    ghost use Rattle.std.specs.Prelude.{◌≡◌, ◌+◌, ◌<◌, None, IfOk, IfSome, IfNone, IsNone, Some, length, reverse, slice_get};
+    ghost use Rattle.std.specs.Prelude.{◌≡◌, ◌+◌, ◌<◌, None, IfOk, IfSome, IfNone, IsNone, Some};
+    ghost use Rattle.std.specs.Prelude.{length, reverse, slice_get};
     ghost use Rattle.rowan_green.specs.Lent.{pointee};
     ghost use Rattle.rowan_cursor.specs.Chunks.{IsTokenInside, remaining_leaves};
-    ghost use Rattle.rowan_cursor.specs.Cursor.{StandsAt, StandsAtToken, term_at, index, text_range};
+    ghost use Rattle.rowan_cursor.specs.Cursor.{StandsAt, StandsAtToken, term_at, index};
+    ghost use Rattle.rowan_cursor.specs.Cursor.{text_range};
     ghost use Rattle.rowan_cursor.specs.Equal.{start_of};
-    ghost use Rattle.rowan_cursor.specs.Moves.{parent_path, first_at, first_node_at, first_leaf_path, last_leaf_path, next_leaf_path, prev_leaf_path};
+    ghost use Rattle.rowan_cursor.specs.Moves.{parent_path, first_at, first_node_at};
+    ghost use Rattle.rowan_cursor.specs.Moves.{first_leaf_path, last_leaf_path, next_leaf_path};
+    ghost use Rattle.rowan_cursor.specs.Moves.{prev_leaf_path};
     ghost use Rattle.rowan_cursor.specs.Pass.{ComesBehind, ComesNext, ComesBefore, ComesBack};
-    ghost use Rattle.rowan_cursor.specs.TableView.{root_of, path_at, cursor_of, stands_for_node, row_paths, paths_below, paths_behind, paths_before, IsWithin, IsNodeIn, IsTokenIn, IsStretch, IsEntryAt, IsNodeNumber, AreChildNumbers, IsChildrenEnd, StretchShows, StretchShowsBack, Leads, LeadsToNode, LeadsToToken};
-    ghost use Rattle.rowan_cursor.specs.TablePass.{StandsInside, first_token_from, first_token_past, first_token_behind, last_token_until, last_token_to, last_token_before};
+    ghost use Rattle.rowan_cursor.specs.TableView.{root_of, path_at, cursor_of, stands_for_node};
+    ghost use Rattle.rowan_cursor.specs.TableView.{row_paths, paths_below, paths_behind};
+    ghost use Rattle.rowan_cursor.specs.TableView.{paths_before, IsWithin, IsNodeIn, IsTokenIn};
+    ghost use Rattle.rowan_cursor.specs.TableView.{IsStretch, IsEntryAt, IsNodeNumber};
+    ghost use Rattle.rowan_cursor.specs.TableView.{AreChildNumbers, IsChildrenEnd, StretchShows};
+    ghost use Rattle.rowan_cursor.specs.TableView.{StretchShowsBack, Leads, LeadsToNode};
+    ghost use Rattle.rowan_cursor.specs.TableView.{LeadsToToken};
+    ghost use Rattle.rowan_cursor.specs.TablePass.{StandsInside, first_token_from};
+    ghost use Rattle.rowan_cursor.specs.TablePass.{first_token_past, first_token_behind};
+    ghost use Rattle.rowan_cursor.specs.TablePass.{last_token_until, last_token_to};
+    ghost use Rattle.rowan_cursor.specs.TablePass.{last_token_before};
 
-    /// The table of a green tree. Refused only for want of memory, or of numbers: they have 32 bits.
+    /// The table of a green tree. Refused only for want of memory, or of numbers: they have 32
+    /// bits.
     pub(crate) fn new(alloc: Global, green: GreenNode) -> Result<Table, AllocError>
         ensures { IfOk result (λ table. root_of table ≡ green) }
     {
@@ -163,7 +180,14 @@ impl Table {
         ensures { LeadsToNode self.now result
             (first_node_at (root_of self.now) (paths_behind self.now number)) }
     {
-        self.first_node_in(self.following_numbers(number))
+        let mut current = number;
+        while let Some(next) = self.next_sibling_or_token(current) {
+            if self.is_node(next) {
+                return Some(next);
+            }
+            current = next;
+        }
+        None
     }
 
     /// The nearest sibling before this one that is a node.
@@ -172,7 +196,14 @@ impl Table {
         ensures { LeadsToNode self.now result
             (first_node_at (root_of self.now) (paths_before self.now number)) }
     {
-        self.last_node_in(self.preceding_numbers(number))
+        let mut current = number;
+        while let Some(before) = self.prev_sibling_or_token(current) {
+            if self.is_node(before) {
+                return Some(before);
+            }
+            current = before;
+        }
+        None
     }
 
     /// The allocator with which the table was made.
@@ -323,7 +354,8 @@ impl Table {
         siblings.start..number
     }
 
-    // Where the children of a node end, by its number among the nodes: where those of the next one begin.
+    // Where the children of a node end, by its number among the nodes: where those of the next one
+    // begin.
     fn children_end(&self, node: usize) -> usize
         requires { node < length self.now.nodes }
         ensures { IsChildrenEnd self.now node result }
@@ -461,7 +493,8 @@ impl Table {
         Some(number)
     }
 
-    // The next element inside that at `top`: the first child, or else the next element that is not below.
+    // The next element inside that at `top`: the first child, or else the next element that is not
+    // below.
     fn step_on(&self, number: usize, top: usize) -> Option<usize>
         requires { StandsInside self.now top number }
         ensures found { IfSome result (StandsInside self.now top) }
@@ -475,7 +508,8 @@ impl Table {
         }
     }
 
-    // The element before this one, inside that at `top`: the last child, or else the element before it that is not above.
+    // The element before this one, inside that at `top`: the last child, or else the element before
+    // it that is not above.
     fn step_back(&self, number: usize, top: usize) -> Option<usize>
         requires { StandsInside self.now top number }
         ensures found { IfSome result (StandsInside self.now top) }
@@ -489,7 +523,8 @@ impl Table {
         }
     }
 
-    // The next sibling, or else that of the nearest ancestor which has one, inside the element at `top`.
+    // The next sibling, or else that of the nearest ancestor which has one, inside the element at
+    // `top`.
     fn skip_on(&self, number: usize, top: usize) -> Option<usize>
         requires { StandsInside self.now top number }
         ensures found { IfSome result (StandsInside self.now top) }
@@ -510,7 +545,8 @@ impl Table {
         None
     }
 
-    // The sibling before, or else that of the nearest ancestor which has one, inside the element at `top`.
+    // The sibling before, or else that of the nearest ancestor which has one, inside the element at
+    // `top`.
     fn skip_back(&self, number: usize, top: usize) -> Option<usize>
         requires { StandsInside self.now top number }
         ensures found { IfSome result (StandsInside self.now top) }

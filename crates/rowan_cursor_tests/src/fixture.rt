@@ -95,14 +95,14 @@ pub fn root_of(alloc: Global, calls: &[Call]) -> Result<SyntaxNode, Fault> {
 /// What an element shows: its kind, and where its text starts and ends.
 pub type Shown = (u16, u32, u32);
 
-fn shown(kind: SyntaxKind, range: TextRange) -> Shown {
+fn kind_and_range(kind: SyntaxKind, range: TextRange) -> Shown {
     (kind.0, u32::from(range.start()), u32::from(range.end()))
 }
 
 /// What a node shows.
 pub fn node(found: Result<Option<SyntaxNode>, Fault>) -> Result<Option<Shown>, Fault> {
     match found? {
-        Some(node) => Ok(Some(shown(node.kind(), node.text_range()))),
+        Some(node) => Ok(Some(kind_and_range(node.kind(), node.text_range()))),
         None => Ok(None),
     }
 }
@@ -110,7 +110,7 @@ pub fn node(found: Result<Option<SyntaxNode>, Fault>) -> Result<Option<Shown>, F
 /// What a token shows.
 pub fn token(found: Result<Option<SyntaxToken>, Fault>) -> Result<Option<Shown>, Fault> {
     match found? {
-        Some(token) => Ok(Some(shown(token.kind(), token.text_range()))),
+        Some(token) => Ok(Some(kind_and_range(token.kind(), token.text_range()))),
         None => Ok(None),
     }
 }
@@ -118,7 +118,7 @@ pub fn token(found: Result<Option<SyntaxToken>, Fault>) -> Result<Option<Shown>,
 /// What an element shows.
 pub fn element(found: Result<Option<SyntaxElement>, Fault>) -> Result<Option<Shown>, Fault> {
     match found? {
-        Some(element) => Ok(Some(shown(element.kind(), element.text_range()))),
+        Some(element) => Ok(Some(kind_and_range(element.kind(), element.text_range()))),
         None => Ok(None),
     }
 }

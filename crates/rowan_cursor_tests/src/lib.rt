@@ -4,6 +4,8 @@
 #[cfg(test)]
 mod clones;
 #[cfg(test)]
+mod comparisons;
+#[cfg(test)]
 mod display;
 #[cfg(test)]
 mod elements;

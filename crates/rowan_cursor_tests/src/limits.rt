@@ -1,4 +1,5 @@
-//! Replacements by nodes whose text is as long as a text may be, which takes little room, since they share their children.
+//! Replacements by nodes whose text is as long as a text may be, which takes little room, since
+//! they share their children.
 use crate::fixture::{ATOM, Call, LIST, ROOT, at, root_of};
 use rowan::cursor::SyntaxNode;
 use rowan::{Fault, GreenElement, GreenNode, NodeOrToken, SyntaxKind};
@@ -54,7 +55,7 @@ const ALONE: [Call; 5] = [
 ];
 
 /// How long the text is with the longest node of this kind in place of the first child.
-fn replaced(alloc: Global, root: &SyntaxNode, kind: u16) -> Result<u32, Fault> {
+fn len_with_longest(alloc: Global, root: &SyntaxNode, kind: u16) -> Result<u32, Fault> {
     match at(root, &[0])? {
         NodeOrToken::Node(node) => {
             let new = node.replace_with(longest(alloc, kind)?)?;
@@ -67,7 +68,7 @@ fn replaced(alloc: Global, root: &SyntaxNode, kind: u16) -> Result<u32, Fault> {
 #[test]
 fn nothing_is_replaced_past_the_limit(rt: HostRuntime) -> Result<(), Fail> {
     let root = root_of(rt.alloc(), BESIDE.as_slice())?;
-    assert!(rt; replaced(rt.alloc(), &root, LIST) == Err(Fault::TextTooLong));
+    assert!(rt; len_with_longest(rt.alloc(), &root, LIST) == Err(Fault::TextTooLong));
     assert!(rt; root.to_string(rt.alloc())?.as_str() == "ab");
     Ok(())
 }
@@ -75,13 +76,13 @@ fn nothing_is_replaced_past_the_limit(rt: HostRuntime) -> Result<(), Fail> {
 #[test]
 fn the_limit_is_reached(rt: HostRuntime) -> Result<(), Fail> {
     let root = root_of(rt.alloc(), ALONE.as_slice())?;
-    assert!(rt; replaced(rt.alloc(), &root, LIST) == Ok(4_294_967_295));
+    assert!(rt; len_with_longest(rt.alloc(), &root, LIST) == Ok(4_294_967_295));
     Ok(())
 }
 
 #[test]
 fn the_kind_is_looked_at_before_the_limit(rt: HostRuntime) -> Result<(), Fail> {
     let root = root_of(rt.alloc(), BESIDE.as_slice())?;
-    assert!(rt; replaced(rt.alloc(), &root, ATOM) == Err(Fault::OtherKind));
+    assert!(rt; len_with_longest(rt.alloc(), &root, ATOM) == Err(Fault::OtherKind));
     Ok(())
 }

@@ -1,5 +1,6 @@
-//! The elements of the tree of `(+ (* 15 2) 62)`, level by level. The table of a tree is private: what its entries keep is seen by
-//! public calls, and the parent of an element is named by its place here.
+//! The elements of the tree of `(+ (* 15 2) 62)`, level by level. The table of a tree is private:
+//! what its entries keep is seen by public calls, and the parent of an element is named by its
+//! place here.
 use crate::fixture::Call::{self, Close, Open, Word};
 use crate::fixture::{ATOM, LIST, ROOT, root_of};
 use rowan::cursor::{ElementCalls, SyntaxElement};
@@ -39,8 +40,8 @@ const SUM: [Call; 29] = [
     Close,
 ];
 
-/// Of each element its parent's place in the order, its index, where its text starts, and how many children it has. The root, which
-/// has no parent, is shown as its own.
+/// Of each element its parent's place in the order, its index, where its text starts, and how many
+/// children it has. The root, which has no parent, is shown as its own.
 const TABLE: [(usize, usize, u32, usize); 21] = [
     (0, 0, 0, 1),
     (0, 0, 0, 7),

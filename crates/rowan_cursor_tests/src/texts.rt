@@ -78,7 +78,7 @@ const DIFFERENT: [Pair; 6] = [
 ];
 
 /// Whether two texts are equal, where each way to compare them gives the same answer.
-fn compared(alloc: Global, words: Pair) -> Result<Option<bool>, Fault> {
+fn are_equal(alloc: Global, words: Pair) -> Result<Option<bool>, Fault> {
     let first = text_of(alloc, words.0)?;
     let second = text_of(alloc, words.1)?;
     let equal = first == second;
@@ -97,10 +97,10 @@ fn compared(alloc: Global, words: Pair) -> Result<Option<bool>, Fault> {
 #[test]
 fn texts_are_equal_however_they_are_cut(rt: HostRuntime) -> Result<(), Fail> {
     for words in EQUAL {
-        assert!(rt; compared(rt.alloc(), words)? == Some(true));
+        assert!(rt; are_equal(rt.alloc(), words)? == Some(true));
     }
     for words in DIFFERENT {
-        assert!(rt; compared(rt.alloc(), words)? == Some(false));
+        assert!(rt; are_equal(rt.alloc(), words)? == Some(false));
     }
     Ok(())
 }

@@ -27,7 +27,7 @@ const EVENTS: [Event; 8] = [
     (false, (ROOT, 0, 2)),
 ];
 
-fn shown(event: WalkEvent<SyntaxElement>) -> Result<(bool, Option<Shown>), Fault> {
+fn element_of(event: WalkEvent<SyntaxElement>) -> Result<(bool, Option<Shown>), Fault> {
     match event {
         WalkEvent::Enter(entered) => Ok((true, element(Ok(Some(entered)))?)),
         WalkEvent::Leave(left) => Ok((false, element(Ok(Some(left)))?)),
@@ -40,7 +40,7 @@ fn gives(walk: &mut PreorderWithTokens, events: &[Event]) -> Result<bool, Fault>
         let Some(event) = walk.next() else {
             return Ok(false);
         };
-        if shown(event?)? != (*enters, Some(*expected)) {
+        if element_of(event?)? != (*enters, Some(*expected)) {
             return Ok(false);
         }
     }

@@ -1,11 +1,16 @@
--- Paths: the subterm at a longer path, what begins with a path, and that nothing stands before the empty one.
-use Rattle.std.proofs.Common.{◌≡◌, ◌≢◌, ℕ, true, false, ◌&&◌, List, [], ◌∷◌, ◌++◌, filter, sum_by, Option, Some, None, inl, inr, refl, sym, ◌∙◌, ap, true≢false, eq-eqb, ne_eqb}
+-- Paths: the subterm at a longer path, what begins with a path, and that nothing stands before the
+-- empty one.
+use Rattle.std.proofs.Common.{◌≡◌, ◌≢◌, ℕ, true, false, ◌&&◌, List, [], ◌∷◌, ◌++◌, filter, sum_by}
+use Rattle.std.proofs.Common.{Option, Some, None, inl, inr, refl, sym, ◌∙◌, ap, true≢false, eq-eqb}
+use Rattle.std.proofs.Common.{ne_eqb}
 use Rattle.std.specs.Prelude.{slice_get}
 use Rattle.std.proofs.lemmas.Bool.{cases_eq}
 use Rattle.rowan_green.specs.Term.{Term, token_len}
-use Rattle.rowan_green.specs.Path.{Path, LeafAt, term_children, subterm_of, stands_before, begins, leaves, offset}
+use Rattle.rowan_green.specs.Path.{Path, LeafAt, term_children, subterm_of, stands_before, begins}
+use Rattle.rowan_green.specs.Path.{leaves, offset}
 
-none_before : (ls : List LeafAt) → sum_by (λ l. token_len l.1) (filter (λ l. stands_before l.0 []) ls) ≡ 0
+none_before : (ls : List LeafAt)
+    → sum_by (λ l. token_len l.1) (filter (λ l. stands_before l.0 []) ls) ≡ 0
 none_before [] = refl
 none_before (l ∷ ls) = none_before ls
 
@@ -13,7 +18,8 @@ pub offset-empty : (t : Term) → offset t [] ≡ 0
 offset-empty t = none_before (leaves t)
 
 -- Going down: the subterm at a longer path.
-pub subterm_of-append : (t : Option Term) (p q : Path) → subterm_of t (p ++ q) ≡ subterm_of (subterm_of t p) q
+pub subterm_of-append : (t : Option Term) (p q : Path)
+    → subterm_of t (p ++ q) ≡ subterm_of (subterm_of t p) q
 subterm_of-append None p q = refl
 subterm_of-append (Some t) [] q = refl
 subterm_of-append (Some t) (i ∷ p) q = subterm_of-append (slice_get (term_children t) i) p q
@@ -42,6 +48,8 @@ pub begins-rest : (p q : Path) → begins p q ≡ true → (r : Path) × (q ≡ 
 begins-rest [] q h = (q, refl)
 begins-rest (i ∷ p) [] h = absurd (true≢false (sym h))
 begins-rest (i ∷ p) (j ∷ q) h = elim (cases_eq i j) [
-  | inl e ↦ (let s = begins-rest p q (sym (begins-same i p q) ∙ ap (λ k. begins (i ∷ p) (k ∷ q)) e ∙ h) in (s.0, ap (λ k. k ∷ q) (sym e) ∙ ap (λ u. i ∷ u) s.1))
+  | inl e ↦ (let s = begins-rest p q
+      (sym (begins-same i p q) ∙ ap (λ k. begins (i ∷ p) (k ∷ q)) e ∙ h) in
+      (s.0, ap (λ k. k ∷ q) (sym e) ∙ ap (λ u. i ∷ u) s.1))
   | inr n ↦ absurd (true≢false (sym h ∙ begins-other i j p q n))
 ]

@@ -1,5 +1,7 @@
--- Paths beside one another, below one another, and in order: how `separate`, `begins` and `stands_before` answer.
-use Rattle.std.proofs.Common.{◌≡◌, ◌≢◌, ℕ, Bool, true, false, not, ◌&&◌, [], ◌∷◌, ◌++◌, ◌⊎◌, inl, inr, refl, sym, ◌∙◌, ap, true≢false}
+-- Paths beside one another, below one another, and in order: how `separate`, `begins` and
+-- `stands_before` answer.
+use Rattle.std.proofs.Common.{◌≡◌, ◌≢◌, ℕ, Bool, true, false, not, ◌&&◌, [], ◌∷◌, ◌++◌, ◌⊎◌, inl}
+use Rattle.std.proofs.Common.{inr, refl, sym, ◌∙◌, ap, true≢false}
 use Rattle.std.proofs.Math.Bool.{and_comm}
 use Rattle.std.proofs.lemmas.Bool.{cases_eq, cases_order}
 use Rattle.rowan_green.specs.Path.{Path, begins, separate, stands_before}
@@ -8,11 +10,13 @@ use Rattle.rowan_green.proofs.OffsetLemmas.{before_at_less, before_at_same, befo
 
 -- Tests of the first place.
 separate_at_same : (i : ℕ) (p q : Path) → separate (i ∷ p) (i ∷ q) ≡ separate p q
-separate_at_same i p q = ap (λ b. not b && not (begins (i ∷ q) (i ∷ p))) (begins-same i p q) ∙ ap (λ b. not (begins p q) && not b) (begins-same i q p)
+separate_at_same i p q = ap (λ b. not b && not (begins (i ∷ q) (i ∷ p))) (begins-same i p q)
+    ∙ ap (λ b. not (begins p q) && not b) (begins-same i q p)
 
 separate_at_other : (i j : ℕ) (p q : Path) → i ≢ j → separate (i ∷ p) (j ∷ q) ≡ true
 separate_at_other i j p q n =
-    ap (λ b. not b && not (begins (j ∷ q) (i ∷ p))) (begins-other i j p q n) ∙ ap (λ b. not false && not b) (begins-other j i q p (λ e. n (sym e)))
+    ap (λ b. not b && not (begins (j ∷ q) (i ∷ p))) (begins-other i j p q n)
+    ∙ ap (λ b. not false && not b) (begins-other j i q p (λ e. n (sym e)))
 
 -- separate paths, by the place at which they part
 abbrev pub Part : Path → Path → Type 0
@@ -24,7 +28,11 @@ pub part-separate : (p q : Path) → separate p q ≡ true → Part p q
 part-separate [] q h = absurd (true≢false (sym h))
 part-separate (i ∷ p) [] h = absurd (true≢false (sym h))
 part-separate (i ∷ p) (j ∷ q) h = elim (cases_eq i j) [
-  | inl e ↦ inr (e, part-separate p q (sym (separate_at_same i p q) ∙ ap (λ k. separate (i ∷ p) (k ∷ q)) e ∙ h))
+  | inl e ↦ inr (
+    e,
+    part-separate p q
+        (sym (separate_at_same i p q) ∙ ap (λ k. separate (i ∷ p) (k ∷ q)) e ∙ h),
+  )
   | inr n ↦ inl n
 ]
 
@@ -33,7 +41,8 @@ separate-part [] q h = absurd h
 separate-part (i ∷ p) [] h = absurd h
 separate-part (i ∷ p) (j ∷ q) h = elim h [
   | inl n ↦ separate_at_other i j p q n
-  | inr r ↦ ap (λ k. separate (i ∷ p) (k ∷ q)) (sym r.0) ∙ separate_at_same i p q ∙ separate-part p q r.1
+  | inr r ↦ ap (λ k. separate (i ∷ p) (k ∷ q)) (sym r.0) ∙ separate_at_same i p q
+      ∙ separate-part p q r.1
 ]
 
 pub separate-sym : (p q : Path) → separate p q ≡ separate q p
@@ -43,10 +52,12 @@ pub part-sym : (p q : Path) → Part p q → Part q p
 part-sym p q h = part-separate q p (separate-sym q p ∙ separate-part p q h)
 
 -- of two paths that are not separate, one begins the other
-pub separate-or_begins : (p q : Path) → separate p q ≡ false → (begins p q ≡ true) ⊎ (begins q p ≡ true)
+pub separate-or_begins : (p q : Path) → separate p q ≡ false
+    → (begins p q ≡ true) ⊎ (begins q p ≡ true)
 separate-or_begins p q h = by (begins p q) (begins q p) refl refl h
   where
-    by : (a b : Bool) → begins p q ≡ a → begins q p ≡ b → (not a && not b) ≡ false → (begins p q ≡ true) ⊎ (begins q p ≡ true)
+    by : (a b : Bool) → begins p q ≡ a → begins q p ≡ b → (not a && not b) ≡ false
+        → (begins p q ≡ true) ⊎ (begins q p ≡ true)
     by true b e f h = inl e
     by false true e f h = inr f
     by false false e f h = absurd (true≢false h)
@@ -81,5 +92,6 @@ before-part (i ∷ p) (j ∷ q) h = elim (cases_order i j) [
   | inr (inr g) ↦ before_at_greater i j p q g ∙ sym (ap not (before_at_less j i q p g))
 ]
 
-pub before-separate : (p q : Path) → separate p q ≡ true → stands_before p q ≡ not (stands_before q p)
+pub before-separate : (p q : Path) → separate p q ≡ true
+    → stands_before p q ≡ not (stands_before q p)
 before-separate p q h = before-part p q (part-separate p q h)

@@ -1,7 +1,10 @@
 -- Laws of terms: the two forms of a list of children, and the lengths of what is joined.
-use Rattle.std.proofs.Common.{◌≡◌, ℕ, ◌+◌, List, [], ◌∷◌, ◌++◌, length, ◌≤◌, refl, sym, ◌∙◌, ap, arith, length-append}
+use Rattle.std.proofs.Common.{◌≡◌, ℕ, ◌+◌, List, [], ◌∷◌, ◌++◌, length, ◌≤◌, refl, sym, ◌∙◌, ap}
+use Rattle.std.proofs.Common.{arith, length-append}
 use Rattle.rowan_green.specs.declared.utility_types.NodeOrToken.TheVariants.{Node, Token}
-use Rattle.rowan_green.specs.Term.{NodeTerm, node, Forest, empty, node_then, token_then, Term, terms, forest, node_of, node_children, forest_text, term_text, joined_text, node_len, term_len, sum_of_lens}
+use Rattle.rowan_green.specs.Term.{NodeTerm, node, Forest, empty, node_then, token_then, Term}
+use Rattle.rowan_green.specs.Term.{terms, forest, node_of, node_children, forest_text, term_text}
+use Rattle.rowan_green.specs.Term.{joined_text, node_len, term_len, sum_of_lens}
 use Rattle.rowan_green.specs.Fits.{byte_limit, AreWithin, Fits, FitsNode, FitForest, AllFit}
 
 pub terms-forest : (ts : List Term) → terms (forest ts) ≡ ts
@@ -22,16 +25,19 @@ forest_text-forest (Token t ∷ ts) = ap (λ bs. term_text (Token t) ++ bs) (for
 
 pub length-joined_text : (ts : List Term) → length (joined_text ts) ≡ sum_of_lens ts
 length-joined_text [] = refl
-length-joined_text (t ∷ ts) = length-append (term_text t) (joined_text ts) ∙ ap (λ n. term_len t + n) (length-joined_text ts)
+length-joined_text (t ∷ ts) =
+    length-append (term_text t) (joined_text ts) ∙ ap (λ n. term_len t + n) (length-joined_text ts)
 
 -- the length of a node is the sum of its children's lengths
 pub node_len-node_of : (k : ℕ) (ts : List Term) → node_len (node_of k ts) ≡ sum_of_lens ts
 node_len-node_of k ts = ap length (forest_text-forest ts) ∙ length-joined_text ts
 
 pub node_len-children : (n : NodeTerm) → node_len n ≡ sum_of_lens (node_children n)
-node_len-children (node k f) = ap (λ g. node_len (node k g)) (sym (forest-terms f)) ∙ node_len-node_of k (terms f)
+node_len-children (node k f) =
+    ap (λ g. node_len (node k g)) (sym (forest-terms f)) ∙ node_len-node_of k (terms f)
 
-pub sum_of_lens-append : (ts us : List Term) → sum_of_lens (ts ++ us) ≡ sum_of_lens ts + sum_of_lens us
+pub sum_of_lens-append : (ts us : List Term)
+    → sum_of_lens (ts ++ us) ≡ sum_of_lens ts + sum_of_lens us
 sum_of_lens-append [] us = omega arith
 sum_of_lens-append (t ∷ ts) us = omega (arith, sum_of_lens-append ts us)
 
@@ -41,7 +47,8 @@ FitForest-forest (Node n ∷ ts) h = (h.0, FitForest-forest ts h.1)
 FitForest-forest (Token t ∷ ts) h = (h.0, FitForest-forest ts h.1)
 
 pub FitsNode-node_of : (k : ℕ) (ts : List Term) → AreWithin ts → AllFit ts → FitsNode (node_of k ts)
-FitsNode-node_of k ts w h = (let P : List Term → Type 0 = AreWithin in rw terms-forest w, FitForest-forest ts h)
+FitsNode-node_of k ts w h =
+    (let P : List Term → Type 0 = AreWithin in rw terms-forest w, FitForest-forest ts h)
 
 pub AllFit-push : (ts : List Term) (t : Term) → AllFit ts → Fits t → AllFit (ts ++ t ∷ [])
 AllFit-push [] t h f = (f, tt)

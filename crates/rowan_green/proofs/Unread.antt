@@ -1,5 +1,8 @@
 -- What is still to be read, with one more at the end of the list.
-use Rattle.std.proofs.Common.{◌≡◌, ℕ, suc, ◌+◌, ◌<◌, ◌≤◌, ◌-◌, ◌&&◌, Bool, true, false, not, true≢false, List, [], ◌∷◌, ◌++◌, length, map, get_or, take, drop, drop-cons, append_assoc, Option, Some, None, refl, sym, ◌∙◌, ap, arith}
+use Rattle.std.proofs.Common.{◌≡◌, ℕ, suc, ◌+◌, ◌<◌, ◌≤◌, ◌-◌, ◌&&◌, Bool, true, false, not}
+use Rattle.std.proofs.Common.{true≢false, List, [], ◌∷◌, ◌++◌, length, map, get_or, take, drop}
+use Rattle.std.proofs.Common.{drop-cons, append_assoc, Option, Some, None, refl, sym, ◌∙◌, ap}
+use Rattle.std.proofs.Common.{arith}
 use Rattle.std.proofs.lemmas.List.{append-nil}
 use Rattle.std.specs.Bool.{if◌then◌else◌}
 use Rattle.std.specs.Option.{option_to_list, MatchOption}
@@ -9,34 +12,42 @@ use Rattle.rowan_green.specs.Term.{NodeTerm, node_size}
 use Rattle.rowan_green.specs.View.{child_term}
 use Rattle.rowan_green.specs.Sizes.{children_size}
 use Rattle.rowan_green.specs.Same.{same_node}
-use Rattle.rowan_green.specs.Unread.{same_pairs, pairs_size, unread_terms, unread_size, left_terms, left_size}
+use Rattle.rowan_green.specs.Unread.{same_pairs, pairs_size, unread_terms, unread_size, left_terms}
+use Rattle.rowan_green.specs.Unread.{left_size}
 
 and_swap : (a b c : Bool) → (a && (b && c)) ≡ (b && (a && c))
 and_swap true b c = refl
 and_swap false true c = refl
 and_swap false false c = refl
 
-pub same_pairs-push : (ps : List (Bor NodeTerm × Bor NodeTerm)) (p : Bor NodeTerm × Bor NodeTerm) → same_pairs (ps ++ p ∷ []) ≡ (same_node p.0.now p.1.now && same_pairs ps)
+pub same_pairs-push : (ps : List (Bor NodeTerm × Bor NodeTerm)) (p : Bor NodeTerm × Bor NodeTerm)
+    → same_pairs (ps ++ p ∷ []) ≡ (same_node p.0.now p.1.now && same_pairs ps)
 same_pairs-push [] p = refl
 same_pairs-push (q ∷ ps) p =
-    ap (λ b. same_node q.0.now q.1.now && b) (same_pairs-push ps p) ∙ and_swap (same_node q.0.now q.1.now) (same_node p.0.now p.1.now) (same_pairs ps)
+    ap (λ b. same_node q.0.now q.1.now && b) (same_pairs-push ps p)
+    ∙ and_swap (same_node q.0.now q.1.now) (same_node p.0.now p.1.now) (same_pairs ps)
 
-pub pairs_size-push : (ps : List (Bor NodeTerm × Bor NodeTerm)) (p : Bor NodeTerm × Bor NodeTerm) → pairs_size (ps ++ p ∷ []) ≡ pairs_size ps + node_size p.0.now
+pub pairs_size-push : (ps : List (Bor NodeTerm × Bor NodeTerm)) (p : Bor NodeTerm × Bor NodeTerm)
+    → pairs_size (ps ++ p ∷ []) ≡ pairs_size ps + node_size p.0.now
 pairs_size-push [] p = omega arith
 pairs_size-push (q ∷ ps) p = omega (arith, pairs_size-push ps p)
 
 -- the child at an index, and those behind it
-pub drop-child : (cs : List GreenChild) (i : ℕ) (c : GreenChild) → i < length cs → c ≡ get_or cs i c → drop i cs ≡ c ∷ drop (i + 1) cs
+pub drop-child : (cs : List GreenChild) (i : ℕ) (c : GreenChild) → i < length cs → c ≡ get_or cs i c
+    → drop i cs ≡ c ∷ drop (i + 1) cs
 drop-child cs i c h e =
     let next : suc i ≡ i + 1 = omega arith in
     drop-cons cs i c h ∙ ap (λ x. x ∷ drop (suc i) cs) (sym e) ∙ ap (λ j. c ∷ drop j cs) next
 
-pub unread_terms-push : (rest : List (Bor (List GreenChild))) (cs : Bor (List GreenChild)) → unread_terms (rest ++ cs ∷ []) ≡ map child_term cs.now ++ unread_terms rest
+pub unread_terms-push : (rest : List (Bor (List GreenChild))) (cs : Bor (List GreenChild))
+    → unread_terms (rest ++ cs ∷ []) ≡ map child_term cs.now ++ unread_terms rest
 unread_terms-push [] cs = sym (append-nil (map child_term cs.now))
 unread_terms-push (ds ∷ rest) cs =
-    ap (λ ts. ts ++ map child_term ds.now) (unread_terms-push rest cs) ∙ append_assoc (map child_term cs.now) (unread_terms rest) (map child_term ds.now)
+    ap (λ ts. ts ++ map child_term ds.now) (unread_terms-push rest cs)
+    ∙ append_assoc (map child_term cs.now) (unread_terms rest) (map child_term ds.now)
 
-pub unread_size-push : (rest : List (Bor (List GreenChild))) (cs : Bor (List GreenChild)) → unread_size (rest ++ cs ∷ []) ≡ children_size cs.now + unread_size rest + 1
+pub unread_size-push : (rest : List (Bor (List GreenChild))) (cs : Bor (List GreenChild))
+    → unread_size (rest ++ cs ∷ []) ≡ children_size cs.now + unread_size rest + 1
 unread_size-push [] cs = omega arith
 unread_size-push (ds ∷ rest) cs = omega (arith, unread_size-push rest cs)
 
@@ -45,23 +56,30 @@ no_children [] h = refl
 no_children (c ∷ cs) h = absurd (omega arith)
 
 -- what a pop takes from a list, whose length was n and is m
-pub record Pops (n m : ℕ) (old : List (Bor (List GreenChild))) (taken : Option (Bor (List GreenChild))) (new : List (Bor (List GreenChild))) : Type 0 where
+pub record Pops (n m : ℕ) (old : List (Bor (List GreenChild)))
+    (taken : Option (Bor (List GreenChild))) (new : List (Bor (List GreenChild))) : Type 0 where
   pub items : old ≡ new ++ option_to_list taken
   pub rest : new ≡ take (n - 1) old
   pub none : MatchOption taken ((n ≡ 0) × (m ≡ 0)) (λ _. m + 1 ≡ n)
 
-pub left_terms-pop : (n m : ℕ) (old new : List (Bor (List GreenChild))) (taken : Option (Bor (List GreenChild))) → Pops n m old taken new → left_terms taken new ≡ unread_terms old
+pub left_terms-pop : (n m : ℕ) (old new : List (Bor (List GreenChild)))
+    (taken : Option (Bor (List GreenChild))) → Pops n m old taken new
+    → left_terms taken new ≡ unread_terms old
 left_terms-pop n m old new (Some cs) p = sym (ap unread_terms p.items ∙ unread_terms-push new cs)
 left_terms-pop n m old new None p =
     let none : new ≡ [] = p.rest ∙ ap (λ k. take (k - 1) old) p.none.0 in
     sym (ap unread_terms p.items ∙ ap (λ x. unread_terms (x ++ [])) none)
 
-pub left_size-pop : (n m : ℕ) (old new : List (Bor (List GreenChild))) (taken : Option (Bor (List GreenChild))) → Pops n m old taken new → left_size taken new ≤ unread_size old
-left_size-pop n m old new (Some cs) p = omega (arith, ap unread_size p.items, unread_size-push new cs)
+pub left_size-pop : (n m : ℕ) (old new : List (Bor (List GreenChild)))
+    (taken : Option (Bor (List GreenChild))) → Pops n m old taken new
+    → left_size taken new ≤ unread_size old
+left_size-pop n m old new (Some cs) p =
+    omega (arith, ap unread_size p.items, unread_size-push new cs)
 left_size-pop n m old new None p = omega arith
 
 -- the children behind a node were put to the list
-pub pushed : (err ok : Bool) (old new : List (Bor (List GreenChild))) (cs : Bor (List GreenChild)) → err ≡ false → ok ≡ not err → new ≡ (if ok then old ++ cs ∷ [] else old) → new ≡ old ++ cs ∷ []
+pub pushed : (err ok : Bool) (old new : List (Bor (List GreenChild))) (cs : Bor (List GreenChild))
+    → err ≡ false → ok ≡ not err → new ≡ (if ok then old ++ cs ∷ [] else old) → new ≡ old ++ cs ∷ []
 pushed false true old new cs h e x = x
 pushed false false old new cs h e x = absurd (true≢false (sym e))
 pushed true ok old new cs h e x = absurd (true≢false h)

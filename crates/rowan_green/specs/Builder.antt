@@ -1,5 +1,5 @@
--- What a contract sees of a builder: its word, and what its cache keeps. Beside a word's growth, a call asks the cache for
--- the term that it adds or closes.
+-- What a contract sees of a builder: its word, and what its cache keeps. Beside a word's growth, a
+-- call asks the cache for the term that it adds or closes.
 use Rattle.std.specs.Prelude.{◌≡◌, ℕ, List, [], ◌∷◌, ◌++◌}
 use Rattle.rowan_green.specs.declared.utility_types.NodeOrToken.TheVariants.{Node, Token}
 use Rattle.rowan_green.specs.Term.{TokenTerm, NodeTerm}

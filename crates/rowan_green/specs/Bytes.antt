@@ -1,4 +1,5 @@
--- The numbers of tokens whose whole text is one byte: the place of a number in a list of them is the byte.
+-- The numbers of tokens whose whole text is one byte: the place of a number in a list of them is
+-- the byte.
 use Rattle.std.specs.Prelude.{◌≡◌, ℕ, ◌⊎◌, List, [], ◌∷◌, Option, Some}
 use Rattle.std.specs.List.{slice_get}
 use Rattle.rowan_green.specs.declared.utility_types.NodeOrToken.TheVariants.{Token}

@@ -1,12 +1,16 @@
 -- The cache of green values: which terms it keeps, and in which order it saw them first.
---     With a limit, a term is eligible where each node in it, itself included, has at most so many children.
+--     With a limit, a term is eligible where each node in it, itself included, has at most so many
+--     children.
 --     A cache keeps each eligible term that it is asked for, once, in the order of first asking.
 -- The place of a term in that list, counted from 0, is its number.
-use Rattle.std.specs.Prelude.{◌≡◌, ℕ, Bool, true, false, ◌&&◌, not, nat_le, IsTrue, if◌then◌else◌, List, [], ◌∷◌, ◌++◌, map, fold, length, Option, Some, None, is_some, count_by}
+use Rattle.std.specs.Prelude.{◌≡◌, ℕ, Bool, true, false, ◌&&◌, not, nat_le, IsTrue, if◌then◌else◌}
+use Rattle.std.specs.Prelude.{List, [], ◌∷◌, ◌++◌, map, fold, length, Option, Some, None, is_some}
+use Rattle.std.specs.Prelude.{count_by}
 use Rattle.std.specs.List.{list_all, list_any, slice_get}
 use Rattle.rowan_green.specs.declared.node_cache.Interned.{Interned}
 use Rattle.rowan_green.specs.declared.utility_types.NodeOrToken.TheVariants.{Node, Token}
-use Rattle.rowan_green.specs.Term.{NodeTerm, node, Forest, empty, node_then, token_then, Term, terms}
+use Rattle.rowan_green.specs.Term.{NodeTerm, node, Forest, empty, node_then, token_then, Term}
+use Rattle.rowan_green.specs.Term.{terms}
 use Rattle.rowan_green.specs.Same.{same_term}
 
 abbrev mutual
@@ -53,7 +57,8 @@ count_tokens ts = count_by is_token ts
 abbrev pub count_nodes : List Term → ℕ
 count_nodes ts = count_by (λ t. not (is_token t)) ts
 
--- what a contract sees of a cache: its limit, and the terms that it keeps, in the order in which it saw them first
+-- what a contract sees of a cache: its limit, and the terms that it keeps, in the order in which it
+-- saw them first
 pub record CacheValue : Type 0 where
   pub limit : ℕ
   pub seen : List Term
@@ -86,6 +91,7 @@ AreNumbered cache _ _ = ⊥
 abbrev pub ListsNumbers : List (Option ℕ) → List ℕ → Type 0
 ListsNumbers given numbers = given ≡ map (λ n. Some n) numbers
 
--- whether a node of elements with these numbers gets one: they are few enough, and each has a number
+-- whether a node of elements with these numbers gets one: they are few enough, and each has a
+-- number
 abbrev pub gets_number : ℕ → List (Option ℕ) → Bool
 gets_number limit given = nat_le (length given) limit && list_all (λ n. is_some n) given

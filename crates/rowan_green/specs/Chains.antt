@@ -1,8 +1,11 @@
--- Chains of places by their hashes. A hash has a bucket. The places of one bucket are a chain, the newest first.
-use Rattle.std.specs.Prelude.{◌≡◌, ℕ, ◌-◌, ◌<◌, ◌≤◌, List, length, map, Option, Some, None, bit_and, refl}
+-- Chains of places by their hashes. A hash has a bucket. The places of one bucket are a chain, the
+-- newest first.
+use Rattle.std.specs.Prelude.{◌≡◌, ℕ, ◌-◌, ◌<◌, ◌≤◌, List, length, map, Option, Some, None, bit_and}
+use Rattle.std.specs.Prelude.{refl}
 use Rattle.std.specs.Coded.{Coded, code_by, coded×, coded_ℕ, coded_list}
 use Rattle.std.specs.List.{slice_get}
-use Rattle.rowan_green.specs.declared.node_cache.chains.Place.{Place}
+use Rattle.rowan_green.specs.declared.node_cache.chains.ChainLink.{ChainLink}
+use Rattle.rowan_green.specs.Link.{link_limit}
 
 -- what a contract sees of chains: the hash of each place, and how many buckets there are
 pub record ChainsValue : Type 0 where
@@ -10,10 +13,10 @@ pub record ChainsValue : Type 0 where
   pub count : ℕ
 
 -- the hashes of places, and the links to the older ones
-abbrev pub hashes_of : List Place → List ℕ
+abbrev pub hashes_of : List ChainLink → List ℕ
 hashes_of ps = map (λ p. p.hash) ps
 
-abbrev pub older_of : List Place → List (Option ℕ)
+abbrev pub older_of : List ChainLink → List (Option ℕ)
 older_of ps = map (λ p. p.older) ps
 
 abbrev pub bucket : ℕ → ℕ → ℕ
@@ -44,11 +47,12 @@ pub record IsOnChain (hashes : List ℕ) (older : List (Option ℕ)) (next : Opt
   pub within : (n : ℕ) → next ≡ Some n → n < length hashes
   pub falls : (n m : ℕ) → slice_get older n ≡ Some (Some m) → m < n
 
--- what the fields of chains keep: there are no fewer buckets than places, and the numbers of places have 32 bits
+-- what the fields of chains keep: there are no fewer buckets than places, and the numbers of places
+-- have 32 bits
 pub record AreChains (hashes : List ℕ) (newest older : List (Option ℕ)) : Type 0 where
   pub linked : AreLinked hashes newest older
   pub room : length hashes ≤ length newest
-  pub small : length hashes ≤ 4294967295
+  pub small : length hashes ≤ link_limit
 
 abbrev chains_parts : ChainsValue → List ℕ × ℕ
 chains_parts c = (c.hashes, c.count)

@@ -6,9 +6,11 @@ use Rattle.std.specs.Coded.{Coded, code_by, coded×, coded⊎, coded_ℕ, coded_
 use base.Stored.{coded_unit}
 use Rattle.rowan_green.specs.declared.utility_types.NodeOrToken.TheVariants.{Node, Token}
 use Rattle.rowan_green.specs.Term.{NodeTerm, node, Forest, empty, node_then, token_then, Term}
-use Rattle.rowan_green.specs.Word.{Symbol, Open, Leaf, Close, node_word, forest_word, Item, Bare, Whole}
+use Rattle.rowan_green.specs.Word.{Symbol, Open, Leaf, Close, node_word, forest_word, Item, Bare}
+use Rattle.rowan_green.specs.Word.{Whole}
 
--- the items after a closing, where the latest item stands first: a node of the terms after the innermost opening
+-- the items after a closing, where the latest item stands first: a node of the terms after the
+-- innermost opening
 abbrev pub closed : Forest → List Item → List Item
 closed f [] = []
 closed f (Bare k ∷ items) = Whole (Node (node k f)) ∷ items

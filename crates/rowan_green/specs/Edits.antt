@@ -1,6 +1,7 @@
--- Edits of the list of a node's children, by places, which count from 0: what stays before the place, what is put there, and
--- what stays behind.
-use Rattle.std.specs.Prelude.{ℕ, ◌+◌, Bool, nat_lt, if◌then◌else◌, List, ◌∷◌, ◌++◌, take, drop, length}
+-- Edits of the list of a node's children, by places, which count from 0: what stays before the
+-- place, what is put there, and what stays behind.
+use Rattle.std.specs.Prelude.{ℕ, ◌+◌, Bool, nat_lt, if◌then◌else◌, List, ◌∷◌, ◌++◌, take, drop}
+use Rattle.std.specs.Prelude.{length}
 use Rattle.rowan_green.specs.Fits.{IsMadeOf}
 use Rattle.rowan_green.specs.Term.{NodeTerm, Term, node_kind, node_children}
 
@@ -20,7 +21,8 @@ removed xs i = take i xs ++ drop (i + 1) xs
 abbrev pub spliced : {A : Type 0} → List A → ℕ → ℕ → List A → List A
 spliced xs start end new = take start xs ++ new ++ drop end xs
 
--- how far a splice has come with these new elements: the list goes on behind `end` once they are all there
+-- how far a splice has come with these new elements: the list goes on behind `end` once they are
+-- all there
 abbrev pub spliced_so_far : {A : Type 0} → List A → ℕ → ℕ → List A → Bool → List A
 spliced_so_far xs start end new all = if all then spliced xs start end new else take start xs ++ new
 

@@ -1,10 +1,11 @@
--- What the hash of a term feeds a hasher: the kind and the text of a token, and the kind of a node, the number of its
--- children, and for each of them 0 before a node and 1 before a token.
+-- What the hash of a term feeds a hasher: the kind and the text of a token, and the kind of a node,
+-- the number of its children, and for each of them 0 before a node and 1 before a token.
 use Rattle.std.specs.Prelude.{ℕ, List, [], ◌++◌, length}
 use Rattle.std.specs.Hash as fed
 use Rattle.std.specs.List.{flat_map}
 use Rattle.rowan_green.specs.declared.utility_types.NodeOrToken.TheVariants.{Node, Token}
-use Rattle.rowan_green.specs.Term.{TokenTerm, NodeTerm, node, Forest, empty, node_then, token_then, Term, terms, node_kind, node_children}
+use Rattle.rowan_green.specs.Term.{TokenTerm, NodeTerm, node, Forest, empty, node_then, token_then}
+use Rattle.rowan_green.specs.Term.{Term, terms, node_kind, node_children}
 
 abbrev pub fed_token : TokenTerm → List (List ℕ)
 fed_token t = fed.u16 t.kind ++ fed.str t.text

@@ -1,11 +1,14 @@
--- The limits of 32 bits: a text has at most 4,294,967,295 bytes, and a node at most as many children.
--- `Fits` says that a term keeps them at every level. `PassesLimit` says which limit a list of children passes first.
+-- The limits of 32 bits: a text has at most 4,294,967,295 bytes, and a node at most as many
+-- children.
+-- `Fits` says that a term keeps them at every level. `PassesLimit` says which limit a list of
+-- children passes first.
 use Rattle.std.specs.Prelude.{◌≡◌, ◌≢◌, ℕ, ◌+◌, ◌<◌, ◌≤◌, List, ◌∷◌, ◌++◌, length}
 use Rattle.std.specs.List.{AllByRecursion}
 use Rattle.rowan_green.specs.declared.fault.Fault.{Fault}
 use Rattle.rowan_green.specs.declared.fault.Fault.TheVariants.{TextTooLong, TooManyChildren, Memory}
 use Rattle.rowan_green.specs.declared.utility_types.NodeOrToken.TheVariants.{Node, Token}
-use Rattle.rowan_green.specs.Term.{TokenTerm, NodeTerm, node, Forest, empty, node_then, token_then, Term, terms, node_of, token_len, term_len, sum_of_lens}
+use Rattle.rowan_green.specs.Term.{TokenTerm, NodeTerm, node, Forest, empty, node_then, token_then}
+use Rattle.rowan_green.specs.Term.{Term, terms, node_of, token_len, term_len, sum_of_lens}
 
 -- the greatest number of bytes of a text, and the greatest number of children of a node
 abbrev pub byte_limit : ℕ

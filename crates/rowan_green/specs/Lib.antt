@@ -14,6 +14,7 @@ pub mod Gives
 pub mod Lent
 pub mod Link
 pub mod Loan
+pub mod NodeBlock
 pub mod Path
 pub mod Replacements
 pub mod Runs

@@ -1,4 +1,5 @@
--- A builder and the cache that is lent to it: which cache it is, and what is left there when the builder ends.
+-- A builder and the cache that is lent to it: which cache it is, and what is left there when the
+-- builder ends.
 use Rattle.std.specs.Prelude.{◌≡◌, ℕ, List, [], Result, Ok, Err}
 use Rattle.std.specs.Borrow.{Fml, GName, MutBor, follows_so}
 use Rattle.std.specs.Result.{OnOk, OnErr}
@@ -67,7 +68,8 @@ KeepsLoan {H} {R} work =
     (first last : MutBor (GreenNodeBuilder H BuilderValue)) (r : R) → work first r last
     → loan_of last.now ≡ loan_of first.now
 
--- the work took a builder of this value to a last one, and the home received what that has in its cache
+-- the work took a builder of this value to a last one, and the home received what that has in its
+-- cache
 pub record LeavesCacheOfRun {H R : Type 0}
     (receives : H → CacheValue → Type 0)
     (work : GreenNodeBuilder H BuilderValue → R → GreenNodeBuilder H BuilderValue → Type 0)

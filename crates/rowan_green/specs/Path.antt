@@ -1,16 +1,23 @@
 -- Paths: which subterm of a term is meant, and where its text lies.
---     A path is a list of places among children, from the top down. The empty path is the term itself.
+--     A path is a list of places among children, from the top down. The empty path is the term
+--     itself.
 --     The leaves of a term are its tokens, each with its path, in the order of the text.
---     The offset of a path is the sum of the lengths of the leaves before it, and its range goes on for the length of its
+--     The offset of a path is the sum of the lengths of the leaves before it, and its range goes on
+--     for the length of its
 --     subterm.
---     A replacement puts another subterm at a path. Paths are separate where neither begins the other: what stands at such a
+--     A replacement puts another subterm at a path. Paths are separate where neither begins the
+--     other: what stands at such a
 --     path stays, and its range moves with the text before it.
 -- Paths are in the order of a dictionary: a path stands before its own extensions.
-use Rattle.std.specs.Prelude.{ℕ, ◌+◌, ◌-◌, not, if◌then◌else◌, ◌&&◌, ◌||◌, Bool, true, false, List, [], ◌∷◌, ◌++◌, map, filter, sum_by, Option, Some, None, nat_lt, nat_eq, slice_get}
+use Rattle.std.specs.Prelude.{ℕ, ◌+◌, ◌-◌, not, if◌then◌else◌, ◌&&◌, ◌||◌, Bool, true, false, List}
+use Rattle.std.specs.Prelude.{[], ◌∷◌, ◌++◌, map, filter, sum_by, Option, Some, None, nat_lt}
+use Rattle.std.specs.Prelude.{nat_eq, slice_get}
 use Rattle.rowan_green.specs.declared.utility_types.NodeOrToken.TheVariants.{Node, Token}
 use Rattle.rowan_green.specs.Edits.{replaced}
 use Rattle.rowan_green.specs.Span.{Span}
-use Rattle.rowan_green.specs.Term.{TokenTerm, NodeTerm, node, Forest, empty, node_then, token_then, Term, node_of, node_kind, node_children, token_len, term_len, term_text}
+use Rattle.rowan_green.specs.Term.{TokenTerm, NodeTerm, node, Forest, empty, node_then, token_then}
+use Rattle.rowan_green.specs.Term.{Term, node_of, node_kind, node_children, token_len, term_len}
+use Rattle.rowan_green.specs.Term.{term_text}
 
 abbrev pub Path : Type 0
 Path = List ℕ
@@ -108,7 +115,8 @@ separate p q = not (begins p q) && not (begins q p)
 abbrev pub shifted : ℕ → ℕ → Span → Span
 shifted old new r = record { start = r.start + new - old; end = r.end + new - old }
 
--- where the range r of a path q goes, when at a separate path p a text of `new` bytes comes in place of one of `old` bytes
+-- where the range r of a path q goes, when at a separate path p a text of `new` bytes comes in
+-- place of one of `old` bytes
 abbrev pub moved : Path → ℕ → ℕ → Path → Span → Span
 moved p old new q r = if stands_before q p then r else shifted old new r
 

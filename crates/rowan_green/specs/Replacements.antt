@@ -1,6 +1,7 @@
 -- Replacements one after the other: each puts a term at a path of what those before it made.
 --     They make a term where something stands at each path when its turn comes.
---     A path is separate from all where it is separate from the path of each; they are pairwise separate where the paths of any two
+--     A path is separate from all where it is separate from the path of each; they are pairwise
+--     separate where the paths of any two
 --     are. The range of a path that is separate from all moves with each in turn.
 use Rattle.std.specs.Prelude.{◌≡◌, List, [], ◌∷◌, true, Some}
 use Rattle.std.specs.List.{All, AllPairs}

@@ -8,7 +8,8 @@ use Rattle.std.proofs.lemmas.Bool.{and_from, and_parts, false≢true}
 use Rattle.std.proofs.lemmas.Bool.Decides.{Decides-eqb}
 use lib.Pointwise.{pointwise}
 use Rattle.rowan_green.specs.declared.utility_types.NodeOrToken.TheVariants.{Node, Token}
-use Rattle.rowan_green.specs.Term.{TokenTerm, NodeTerm, node, Forest, empty, node_then, token_then, Term, token_of, terms}
+use Rattle.rowan_green.specs.Term.{TokenTerm, NodeTerm, node, Forest, empty, node_then, token_then}
+use Rattle.rowan_green.specs.Term.{Term, token_of, terms}
 
 abbrev pub same_token : TokenTerm → TokenTerm → Bool
 same_token t u = (t.kind == u.kind) && pointwise ◌==◌ t.text u.text

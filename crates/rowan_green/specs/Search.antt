@@ -1,8 +1,11 @@
 -- The child of a node at a range of its text, and binary digits.
 --     Of a range with bytes, it is the child that has all of them. At most one has.
---     An empty range is a place between bytes. The child at it is the one that has bytes on both sides of the place; else the
---     last that ends there, if children end there or before; and else the first, if it begins there.
--- Offsets count from the node's start. A search by halves of n children looks at no more of them than n has binary digits.
+--     An empty range is a place between bytes. The child at it is the one that has bytes on both
+--     sides of the place; else the
+--     last that ends there, if children end there or before; and else the first, if it begins
+--     there.
+-- Offsets count from the node's start. A search by halves of n children looks at no more of them
+-- than n has binary digits.
 use Rattle.std.specs.Prelude.{◌≡◌, ℕ, ◌+◌, ◌<◌, ◌≤◌, List, length, take}
 use Rattle.std.specs.Int.Digits.{digits_of}
 use Rattle.rowan_green.specs.Term.{Term, sum_of_lens}
@@ -46,7 +49,8 @@ pub data IsChildAt (ts : List Term) (a b k : ℕ) : Type 0 where
   ends_there : a ≡ b → IsLastBefore ts a k → IsChildAt ts a b k
   begins_there : a ≡ b → IsFirstBehind ts a k → IsChildAt ts a b k
 
--- no other child than that at place k can be the one at the range, and it is if the range lies in its own
+-- no other child than that at place k can be the one at the range, and it is if the range lies in
+-- its own
 pub record IsOnlyChoice (ts : List Term) (a b k : ℕ) : Type 0 where
   pub is : HasRange ts a b k → IsChildAt ts a b k
   pub only : (j : ℕ) → IsChildAt ts a b j → (j ≡ k) × HasRange ts a b k

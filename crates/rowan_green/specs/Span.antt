@@ -24,6 +24,7 @@ EndsBefore a b = a.end ≤ b.start
 abbrev pub Overlaps : Span → Span → Type 0
 Overlaps a b = (b.start < a.end) × (a.start < b.end)
 
--- the second range ends before the first starts, or where it starts, and the first does not also end before the second
+-- the second range ends before the first starts, or where it starts, and the first does not also
+-- end before the second
 abbrev pub StartsBehind : Span → Span → Type 0
 StartsBehind a b = (b.start < a.end) × (b.end ≤ a.start)

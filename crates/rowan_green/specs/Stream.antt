@@ -1,5 +1,6 @@
 -- What a builder asks its cache for: each token when it is added, and each node when it is closed.
--- So where a builder began with nothing, it asked for the subterms of its word's whole terms, in the order in which they end.
+-- So where a builder began with nothing, it asked for the subterms of its word's whole terms, in
+-- the order in which they end.
 use Rattle.std.specs.Prelude.{◌≡◌, List, [], ◌∷◌, ◌++◌, fold}
 use Rattle.std.specs.List.{flat_map}
 use Rattle.rowan_green.specs.declared.utility_types.NodeOrToken.TheVariants.{Node, Token}
@@ -9,7 +10,8 @@ use Rattle.rowan_green.specs.Cache.{CacheValue, intern, Continues}
 use Rattle.rowan_green.specs.Builder.{BuilderValue}
 
 abbrev mutual
-  -- the subterms of a node in the order in which they end: those of each child in turn, and the node itself last
+  -- the subterms of a node in the order in which they end: those of each child in turn, and the
+  -- node itself last
   pub node_subterms : NodeTerm → List Term
   node_subterms (node k f) = forest_subterms f ++ Node (node k f) ∷ []
 
@@ -37,7 +39,8 @@ pub record Grows (earlier later : CacheValue) : Type 0 where
   pub same_limit : later.limit ≡ earlier.limit
   pub continues : Continues earlier.seen later.seen
 
--- Calls took the builder from the old value to the new one: its cache grew, and was asked for the subterms that ended meanwhile.
+-- Calls took the builder from the old value to the new one: its cache grew, and was asked for the
+-- subterms that ended meanwhile.
 pub record BuildsOn (old new : BuilderValue) : Type 0 where
   pub keeps : (earlier : CacheValue) → InternsWord earlier old → InternsWord earlier new
   pub grows : Grows old.cache new.cache

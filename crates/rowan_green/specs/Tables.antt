@@ -1,6 +1,7 @@
--- The table of the values that a cache keeps, by which it finds the number of a term: for a token from its kind and text, and
--- for a node from its kind and the numbers of its children.
-use Rattle.std.specs.Prelude.{◌≡◌, ℕ, ◌+◌, ◌≤◌, Bool, false, bit_and, bit_xor, nat_eq, ◌==◌, ◌&&◌, List, [], ◌∷◌, length, map, take, drop, fold, Option, None, Some}
+-- The table of the values that a cache keeps, by which it finds the number of a term: for a token
+-- from its kind and text, and for a node from its kind and the numbers of its children.
+use Rattle.std.specs.Prelude.{◌≡◌, ℕ, ◌+◌, ◌≤◌, Bool, false, bit_and, bit_xor, nat_eq, ◌==◌, ◌&&◌}
+use Rattle.std.specs.Prelude.{List, [], ◌∷◌, length, map, take, drop, fold, Option, None, Some}
 use Rattle.std.specs.Cmp.Lexicographic.{pointwise}
 use Rattle.std.specs.Hash as fed
 use Rattle.std.specs.Hash.FoldHasher.{initial, write, finish}
@@ -16,9 +17,13 @@ use Rattle.rowan_green.specs.Cache.{first_seen, count_tokens}
 
 -- ---- what a term is found by
 
+-- a number of 32 bits that are all set
+abbrev low_bits : ℕ
+low_bits = 4294967295
+
 -- the last 32 bits of a hash, with a kind in them
 abbrev pub with_kind : ℕ → ℕ → ℕ
-with_kind kind hash = bit_xor (bit_and hash 4294967295) kind
+with_kind kind hash = bit_xor (bit_and hash low_bits) kind
 
 -- the hash of a token's kind and text
 unfoldable pub token_hash : ℕ → List ℕ → ℕ
@@ -100,7 +105,8 @@ pub record AreParents (ks : List Kept) (all : List ℕ) : Type 0 where
   pub over : (child parent : ℕ) → slice_get (map kept_parent ks) child ≡ Some (Some parent)
       → slice_get (map (child_numbers all) ks) parent ≡ Some (child ∷ [])
 
--- what the fields of a table keep: no term stands twice, the chains have the hash of each value, and parents are found by their child
+-- what the fields of a table keep: no term stands twice, the chains have the hash of each value,
+-- and parents are found by their child
 pub record IsIndexed (ks : List Kept) (all : List ℕ) (chains : ChainsValue) : Type 0 where
   pub once : (i j : ℕ) (t : Term)
       → slice_get (kept_terms ks) i ≡ Some t → slice_get (kept_terms ks) j ≡ Some t → i ≡ j
@@ -108,7 +114,8 @@ pub record IsIndexed (ks : List Kept) (all : List ℕ) (chains : ChainsValue) : 
   pub hashed : chains.hashes ≡ hashes all ks
   pub parents : AreParents ks all
 
--- what the fields of a cache keep: the terms are those first seen, and the tokens among them are counted
+-- what the fields of a cache keep: the terms are those first seen, and the tokens among them are
+-- counted
 pub record IsCounted (limit : ℕ) (seen : List Term) (token_count : ℕ) : Type 0 where
   pub first : first_seen limit seen ≡ seen
   pub counted : token_count ≡ count_tokens seen

@@ -1,7 +1,9 @@
 -- Terms: what green values are, with their texts and lengths.
 --     A token is a raw kind and a text, as the bytes of its UTF-8.
---     A node is a raw kind and a list of children, each a node or a token. It has no place and no parent.
--- The text of a node is the texts of its children, one after the other, and a length is the number of bytes of a text.
+--     A node is a raw kind and a list of children, each a node or a token. It has no place and no
+--     parent.
+-- The text of a node is the texts of its children, one after the other, and a length is the number
+-- of bytes of a text.
 use Rattle.std.specs.Prelude.{ℕ, ◌+◌, List, [], ◌∷◌, ◌++◌, length}
 use Rattle.std.specs.List.{flat_map}
 use Rattle.rowan_green.specs.declared.utility_types.NodeOrToken.{NodeOrToken}
@@ -11,7 +13,8 @@ pub record TokenTerm : Type 0 where
   pub kind : ℕ
   pub text : List ℕ
 
--- The children of a node stand in a list of their own, since antt has no list of the type that is being defined.
+-- The children of a node stand in a list of their own, since antt has no list of the type that is
+-- being defined.
 -- `terms` and `forest` go from one to the other.
 mutual
   pub data NodeTerm : Type 0 where

@@ -1,8 +1,10 @@
--- What is still to be read of green nodes by a call that goes through them with a list: a comparison with a list of pairs of
--- nodes, and a call that keeps the order with a list of children, of which the last come first.
+-- What is still to be read of green nodes by a call that goes through them with a list: a
+-- comparison with a list of pairs of nodes, and a call that keeps the order with a list of
+-- children, of which the last come first.
 use Rattle.std.specs.Fmt.{HasWritten, IsPlainFormatter}
 use Rattle.std.specs.declared.fmt.Formatter.{Formatter}
-use Rattle.std.specs.Prelude.{◌≡◌, ℕ, ◌+◌, List, [], ◌∷◌, ◌++◌, Bool, true, ◌&&◌, Option, Some, None, map}
+use Rattle.std.specs.Prelude.{◌≡◌, ℕ, ◌+◌, List, [], ◌∷◌, ◌++◌, Bool, true, ◌&&◌, Option, Some}
+use Rattle.std.specs.Prelude.{None, map}
 use Rattle.std.specs.Borrow.{Bor}
 use Rattle.rowan_green.specs.declared.green.node.GreenChild.{GreenChild}
 use Rattle.rowan_green.specs.Term.{NodeTerm, Term, node_size}
@@ -40,6 +42,7 @@ left_size (Some cs) rest = children_size cs.now + unread_size rest + 1
 left_size None rest = 0
 
 -- g is f after writing the text, but for an end of it that is left
-abbrev pub WritesUpTo : {W : Type 0} → (W → List ℕ → W → Type 0) → Formatter W → List ℕ → List ℕ → Formatter W → Type 0
+abbrev pub WritesUpTo : {W : Type 0} → (W → List ℕ → W → Type 0) → Formatter W → List ℕ → List ℕ
+    → Formatter W → Type 0
 WritesUpTo took f text left g =
     IsPlainFormatter f → (bs : List ℕ) × (HasWritten took f bs g × (text ≡ bs ++ left))

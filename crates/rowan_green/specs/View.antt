@@ -1,9 +1,9 @@
 -- What the memory of a node says: its term, and what is stored beside it.
 use Rattle.std.specs.Prelude.{◌≡◌, ℕ, ◌+◌, List, [], ◌∷◌, map}
 use Rattle.std.specs.Global.{Global}
-use Rattle.rowan_counted.specs.declared.Counted.{Counted}
-use Rattle.rowan_headed.specs.declared.front.Front.{Front}
-use Rattle.rowan_headed.specs.Shape.{IsHeaded}
+use Rattle.rowan_thin_rc.specs.declared.count.Counted.{Counted}
+use Rattle.rowan_thin_rc.specs.declared.header_slice.HeaderSlice.{HeaderSlice}
+use Rattle.rowan_thin_rc.specs.Shape.{IsHeaded}
 use Rattle.rowan_green.specs.declared.green.node.GreenNodeHead.{GreenNodeHead}
 use Rattle.rowan_green.specs.declared.green.node.GreenChild.{GreenChild}
 use Rattle.rowan_green.specs.declared.green.node.GreenChild.TheVariants.{Node, Token}
@@ -12,6 +12,7 @@ use Rattle.rowan_green.specs.Term.{NodeTerm, Term, node_of, sum_of_lens, term_le
 use Rattle.rowan_green.specs.Fits.{AreWithin, AllFit}
 use Rattle.rowan_green.specs.Search.{child_start, child_end}
 use Rattle.rowan_green.specs.Span.{Span}
+use Rattle.rowan_green.specs.NodeBlock.{front_words, child_words}
 
 -- the term of a child
 abbrev pub child_term : GreenChild → Term
@@ -30,7 +31,7 @@ span_at cs index =
 
 -- what a node's block begins with, and its children
 abbrev pub Stored : Type 0
-Stored = Front GreenNodeHead GreenChild Global
+Stored = HeaderSlice GreenNodeHead GreenChild Global
 
 abbrev pub node_view : Stored → NodeTerm
 node_view f = node_of f.head.kind.0 (map child_term f.tail.items)
@@ -41,14 +42,15 @@ HasOffsetsFrom at [] = Unit {0}
 HasOffsetsFrom at (c ∷ cs) =
     (child_offset c ≡ at) × HasOffsetsFrom (at + term_len (child_term c)) cs
 
--- a stored length and the stored offsets are those of the children, which are within the limits at every level
+-- a stored length and the stored offsets are those of the children, which are within the limits at
+-- every level
 pub record AreSound (len : ℕ) (cs : List GreenChild) : Type 0 where
   pub sum : len ≡ sum_of_lens (map child_term cs)
   pub offsets : HasOffsetsFrom 0 cs
   pub within : AreWithin (map child_term cs)
   pub fit : AllFit (map child_term cs)
 
--- the parts of a node's block belong together: a head is two words with its counts, and a child is two
+-- the parts of a node's block belong together
 pub record IsSound (c : Counted Stored) : Type 0 where
-  pub headed : IsHeaded 2 2 c
+  pub headed : IsHeaded front_words child_words c
   pub sound : AreSound c.value.head.text_len c.value.tail.items

@@ -1,8 +1,9 @@
 -- What waits in a builder: elements, with their numbers.
-use Rattle.std.specs.Prelude.{◌≡◌, ℕ, ◌<◌, List, [], map, take, Option, None, Some, vec_len, vec_capacity}
+use Rattle.std.specs.Prelude.{◌≡◌, ℕ, ◌<◌, List, [], map, take, Option, None, Some, vec_len}
+use Rattle.std.specs.Prelude.{vec_capacity}
 use Rattle.rowan_green.specs.declared.green.node.GreenChild.{GreenChild}
 use Rattle.rowan_green.specs.declared.green.node.block.ChildBlock.{ChildBlock}
-use Rattle.rowan_green.specs.declared.node_cache.waiting.Waiting.{Waiting}
+use Rattle.rowan_green.specs.declared.node_cache.finished.FinishedElements.{FinishedElements}
 use Rattle.rowan_green.specs.Term.{Term}
 use Rattle.rowan_green.specs.View.{child_term}
 
@@ -21,23 +22,23 @@ HasBlockWithSpare None = ⊥
 HasBlockWithSpare (Some b) = HasSpare b
 
 -- the terms of the elements
-abbrev pub elements : Waiting → List Term
+abbrev pub elements : FinishedElements → List Term
 elements w = map child_term (children_in w.block)
 
 -- the number of each, where it has one
-abbrev pub numbers_of : Waiting → List (Option ℕ)
+abbrev pub numbers_of : FinishedElements → List (Option ℕ)
 numbers_of w = w.numbers.items
 
 -- there is room for one more
-abbrev pub HasRoom : Waiting → Type 0
+abbrev pub HasRoom : FinishedElements → Type 0
 HasRoom w = HasBlockWithSpare w.block × (vec_len w.numbers < vec_capacity w.numbers)
 
 -- the same waits
-abbrev pub IsSame : Waiting → Waiting → Type 0
+abbrev pub IsSame : FinishedElements → FinishedElements → Type 0
 IsSame old new = (elements new ≡ elements old) × (numbers_of new ≡ numbers_of old)
 
 -- what stands before the place still waits, with the room that there was
-pub record IsCutAt (place : ℕ) (old new : Waiting) : Type 0 where
+pub record IsCutAt (place : ℕ) (old new : FinishedElements) : Type 0 where
   pub terms : elements new ≡ take place (elements old)
   pub numbers : numbers_of new ≡ take place (numbers_of old)
   pub room : HasRoom old → HasRoom new

@@ -1,13 +1,19 @@
 -- Words: the symbols that spell terms, as brackets round leaves.
---     A token spells itself. A node spells an opening with its kind, its children's words, and a closing.
+--     A token spells itself. A node spells an opening with its kind, its children's words, and a
+--     closing.
 -- The items of a word are its openings that nothing closes, here called bare, and its whole terms.
--- A word has at most one list of items, since a closing is no item: the law of `laws::word_has_one_reading`.
+-- A word has at most one list of items, since a closing is no item: the law of
+-- `laws::word_has_one_reading`.
 use Rattle.std.specs.Prelude.{◌≡◌, ◌≢◌, ℕ, ◌<◌, List, [], ◌∷◌, ◌++◌, map, length}
 use Rattle.std.specs.List.{flat_map}
 use Rattle.rowan_green.specs.declared.fault.Fault.{Fault}
-use Rattle.rowan_green.specs.declared.fault.Fault.TheVariants.{TextTooLong, TooManyChildren, CheckpointPast, CheckpointBefore, NothingOpen, NotOneElement, NotANode, Memory}
+use Rattle.rowan_green.specs.declared.fault.Fault.TheVariants.{TextTooLong, TooManyChildren}
+use Rattle.rowan_green.specs.declared.fault.Fault.TheVariants.{CheckpointPast, CheckpointBefore}
+use Rattle.rowan_green.specs.declared.fault.Fault.TheVariants.{NothingOpen, NotOneElement, NotANode}
+use Rattle.rowan_green.specs.declared.fault.Fault.TheVariants.{Memory}
 use Rattle.rowan_green.specs.declared.utility_types.NodeOrToken.TheVariants.{Node, Token}
-use Rattle.rowan_green.specs.Term.{TokenTerm, NodeTerm, node, Forest, empty, node_then, token_then, Term, node_of}
+use Rattle.rowan_green.specs.Term.{TokenTerm, NodeTerm, node, Forest, empty, node_then, token_then}
+use Rattle.rowan_green.specs.Term.{Term, node_of}
 use Rattle.rowan_green.specs.Fits.{byte_limit, AreWithin, PassesLimit}
 
 pub data Symbol : Type 0 where
@@ -51,8 +57,8 @@ WhyNoToken text TextTooLong = byte_limit < length text
 WhyNoToken text Memory = Unit {0}
 WhyNoToken text _ = ⊥
 
--- A closing goes to the end of w. It closes the innermost bare opening over the whole terms behind it, which are within the
--- limits: that is the node n.
+-- A closing goes to the end of w. It closes the innermost bare opening over the whole terms behind
+-- it, which are within the limits: that is the node n.
 pub record Closes (w : List Symbol) (n : NodeTerm) (w2 : List Symbol) : Type 0 where
   pub before : List Item
   pub kind : ℕ
@@ -99,8 +105,8 @@ pub record HasCount (w : List Symbol) (n : ℕ) : Type 0 where
   pub parts : HasParts w items
   pub counted : count items ≡ n
 
--- An opening goes directly before whole term number c, counted from 0: behind the bare openings that stand there, and at the
--- end where c is the count.
+-- An opening goes directly before whole term number c, counted from 0: behind the bare openings
+-- that stand there, and at the end where c is the count.
 pub record Wraps (w : List Symbol) (c k : ℕ) (w2 : List Symbol) : Type 0 where
   pub before : List Item
   pub after : List Term
@@ -114,7 +120,8 @@ pub record IsPast (w : List Symbol) (c : ℕ) : Type 0 where
   pub parts : HasParts w items
   pub past : count items < c
 
--- the checkpoint is below the place of the innermost bare opening: the number of whole terms before it
+-- the checkpoint is below the place of the innermost bare opening: the number of whole terms before
+-- it
 pub record IsBeforeOpening (w : List Symbol) (c : ℕ) : Type 0 where
   pub before : List Item
   pub kind : ℕ

@@ -9,22 +9,29 @@ ghost use Rattle.rowan_green.specs.Builder.{new_builder, adds, opens, FinishesNo
 ghost use Rattle.rowan_green.specs.Cache.{empty_cache, first_seen};
 ghost use Rattle.rowan_green.specs.Fits.{byte_limit};
 ghost use Rattle.rowan_green.specs.Term.{node_text};
-ghost use Rattle.rowan_green.specs.Loan.{value_of, word_of, cache_of, text_so_far, if_accepted, loan_of, unfinished_value, fault_of, unfinished_loan, LeavesCacheUnlessRefused, KeepsLoan, LeavesCacheOfRun};
+ghost use Rattle.rowan_green.specs.Loan.{value_of, word_of, cache_of, text_so_far, if_accepted};
+ghost use Rattle.rowan_green.specs.Loan.{loan_of, unfinished_value, fault_of, unfinished_loan};
+ghost use Rattle.rowan_green.specs.Loan.{LeavesCacheUnlessRefused, KeepsLoan, LeavesCacheOfRun};
 ghost use Rattle.rowan_green.specs.Stream.{BuildsOn};
-ghost use Rattle.rowan_green.specs.Word.{WhyNoToken, HasNoneOpen, WhyNotClosed, HasCount, IsPast, IsBeforeOpening, WhyNotWrapped, IsFinished, WhyUnfinished};
+ghost use Rattle.rowan_green.specs.Word.{WhyNoToken, HasNoneOpen, WhyNotClosed, HasCount, IsPast};
+ghost use Rattle.rowan_green.specs.Word.{IsBeforeOpening, WhyNotWrapped, IsFinished, WhyUnfinished};
 
 use crate::fault::Fault;
 use crate::green::{GreenNode, SyntaxKind};
 use crate::node_cache::NodeCache;
-pub use loan::{CacheHome, HoldsCache, NoHome, OwnCache};
+#[doc(hidden)]
+pub use loan::{HoldsCache, NoHome};
+pub use loan::{CacheHome, OwnedCache};
+#[doc(hidden)]
 pub use owning::OwningBuilder;
 use std::alloc::Global;
 use std::marker::Model;
 
-/// A place in what a builder has: the number of elements, tokens or finished nodes, that stand before it, outside of open nodes
-/// or in any of them.
+/// A place in what a builder has: the number of elements, tokens or finished nodes, that stand
+/// before it, outside of open nodes or in any of them.
 ///
-/// A checkpoint means its number alone: an old one, or one of another builder, is accepted wherever its number is allowed.
+/// A checkpoint means its number alone: an old one, or one of another builder, is accepted wherever
+/// its number is allowed.
 #[derive(Clone, Copy, PartialEq, Eq, Debug)]
 pub struct Checkpoint {
     place: usize,
@@ -40,7 +47,8 @@ impl Model for Checkpoint {
     ghost inverse = { λ n. record { place = n } };
 }
 
-/// Builds a green tree from calls in the order of the text: `start_node` opens a node, `token` adds a leaf and
+/// Builds a green tree from calls in the order of the text: `start_node` opens a node, `token` adds
+/// a leaf and
 /// `finish_node` closes the innermost open node over all that was added since.
 ///
 /// ```rust
@@ -57,14 +65,17 @@ impl Model for Checkpoint {
 /// }
 /// ```
 ///
-/// A builder has a cache: of its own, with `new`, or one that is lent, with `with_cache`. The type `GreenNodeBuilder<'_>` is
-/// the one with a lent cache; one with its own cache is a `GreenNodeBuilder<'_, OwnCache>`. While a cache is lent the builder
-/// has what is in it, and the drop of the builder, or `finish`, gives it back.
+/// A builder has a cache: of its own, with `new`, or one that is lent, with `with_cache`. The type
+/// `GreenNodeBuilder<'_>` is the one with a lent cache; one with its own cache is a
+/// `GreenNodeBuilder<'_, OwnedCache>`. While a cache is lent the builder has what is in it, and the
+/// drop of the builder, or `finish`, gives it back.
 ///
-/// At most 4,294,967,295 finished elements wait for the nodes that will have them; a call that would add one more answers `Memory`.
+/// At most 4,294,967,295 finished elements wait for the nodes that will have them; a call that
+/// would add one more answers `Memory`.
 ///
-/// A contract sees a builder as its word, which is the accepted calls as openings, leaves and closings, and the value of its
-/// cache. A refused call leaves both as they were. The text so far is that of the accepted tokens, in bytes of UTF-8: the clause
+/// A contract sees a builder as its word, which is the accepted calls as openings, leaves and
+/// closings, and the value of its cache. A refused call leaves both as they were. The text so far
+/// is that of the accepted tokens, in bytes of UTF-8: the clause
 /// `text` of each call says what becomes of it, and the finished tree has this text.
 pub struct GreenNodeBuilder<'cache, H: CacheHome = NodeCache, B: HoldsCache = OwningBuilder> {
     home: &'cache mut H,
@@ -80,14 +91,15 @@ impl<H: CacheHome, B: HoldsCache> Drop for GreenNodeBuilder<'_, H, B> {
     }
 }
 
-impl<'cache> GreenNodeBuilder<'cache, OwnCache> {
-    /// A builder with nothing in it, and with a cache of its own, which keeps nodes of at most 3 children. Takes no memory.
-    pub fn new(alloc: Global) -> GreenNodeBuilder<'cache, OwnCache>
+impl<'cache> GreenNodeBuilder<'cache, OwnedCache> {
+    /// A builder with nothing in it, and with a cache of its own, which keeps nodes of at most 3
+    /// children. Takes no memory.
+    pub fn new(alloc: Global) -> GreenNodeBuilder<'cache, OwnedCache>
         ensures empty { value_of result ≡ new_builder (empty_cache 3) }
         ensures text { text_so_far result ≡ [] }
     {
-        // A reference that outlives the call may point to a slice of no elements, but to no other value of no
-        // bytes: so the empty array is taken from an empty slice.
+        // A reference that outlives the call may point to a slice of no elements, but to no other
+        // value of no bytes: so the empty array is taken from an empty slice.
         let nowhere: &'cache mut [NoHome] = &mut [];
         let Some(home) = nowhere.first_chunk_mut::<0>() else {
             unreachable!()
@@ -98,12 +110,13 @@ impl<'cache> GreenNodeBuilder<'cache, OwnCache> {
         }
     }
 
-    /// Gives the finished tree: the one element that stands outside of all open nodes or in any of them, which has to be a node.
-    /// Nodes that were never closed are left out. Takes no memory.
+    /// Gives the finished tree: the one element that stands outside of all open nodes or in any of
+    /// them, which has to be a node. Nodes that were never closed are left out. Takes no memory.
     ///
-    /// An `Err` with `NotOneElement` where there is no element or more than one, and with `NotANode` where the one is a token. It
-    /// has the builder, with the same word and the same cache; `?` makes its `Fault` of it.
-    pub fn finish(self) -> Result<GreenNode, Unfinished<'cache, OwnCache>>
+    /// An `Err` with `NotOneElement` where there is no element or more than one, and with
+    /// `NotANode` where the one is a token. It has the builder, with the same word and the same
+    /// cache; `?` makes its `Fault` of it.
+    pub fn finish(self) -> Result<GreenNode, Unfinished<'cache, OwnedCache>>
         ensures ok { IfOk result (IsFinished (word_of self.entry)) }
         ensures text { IfOk result (λ tree. node_text tree ≡ text_so_far self.entry) }
         ensures err { IfErr result (λ u. WhyUnfinished (word_of self.entry) (fault_of u)) }
@@ -118,10 +131,12 @@ impl<'cache> GreenNodeBuilder<'cache, OwnCache> {
 }
 
 impl<'cache> GreenNodeBuilder<'cache> {
-    /// A builder with nothing in it, over a cache that is lent to it and has what is interned. Takes no memory.
+    /// A builder with nothing in it, over a cache that is lent to it and has what is interned.
+    /// Takes no memory.
     ///
-    /// The builder takes what the cache keeps, and gives it back, with what it adds, when it is finished or dropped. A builder
-    /// that is forgotten, by `mem::forget`, gives nothing back: the lent cache then keeps nothing, and has the limit that it had.
+    /// The builder takes what the cache keeps, and gives it back, with what it adds, when it is
+    /// finished or dropped. A builder that is forgotten, by `mem::forget`, gives nothing back: the
+    /// lent cache then keeps nothing, and has the limit that it had.
     pub fn with_cache(alloc: Global, cache: &'cache mut NodeCache) -> GreenNodeBuilder<'cache>
         ensures loan { loan_of result ≡ cache.entry.ghost_name }
         ensures empty { value_of result ≡ new_builder cache.old }
@@ -135,11 +150,13 @@ impl<'cache> GreenNodeBuilder<'cache> {
         }
     }
 
-    /// Gives the finished tree, and the cache back to where it was lent: the one element that stands outside of all open nodes
-    /// or in any of them, which has to be a node. Nodes that were never closed are left out. Takes no memory.
+    /// Gives the finished tree, and the cache back to where it was lent: the one element that
+    /// stands outside of all open nodes or in any of them, which has to be a node. Nodes that were
+    /// never closed are left out. Takes no memory.
     ///
-    /// An `Err` with `NotOneElement` where there is no element or more than one, and with `NotANode` where the one is a token. It
-    /// has the builder, with the same word and the same loan; `.map_err(Fault::from)?` makes its `Fault` of it and drops it.
+    /// An `Err` with `NotOneElement` where there is no element or more than one, and with
+    /// `NotANode` where the one is a token. It has the builder, with the same word and the same
+    /// loan; `.map_err(Fault::from)?` makes its `Fault` of it and drops it.
     pub fn finish(self) -> Result<GreenNode, Unfinished<'cache>>
         // the cache that was lent
         ensures* rests { sem 𝓛 (LeavesCacheUnlessRefused self.entry result) }
@@ -167,7 +184,8 @@ impl<'cache> GreenNodeBuilder<'cache> {
 impl<H: CacheHome> GreenNodeBuilder<'_, H> {
     /// Adds a token to the innermost open node: the one of the cache where it has an equal one.
     ///
-    /// An `Err` with `TextTooLong` exactly for a text of more than 4,294,967,295 bytes of UTF-8, and else only with `Memory`.
+    /// An `Err` with `TextTooLong` exactly for a text of more than 4,294,967,295 bytes of UTF-8,
+    /// and else only with `Memory`.
     pub fn token(&mut self, kind: SyntaxKind, text: &str) -> Result<(), Fault>
         // what it adds
         ensures ok { OnOk result (value_of self.new
@@ -206,12 +224,12 @@ impl<H: CacheHome> GreenNodeBuilder<'_, H> {
         Ok(())
     }
 
-    /// Closes the innermost open node over the elements that were added since it was opened. The node is the one of the cache
-    /// where it has an equal one.
+    /// Closes the innermost open node over the elements that were added since it was opened. The
+    /// node is the one of the cache where it has an equal one.
     ///
-    /// An `Err` with `NothingOpen` exactly where no node is open, with `TooManyChildren` or `TextTooLong` where the node would
-    /// have more than 4,294,967,295 children or bytes, and else only with `Memory`. The node is then open as before, with its
-    /// elements.
+    /// An `Err` with `NothingOpen` exactly where no node is open, with `TooManyChildren` or
+    /// `TextTooLong` where the node would have more than 4,294,967,295 children or bytes, and else
+    /// only with `Memory`. The node is then open as before, with its elements.
     pub fn finish_node(&mut self) -> Result<(), Fault>
         // what it closes
         ensures ok { OnOk result (FinishesNode (value_of self.old) (value_of self.new)) }
@@ -229,11 +247,11 @@ impl<H: CacheHome> GreenNodeBuilder<'_, H> {
         self.inner.finish_node()
     }
 
-    /// The place where the next element goes: `start_node_at` opens a node there later, around what was added meanwhile. Takes
-    /// no memory.
+    /// The place where the next element goes: `start_node_at` opens a node there later, around what
+    /// was added meanwhile. Takes no memory.
     ///
-    /// A parser that reads `1 + 2` knows only at the operator that its left operand stands in a sum. So it takes a checkpoint
-    /// before each operand:
+    /// A parser that reads `1 + 2` knows only at the operator that its left operand stands in a
+    /// sum. So it takes a checkpoint before each operand:
     ///
     /// ```rust
     /// let before_operand = builder.checkpoint();
@@ -251,8 +269,10 @@ impl<H: CacheHome> GreenNodeBuilder<'_, H> {
 
     /// Opens a node at a checkpoint, around all that was added and finished since.
     ///
-    /// An `Err` with `CheckpointPast` exactly where the builder has fewer elements than the checkpoint says, with
-    /// `CheckpointBefore` exactly where the innermost open node was opened behind it, and else only with `Memory`.
+    /// An `Err` with `CheckpointPast` exactly where the builder has fewer elements than the
+    /// checkpoint says, with
+    /// `CheckpointBefore` exactly where the innermost open node was opened behind it, and else only
+    /// with `Memory`.
     pub fn start_node_at(&mut self, checkpoint: Checkpoint, kind: SyntaxKind) -> Result<(), Fault>
         // what it opens
         ensures ok { OnOk result
@@ -273,10 +293,11 @@ impl<H: CacheHome> GreenNodeBuilder<'_, H> {
         self.inner.start_node_at(checkpoint, kind)
     }
 
-    /// Lends the tree that `finish` would give. A function that has only a `&mut` of the builder, as in `run`, reads it by this
-    /// call. Takes no memory.
+    /// Lends the tree that `finish` would give. A function that has only a `&mut` of the builder,
+    /// as in `with`, reads it by this call. Takes no memory.
     ///
-    /// An `Err` with `NotOneElement` where there is no element or more than one, and with `NotANode` where the one is a token.
+    /// An `Err` with `NotOneElement` where there is no element or more than one, and with
+    /// `NotANode` where the one is a token.
     pub fn tree(&self) -> Result<&GreenNode, Fault>
         ensures ok { IfOk result (λ tree. IsFinished (word_of self.now) tree.now) }
         ensures err { IfErr result (WhyUnfinished (word_of self.now)) }
@@ -291,9 +312,9 @@ impl<H: CacheHome> GreenNodeBuilder<'_, H> {
         self.inner.cache()
     }
 
-    /// Lends the builder to a closure, and drops it then. A function that takes a builder by value says through this call what
-    /// the lent cache has afterwards.
-    pub fn run<R, F: FnOnce(&mut GreenNodeBuilder<'_, H>) -> R>(self, work: F) -> R
+    /// Lends the builder to a closure, and drops it then. A function that takes a builder by value
+    /// says through this call what the lent cache has afterwards.
+    pub fn with<R, F: FnOnce(&mut GreenNodeBuilder<'_, H>) -> R>(self, work: F) -> R
         requires callable { F.IsAlwaysCallable work }
         requires keeps { KeepsLoan (F.post work) }
         ensures { LeavesCacheOfRun H.receives (FnOnceReturnsAtMut F.FnOnce work)
@@ -347,9 +368,10 @@ impl<'cache, H: CacheHome> Unfinished<'cache, H> {
     }
 }
 
-/// Why there is no tree. So a function that answers a `Fault` has `builder.finish()?` where the cache is the builder's own, and
-/// `builder.finish().map_err(Fault::from)?` where it is lent. The builder is dropped, which gives a lent cache back: a contract
-/// that says what it then has takes the two cases apart by `match`.
+/// Why there is no tree. So a function that answers a `Fault` has `builder.finish()?` where the
+/// cache is the builder's own, and
+/// `builder.finish().map_err(Fault::from)?` where it is lent. The builder is dropped, which gives a
+/// lent cache back: a contract that says what it then has takes the two cases apart by `match`.
 impl<H: CacheHome> From<Unfinished<'_, H>> for Fault {
     ghost from_gives = { λ u fault. fault ≡ fault_of u };
 

@@ -5,10 +5,12 @@ ghost use Rattle.rowan_green.specs.declared.fault.Fault.TheVariants.{Memory};
 use std::alloc::{AllocError, AllocFailed};
 use thiserror::Error;
 
-/// Why a call was refused. After a refusal every builder, tree and cursor is as it was before the call.
+/// Why a call was refused. After a refusal every builder, tree and cursor is as it was before the
+/// call.
 #[derive(Clone, Copy, PartialEq, Eq, Debug, Error)]
 pub enum Fault {
-    /// The text of a token, or the texts of a node's children together, have more than 4,294,967,295 bytes.
+    /// The text of a token, or the texts of a node's children together, have more than
+    /// 4,294,967,295 bytes.
     #[error("a text is longer than 4294967295 bytes")]
     TextTooLong,
     /// A node would have more than 4,294,967,295 children.

@@ -1,4 +1,5 @@
-//! Green values: immutable tokens and nodes, which know neither a place nor a parent, and are shared.
+//! Green values: immutable tokens and nodes, which know neither a place nor a parent, and are
+//! shared.
 
 mod children;
 mod element;
@@ -8,11 +9,18 @@ mod short_text;
 mod token;
 mod token_data;
 
+pub use crate::steps::Steps;
 pub use children::Children;
 pub use element::{GreenElement, GreenElementRef};
 pub(crate) use node::{ChildBlock, GreenChild};
 pub use node::{GreenNode, GreenNodeData};
 pub use token::{GreenToken, GreenTokenData};
+
+/// The greatest number of bytes of a text.
+pub(crate) const MAX_TEXT_LEN: usize = u32::MAX as usize;
+
+/// The greatest number of children of a node.
+pub(crate) const MAX_CHILDREN: usize = u32::MAX as usize;
 
 /// The kind of a token or a node, as the number that a language gives it.
 #[derive(Clone, Copy, PartialEq, Eq, PartialOrd, Ord, Hash, Debug)]

@@ -1,19 +1,26 @@
 //! Laws of terms and words, each as the contract of a function that does nothing.
-ghost use Rattle.std.specs.Prelude.{◌≡◌, ◌↔◌, ◌⊎◌, ◌<◌, ◌≤◌, ◌^◌, ℕ, List, [], ◌∷◌, ◌++◌, true, false, not, Some, None, Contains, IsPermutation, IsTrue, slice_get, ◌+◌, length, take, drop, slice_range};
+ghost use Rattle.std.specs.Prelude.{◌≡◌, ◌↔◌, ◌⊎◌, ◌<◌, ◌≤◌, ◌^◌, ℕ, List, [], ◌∷◌, ◌++◌, true};
+ghost use Rattle.std.specs.Prelude.{false, not, Some, None, Contains, IsPermutation, IsTrue};
+ghost use Rattle.std.specs.Prelude.{slice_get, ◌+◌, length, take, drop, slice_range};
 ghost use Rattle.std.specs.List.{flat_map};
 ghost use Rattle.std.specs.Bool.{Decides};
 ghost use Rattle.rowan_green.specs.Cache.{is_eligible, with_term, first_seen, Continues};
 ghost use Rattle.rowan_green.specs.Edits.{replaced, inserted, removed, spliced};
 ghost use Rattle.rowan_green.specs.Fits.{byte_limit, AreWithin, Fits, PassesLimit};
-ghost use Rattle.rowan_green.specs.Path.{Path, subterm, offset, range, text_of, tokens, stands_before, begins, put, separate, moved_range};
-ghost use Rattle.rowan_green.specs.Replacements.{Replacement, Makes, SeparateFromAll, PairwiseSeparate, moved_in_turn};
+ghost use Rattle.rowan_green.specs.Path.{Path, subterm, offset, range, text_of, tokens};
+ghost use Rattle.rowan_green.specs.Path.{stands_before, begins, put, separate, moved_range};
+ghost use Rattle.rowan_green.specs.Replacements.{Replacement, Makes, SeparateFromAll};
+ghost use Rattle.rowan_green.specs.Replacements.{PairwiseSeparate, moved_in_turn};
 ghost use Rattle.rowan_green.specs.Same.{same_node, same_token};
 ghost use Rattle.rowan_green.specs.Search.{HasRange, IsChildAt, digits};
-ghost use Rattle.rowan_green.specs.Term.{TokenTerm, NodeTerm, Term, node_of, node_len, node_text, sum_of_lens, joined_text, node_kind, node_children, term_text, term_len};
+ghost use Rattle.rowan_green.specs.Term.{TokenTerm, NodeTerm, Term, node_of, node_len, node_text};
+ghost use Rattle.rowan_green.specs.Term.{sum_of_lens, joined_text, node_kind, node_children};
+ghost use Rattle.rowan_green.specs.Term.{term_text, term_len};
 ghost use Rattle.rowan_green.specs.declared.utility_types.NodeOrToken.TheVariants.{Node};
 ghost use Rattle.rowan_green.specs.declared.fault.Fault.{Fault};
 ghost use Rattle.rowan_green.specs.Span.{Span, Holds, EndsBefore, intersection};
-ghost use Rattle.rowan_green.specs.Word.{Symbol, Item, HasParts, HasTerms, IsFinished, node_word, word_text, word_tokens};
+ghost use Rattle.rowan_green.specs.Word.{Symbol, Item, HasParts, HasTerms, IsFinished, node_word};
+ghost use Rattle.rowan_green.specs.Word.{word_text, word_tokens};
 
 /// A word has at most one list of items: bare openings and whole terms.
 pub fn word_has_one_reading()
@@ -31,13 +38,15 @@ pub fn equality_is_of_terms()
     ensures tokens { (t u : TokenTerm) → Decides (same_token t u) (t ≡ u) }
 {}
 
-/// The text of a node is its children's texts, one after the other, and its length the sum of their lengths.
+/// The text of a node is its children's texts, one after the other, and its length the sum of their
+/// lengths.
 pub fn node_has_its_children_text()
     ensures text { (k : ℕ) (ts : List Term) → node_text (node_of k ts) ≡ joined_text ts }
     ensures len { (k : ℕ) (ts : List Term) → node_len (node_of k ts) ≡ sum_of_lens ts }
 {}
 
-/// The text of an edited node is the texts of what stays before, of what is put there, and of what stays behind, in this order.
+/// The text of an edited node is the texts of what stays before, of what is put there, and of what
+/// stays behind, in this order.
 pub fn edited_node_has_the_text_of_its_parts()
     ensures replaced { (k : ℕ) (ts : List Term) (i : ℕ) (t : Term) → i < length ts
         → node_text (node_of k (replaced ts i t))
@@ -53,8 +62,8 @@ pub fn edited_node_has_the_text_of_its_parts()
         ≡ joined_text (take start ts) ++ joined_text us ++ joined_text (drop end ts) }
 {}
 
-/// A child that is replaced by itself, one that is not there, and one that is removed as soon as it is inserted, leave an equal
-/// node.
+/// A child that is replaced by itself, one that is not there, and one that is removed as soon as it
+/// is inserted, leave an equal node.
 pub fn some_edits_change_nothing()
     ensures itself { (n : NodeTerm) (i : ℕ) (t : Term) → slice_get (node_children n) i ≡ Some t
         → node_of (node_kind n) (replaced (node_children n) i t) ≡ n }
@@ -64,19 +73,21 @@ pub fn some_edits_change_nothing()
         → node_of (node_kind n) (removed (inserted (node_children n) i t) i) ≡ n }
 {}
 
-/// Children that pass a limit are not within the limits, and there is one limit that they pass first.
+/// Children that pass a limit are not within the limits, and there is one limit that they pass
+/// first.
 pub fn one_limit_is_passed_first()
     ensures excluded { (ts : List Term) (e : Fault) → PassesLimit ts e → ¬ AreWithin ts }
     ensures one { (ts : List Term) (e f : Fault) → PassesLimit ts e → PassesLimit ts f → e ≡ f }
 {}
 
-/// The text of a word's whole terms is the texts of its leaves, in order: a finished tree has the text of the accepted tokens.
+/// The text of a word's whole terms is the texts of its leaves, in order: a finished tree has the
+/// text of the accepted tokens.
 pub fn word_keeps_text()
     ensures { (w : List Symbol) (ts : List Term) → HasTerms w ts → word_text w ≡ joined_text ts }
 {}
 
-/// The tokens of a word's whole terms are the word's tokens, in order: the tokens of a finished tree are the accepted ones. The
-/// text of a word is the texts of its tokens.
+/// The tokens of a word's whole terms are the word's tokens, in order: the tokens of a finished
+/// tree are the accepted ones. The text of a word is the texts of its tokens.
 pub fn word_keeps_tokens()
     ensures terms { (w : List Symbol) (ts : List Term) → HasTerms w ts
         → word_tokens w ≡ flat_map tokens ts }
@@ -86,8 +97,9 @@ pub fn word_keeps_tokens()
         → word_text w ≡ flat_map (λ token. token.text) (word_tokens w) }
 {}
 
-/// The text of a term is the texts of its tokens, in order. What stands at a path has the bytes of the whole text in the range of
-/// the path, and that range ends within the text: so offsets, which count the tokens before, fit texts, which join children.
+/// The text of a term is the texts of its tokens, in order. What stands at a path has the bytes of
+/// the whole text in the range of the path, and that range ends within the text: so offsets, which
+/// count the tokens before, fit texts, which join children.
 pub fn text_is_that_of_the_tokens()
     ensures joined { (t : Term) → term_text t ≡ flat_map (λ token. token.text) (tokens t) }
     ensures at_path { (t : Term) (p : Path)
@@ -96,8 +108,9 @@ pub fn text_is_that_of_the_tokens()
         → (range t p).end ≤ term_len t }
 {}
 
-/// The terms that a cache with this limit keeps, after it was asked for the terms of a list: those of the list that are
-/// eligible, each once. They begin with what it kept before, and one more term is kept as if it had come at the list's end.
+/// The terms that a cache with this limit keeps, after it was asked for the terms of a list: those
+/// of the list that are eligible, each once. They begin with what it kept before, and one more term
+/// is kept as if it had come at the list's end.
 pub fn cache_keeps_first_seen()
     ensures members { (limit : ℕ) (ts : List Term) (t : Term)
         → Contains (first_seen limit ts) t ↔ (Contains ts t × IsTrue (is_eligible limit t)) }
@@ -110,9 +123,9 @@ pub fn cache_keeps_first_seen()
         → with_term limit seen t ≡ first_seen limit (seen ++ t ∷ []) }
 {}
 
-/// At most one child of a node is the one at a range; of a range with bytes it is the one that has them all, and each place in
-/// the text, its ends among them, is at a child, if there are children. A child has the range that it is at, so no child is at a
-/// range that ends behind the node.
+/// At most one child of a node is the one at a range; of a range with bytes it is the one that has
+/// them all, and each place in the text, its ends among them, is at a child, if there are children.
+/// A child has the range that it is at, so no child is at a range that ends behind the node.
 pub fn one_child_is_at_a_range()
     // which child is at a range
     ensures one { (ts : List Term) (a b j k : ℕ) → IsChildAt ts a b j → IsChildAt ts a b k → j ≡ k }
@@ -136,8 +149,8 @@ pub fn intersection_holds_what_both_hold()
         → Holds (intersection a b) byte ↔ (Holds a byte × Holds b byte) }
 {}
 
-/// A replacement leaves what stands at a separate path, and that range moves with the text before it. What was put stands at its
-/// path, where the text of the old subterm started.
+/// A replacement leaves what stands at a separate path, and that range moves with the text before
+/// it. What was put stands at its path, where the text of the old subterm started.
 pub fn what_stands_apart_stays()
     // at a path that is separate from that of the replacement
     ensures subterm { (t : Term) (p q : Path) (u : Term) → separate p q ≡ true
@@ -151,8 +164,9 @@ pub fn what_stands_apart_stays()
     ensures start { (t : Term) (p : Path) (u : Term) → offset (put t p u) p ≡ offset t p }
 {}
 
-/// Putting back what stood at a path restores the term, and so does putting it in place of itself. Of two replacements at one path
-/// the later one counts. Where nothing stands at the path the term stays; at the empty path the new term takes its place.
+/// Putting back what stood at a path restores the term, and so does putting it in place of itself.
+/// Of two replacements at one path the later one counts. Where nothing stands at the path the term
+/// stays; at the empty path the new term takes its place.
 pub fn putting_back_restores()
     ensures back { (t : Term) (p : Path) (u w : Term) → subterm t p ≡ Some w
         → put (put t p u) p w ≡ t }
@@ -170,9 +184,10 @@ pub fn replacements_commute()
         → put (put t p u) q v ≡ put (put t q v) p u }
 {}
 
-/// Where a term and what is put into it are within the limits, the new term is within them exactly where its text is not too long.
-/// Whatever is put: a term within the limits has only subterms within them, the new one too, and is not within them where the
-/// children of a node, with the new one among them, pass a limit.
+/// Where a term and what is put into it are within the limits, the new term is within them exactly
+/// where its text is not too long. Whatever is put: a term within the limits has only subterms
+/// within them, the new one too, and is not within them where the children of a node, with the new
+/// one among them, pass a limit.
 pub fn replacement_fits_by_its_length()
     ensures fits { (t : Term) (p : Path) (u w : Term) → subterm t p ≡ Some w → Fits t → Fits u
         → Fits (put t p u) ↔ term_len (put t p u) ≤ byte_limit }
@@ -184,8 +199,8 @@ pub fn replacement_fits_by_its_length()
     ensures subterm { (t : Term) (p : Path) (w : Term) → subterm t p ≡ Some w → Fits t → Fits w }
 {}
 
-/// The text with a replacement is the old text before the range of the old subterm, the text of the new one, and the old text behind.
-/// So the length changes as that of the subterm does.
+/// The text with a replacement is the old text before the range of the old subterm, the text of the
+/// new one, and the old text behind. So the length changes as that of the subterm does.
 pub fn replacement_exchanges_the_text()
     ensures text { (t : Term) (p : Path) (u w : Term) → subterm t p ≡ Some w
         → term_text (put t p u) ≡ take (range t p).start (term_text t)
@@ -194,8 +209,9 @@ pub fn replacement_exchanges_the_text()
         → term_len (put t p u) + term_len w ≡ term_len t + term_len u }
 {}
 
-/// Below the path of a replacement stands what stands in the new subterm. Above it stands what stood there, with the replacement in
-/// it: a node of the same kind with as many children. So a replacement further down is one of each subterm on the way.
+/// Below the path of a replacement stands what stands in the new subterm. Above it stands what
+/// stood there, with the replacement in it: a node of the same kind with as many children. So a
+/// replacement further down is one of each subterm on the way.
 pub fn replacement_is_seen_above_and_below()
     ensures below { (t : Term) (p q : Path) (u w : Term) → subterm t p ≡ Some w
         → subterm (put t p u) (p ++ q) ≡ subterm u q }
@@ -209,8 +225,8 @@ pub fn replacement_is_seen_above_and_below()
         → put t (p ++ q) u ≡ put t p (put v q u) }
 {}
 
-/// Of two separate paths one stands before the other, and its range ends where the other's starts, or before. Of two paths that are
-/// not separate, one begins the other.
+/// Of two separate paths one stands before the other, and its range ends where the other's starts,
+/// or before. Of two paths that are not separate, one begins the other.
 pub fn separate_paths_are_in_order()
     ensures symmetric { (p q : Path) → separate p q ≡ separate q p }
     ensures begins { (p q : Path) → separate p q ≡ false
@@ -221,8 +237,9 @@ pub fn separate_paths_are_in_order()
         → EndsBefore (range t p) (range t q) }
 {}
 
-/// Replacements one after the other leave what stands at a path that is separate from all of theirs, and its range moves with each in
-/// turn. What one of them puts stands in the end, if the later ones are at separate paths.
+/// Replacements one after the other leave what stands at a path that is separate from all of
+/// theirs, and its range moves with each in turn. What one of them puts stands in the end, if the
+/// later ones are at separate paths.
 pub fn what_stands_apart_from_all_stays()
     ensures subterm { (t : Term) (rs : List Replacement) (last : Term) (q : Path)
         → Makes t rs last → SeparateFromAll q rs → subterm last q ≡ subterm t q }
@@ -234,8 +251,9 @@ pub fn what_stands_apart_from_all_stays()
         → subterm last r.path ≡ Some r.new }
 {}
 
-/// Replacements at pairwise separate paths make the same term in every order; if something stands at each path in one order, it does
-/// in all. Of the limits this says nothing: one order may pass them on the way, and another not.
+/// Replacements at pairwise separate paths make the same term in every order; if something stands
+/// at each path in one order, it does in all. Of the limits this says nothing: one order may pass
+/// them on the way, and another not.
 pub fn order_of_separate_replacements_is_free()
     ensures same { (t : Term) (rs ss : List Replacement) (a b : Term) → PairwiseSeparate rs
         → IsPermutation rs ss → Makes t rs a → Makes t ss b → a ≡ b }

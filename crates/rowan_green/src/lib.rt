@@ -1,4 +1,5 @@
-//! Green trees: immutable tokens and nodes that keep every byte of a source text, and the builder that makes them.
+//! Green trees: immutable tokens and nodes that keep every byte of a source text, and the builder
+//! that makes them.
 #![tactic(auto)]
 
 pub mod builder;
@@ -11,7 +12,7 @@ pub mod steps;
 pub mod text;
 pub mod utility_types;
 
-pub use builder::{Checkpoint, GreenNodeBuilder, OwnCache, Unfinished};
+pub use builder::{CacheHome, Checkpoint, GreenNodeBuilder, OwnedCache, Unfinished};
 pub use fault::Fault;
 pub use green::{
     Children, GreenElement, GreenElementRef, GreenNode, GreenNodeData, GreenToken, GreenTokenData,

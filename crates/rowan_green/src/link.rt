@@ -1,9 +1,13 @@
 //! A number that may be none.
 ghost use Rattle.std.specs.Prelude.{◌≡◌, ◌<◌, None, Some};
+ghost use Rattle.rowan_green.specs.Link.{link_limit};
 
 use std::marker::Model;
 
-/// A number below 4,294,967,295, or none, in four bytes.
+// The number that stands for none.
+const NO_NUMBER: u32 = u32::MAX;
+
+/// A number, or none, in four bytes. The number is below 4,294,967,295.
 #[derive(Clone, Copy)]
 pub struct Link {
     raw: u32,
@@ -28,12 +32,12 @@ impl Link {
     pub fn none() -> Link
         ensures { result ≡ None }
     {
-        Link { raw: u32::MAX }
+        Link { raw: NO_NUMBER }
     }
 
     /// A number.
     pub fn to(number: u32) -> Link
-        requires { number < 4294967295 }
+        requires { number < link_limit }
         ensures { result ≡ Some number }
     {
         Link { raw: number }
@@ -43,7 +47,7 @@ impl Link {
     pub fn number(self) -> Option<u32>
         ensures { result ≡ self }
     {
-        if self.raw == u32::MAX {
+        if self.raw == NO_NUMBER {
             return None;
         }
         Some(self.raw)

@@ -1,16 +1,19 @@
 //! The cache of green values: equal tokens, and equal nodes of few children, are stored once.
 mod bytes;
 mod chains;
+mod finished;
 mod table;
-mod waiting;
 
-ghost use Rattle.std.specs.Prelude.{◌≡◌, ◌<◌, ◌≤◌, List, length, drop, IfOk, IfErr, IfSome, OnOk, OnErr, true, Some};
+ghost use Rattle.std.specs.Prelude.{◌≡◌, ◌<◌, ◌≤◌, List, length, drop, IfOk, IfErr, IfSome, OnOk};
+ghost use Rattle.std.specs.Prelude.{OnErr, true, Some};
 ghost use Rattle.std.specs.List.{slice_get};
 ghost use Rattle.rowan_green.specs.declared.utility_types.NodeOrToken.TheVariants.{Node, Token};
 ghost use Rattle.rowan_green.specs.Term.{Term, token_of, node_of};
 ghost use Rattle.rowan_green.specs.Fits.{byte_limit, AreWithin, WhyNoNode};
 ghost use Rattle.rowan_green.specs.Word.{WhyNoToken};
-ghost use Rattle.rowan_green.specs.Cache.{empty_cache, first_seen, count_tokens, count_nodes, intern, IsNumbered, AreNumbered, ListsNumbers, gets_number};
+ghost use Rattle.rowan_green.specs.Cache.{empty_cache, first_seen, count_tokens, count_nodes};
+ghost use Rattle.rowan_green.specs.Cache.{intern, IsNumbered, AreNumbered, ListsNumbers};
+ghost use Rattle.rowan_green.specs.Cache.{gets_number};
 ghost use Rattle.rowan_green.specs.Tables.{KeepsLimits};
 ghost use Rattle.rowan_green.specs.Waiting.{elements, numbers_of, HasRoom, IsSame, IsCutAt};
 
@@ -18,14 +21,14 @@ use crate::fault::Fault;
 use crate::green::{GreenElement, GreenNode, GreenToken, SyntaxKind};
 use crate::utility_types::NodeOrToken;
 use bytes::ByteTokens;
+pub(crate) use finished::FinishedElements;
 use std::alloc::{AllocError, Global};
 use std::marker::Model;
 use std::mem;
 use table::ValueTable;
-pub(crate) use waiting::Waiting;
 
-/// The greatest number of children of a node that `NodeCache::new` keeps.
-const MAX_CHILDREN: usize = 3;
+/// The greatest number of children of a node that a cache of `NodeCache::new` keeps.
+const DEFAULT_LIMIT: usize = 3;
 
 /// An element of a tree that is being built, with its number in the cache where the cache keeps it.
 #[derive(Drop)]
@@ -34,18 +37,22 @@ pub(crate) struct Interned {
     pub(crate) element: GreenElement,
 }
 
-/// Stores equal tokens once, and equal nodes of at most so many children, whose children it stores too.
+/// Stores equal tokens once, and equal nodes of at most so many children, whose children it stores
+/// too.
 ///
-/// A contract sees a cache as its limit and the list of the terms that it keeps, in the order in which it was first asked for
-/// them. The place of a term in that list is its number. No call of a cache is refused; a builder that asks it may be, with
-/// `Memory` where there is none, and also where the cache keeps 4,294,967,295 values and would keep one more, or where the
-/// nodes that it keeps have more children than that and it would keep one more.
+/// A contract sees a cache as its limit and the list of the terms that it keeps, in the order in
+/// which it was first asked for them. The place of a term in that list is its number. No call of a
+/// cache is refused; a builder that asks it may be, with
+/// `Memory` where there is none, and also where the cache keeps 4,294,967,295 values and would keep
+/// one more, or where the nodes that it keeps have more children than that and it would keep one
+/// more.
 #[derive(Drop)]
 pub struct NodeCache {
     alloc: Global,
     limit: usize,
     table: ValueTable,
-    // The numbers of the children of the node that is looked up: kept from one call to the next for its memory.
+    // The numbers of the children of the node that is looked up: kept from one call to the next for
+    // its memory.
     numbers: Vec<u32>,
     token_count: usize,
     bytes: ByteTokens,
@@ -73,7 +80,7 @@ impl NodeCache {
     pub fn new(alloc: Global) -> NodeCache
         ensures { result ≡ empty_cache 3 }
     {
-        NodeCache::with_limit(alloc, MAX_CHILDREN)
+        NodeCache::with_limit(alloc, DEFAULT_LIMIT)
     }
 
     /// A cache that keeps nothing yet, for nodes of at most `limit` children. Takes no memory.
@@ -90,7 +97,8 @@ impl NodeCache {
         }
     }
 
-    // Takes what the cache keeps, for a builder to which it is lent. Until that is put back it keeps nothing.
+    // Takes what the cache keeps, for a builder to which it is lent. Until that is put back it
+    // keeps nothing.
     pub(crate) fn take(&mut self) -> NodeCache
         ensures kept { result ≡ self.old }
         ensures first { first_seen self.old.limit self.old.seen ≡ self.old.seen }
@@ -114,8 +122,8 @@ impl NodeCache {
         self.table.len() - self.token_count
     }
 
-    // The token of a kind and a text: the one that the cache keeps, or else a new one, which it keeps from now on. A refused
-    // call leaves the cache as it was.
+    // The token of a kind and a text: the one that the cache keeps, or else a new one, which it
+    // keeps from now on. A refused call leaves the cache as it was.
     pub(crate) fn token(&mut self, kind: SyntaxKind, text: &str) -> Result<Interned, Fault>
         // The token, or why there is none.
         ensures ok { IfOk result (λ i. i.element ≡ Token (token_of kind.0 text.now)) }
@@ -128,11 +136,11 @@ impl NodeCache {
         ensures unchanged { OnErr result (self.new ≡ self.old) }
     {
         if let Some(number) = self.byte_token(kind, text) {
-            return Ok(interned_at(&self.table, number)?);
+            return Ok(share_at(&self.table, number)?);
         }
         let hash = table::token_hash(kind, text);
         if let Some(number) = self.table.token_number(hash, kind, text) {
-            return Ok(interned_at(&self.table, number)?);
+            return Ok(share_at(&self.table, number)?);
         }
         let token = GreenToken::new(self.alloc, kind, text)?;
         let kept = NodeOrToken::Token(token.clone()?);
@@ -146,7 +154,8 @@ impl NodeCache {
         })
     }
 
-    // The number of the token of a kind and a text, where that is one byte and no newer token has it as its text.
+    // The number of the token of a kind and a text, where that is one byte and no newer token has
+    // it as its text.
     fn byte_token(&self, kind: SyntaxKind, text: &str) -> Option<u32>
         ensures { let t = Token (token_of kind.0 text.now) in
             IfSome result (λ n. slice_get self.now.seen n ≡ Some t) }
@@ -160,7 +169,8 @@ impl NodeCache {
         Some(number)
     }
 
-    // The number of the node of a kind over these children, where that is one token and no newer node is kept over that alone.
+    // The number of the node of a kind over these children, where that is one token and no newer
+    // node is kept over that alone.
     fn only_parent(&self, kind: SyntaxKind, children: &[Option<u32>]) -> Option<u32>
         ensures { (ts : List Term) → AreNumbered self.now ts children.now
             → IfSome result (λ n. slice_get self.now.seen n ≡ Some (Node (node_of kind.0 ts))) }
@@ -172,12 +182,13 @@ impl NodeCache {
         self.table.parent_number(kind, child)
     }
 
-    // The node of a kind and the elements that wait from a place on, which it takes: the one that the cache keeps, or else a new
-    // one, which it keeps from now on where it is eligible. A refused call leaves the cache as it was, and all waits on.
+    // The node of a kind and the elements that wait from a place on, which it takes: the one that
+    // the cache keeps, or else a new one, which it keeps from now on where it is eligible. A
+    // refused call leaves the cache as it was, and all waits on.
     pub(crate) fn node(
         &mut self,
         kind: SyntaxKind,
-        waiting: &mut Waiting,
+        waiting: &mut FinishedElements,
         first: usize,
     ) -> Result<Interned, Fault>
         requires within { first ≤ length (elements waiting.old) }
@@ -202,7 +213,7 @@ impl NodeCache {
     {
         let children = waiting.numbers_from(first);
         if let Some(number) = self.only_parent(kind, children) {
-            let found = interned_at(&self.table, number)?;
+            let found = share_at(&self.table, number)?;
             waiting.truncate(first);
             return Ok(found);
         }
@@ -216,7 +227,7 @@ impl NodeCache {
         let numbers = self.numbers.as_slice();
         let hash = table::node_hash(kind, numbers);
         if let Some(number) = self.table.node_number(hash, kind, numbers) {
-            let found = interned_at(&self.table, number)?;
+            let found = share_at(&self.table, number)?;
             waiting.truncate(first);
             return Ok(found);
         }
@@ -232,7 +243,7 @@ impl NodeCache {
 }
 
 // The value that stands at a number, which is shared.
-fn interned_at(table: &ValueTable, number: u32) -> Result<Interned, AllocError>
+fn share_at(table: &ValueTable, number: u32) -> Result<Interned, AllocError>
     requires { number < length table.now }
     ensures at { IfOk result (λ i. (i.number ≡ Some number)
         × (slice_get table.now number ≡ Some i.element)) }

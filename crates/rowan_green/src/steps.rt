@@ -4,8 +4,9 @@ ghost use Rattle.rowan_green.specs.Steps.{one_more};
 
 use std::marker::Model;
 
-/// How many steps searches have taken. A comparison is one of a child's range with the range that is searched, and a visit is
-/// one node that is looked at by itself. A counter that has reached its greatest value, 2^64 - 1, stays there.
+/// How many steps searches have taken. A comparison is one of a child's range with the range that
+/// is searched, and a visit is one node that is looked at by itself. A counter that has reached its
+/// greatest value, 2^64 - 1, stays there.
 #[derive(Clone, Copy, PartialEq, Eq, Debug)]
 pub struct Steps {
     comparisons: u64,

@@ -1,5 +1,6 @@
 //! Sizes and ranges of text, in bytes of UTF-8.
-ghost use Rattle.std.specs.Prelude.{◌≡◌, ℕ, ◌+◌, ◌-◌, ◌<◌, ◌≤◌, ◌↔◌, ◌++◌, IsTrue, List, Some, codes, length};
+ghost use Rattle.std.specs.Prelude.{◌≡◌, ℕ, ◌+◌, ◌-◌, ◌<◌, ◌≤◌, ◌↔◌, ◌++◌, IsTrue, List, Some};
+ghost use Rattle.std.specs.Prelude.{codes, length};
 ghost use Rattle.std.specs.Fmt.{decimal};
 ghost use Rattle.std.specs.Option.{SomeIff};
 ghost use Rattle.rowan_green.specs.Fits.{byte_limit};
@@ -163,7 +164,8 @@ impl TextRange {
         self.start == self.end
     }
 
-    /// Whether the other range, whose end does not lie before its start, starts and ends within this one.
+    /// Whether the other range, whose end does not lie before its start, starts and ends within
+    /// this one.
     pub fn contains_range(self, other: TextRange) -> bool
         ensures contains { IsTrue result ↔ ((self.start ≤ other.start) × (other.end ≤ self.end)) }
         ensures order { other.start ≤ other.end }
@@ -178,8 +180,8 @@ impl TextRange {
         self.start <= offset && offset <= self.end
     }
 
-    /// The offsets that both ranges hold, their ends among them: a range, which is empty where the two only touch. `None` where
-    /// there are none.
+    /// The offsets that both ranges hold, their ends among them: a range, which is empty where the
+    /// two only touch. `None` where there are none.
     pub fn intersect(self, other: TextRange) -> Option<TextRange>
         ensures { let common = intersection self other in
             SomeIff result (common.start ≤ common.end) common }
@@ -192,8 +194,8 @@ impl TextRange {
         Some(TextRange::new(start, end))
     }
 
-    /// `Less` where this range ends before the other starts, `Greater` the other way round, and `Equal` where they overlap.
-    /// Ranges that only touch do not overlap.
+    /// `Less` where this range ends before the other starts, `Greater` the other way round, and
+    /// `Equal` where they overlap. Ranges that only touch do not overlap.
     pub fn ordering(self, other: TextRange) -> Ordering
         ensures less { (result ≡ Ordering.Less) ↔ EndsBefore self other }
         ensures greater { (result ≡ Ordering.Greater) ↔ StartsBehind self other }

@@ -17,10 +17,10 @@ fn make_all<H: CacheHome>(
     for call in calls {
         let mut answer = make(log, builder, &mut marks, way, *call);
         if let Err(Fault::Memory) = answer {
-            log.answered(*call, answer)?;
+            log.tell_answer(*call, answer)?;
             answer = make(log, builder, &mut marks, way, *call);
         }
-        log.answered(*call, answer)?;
+        log.tell_answer(*call, answer)?;
     }
     Ok(())
 }
@@ -42,11 +42,11 @@ fn make<H: CacheHome>(
 fn tell_finished(log: &Transcript<'_>, finished: Result<GreenNode, Fault>) -> Result<(), Stop> {
     match finished {
         Ok(tree) => {
-            log.answered("finish", Ok(()))?;
+            log.tell_answer("finish", Ok(()))?;
             log.tell("tree", &Shape(&tree))?;
             log.drop_apart(tree)
         }
-        Err(fault) => log.answered("finish", Err(fault)),
+        Err(fault) => log.tell_answer("finish", Err(fault)),
     }
 }
 
@@ -79,14 +79,15 @@ pub fn build_over(
     log.tell("nodes in the cache", &cache.node_count())
 }
 
-/// Builds with a builder that is refused by `finish` after the first calls, comes back, and goes on with the others.
+/// Builds with a builder that is refused by `finish` after the first calls, comes back, and goes on
+/// with the others.
 pub fn build_on(log: &Transcript<'_>, calls: &[Call], others: &[Call]) -> Result<(), Stop> {
     let mut builder = GreenNodeBuilder::new(log.alloc());
     make_all(log, &mut builder, Way::Method, calls)?;
     let finished = match builder.finish() {
         Ok(tree) => Ok(tree),
         Err(unfinished) => {
-            log.answered("finish", Err(unfinished.fault()))?;
+            log.tell_answer("finish", Err(unfinished.fault()))?;
             let mut builder = unfinished.into_builder();
             make_all(log, &mut builder, Way::Method, others)?;
             match builder.finish() {

@@ -93,7 +93,8 @@ impl Call {
         Ok(())
     }
 
-    /// The call of a script, which numbers its own marks: so one that was taken before stands there as a checkpoint.
+    /// The call of a script, which numbers its own marks: so one that was taken before stands there
+    /// as a checkpoint.
     fn as_script_call(self, alloc: Global, marks: &[Checkpoint]) -> Result<script::Call, Fault> {
         Ok(match self {
             Token(kind, text) => {

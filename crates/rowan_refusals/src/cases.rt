@@ -20,7 +20,7 @@ use crate::walks::Walk;
 use crate::walks::WalkCall::{Next, Skip};
 use rowan::Direction;
 
-const SUM: &str = "(+ (* 15 2) 62)";
+pub const SUM: &str = "(+ (* 15 2) 62)";
 
 /// White space and a word that are escaped in quotes, and the word is cut short in its line.
 const QUOTED: &str = "(\n\"abcdefghijklmnopqrstuvwxyz\")";
@@ -34,11 +34,21 @@ const NEST_ATOM: [usize; 13] = [0, 1, 1, 1, 1, 1, 1, 1, 1, 1, 1, 1, 1];
 /// Where its token stands.
 const NEST_TOKEN: [usize; 14] = [0, 1, 1, 1, 1, 1, 1, 1, 1, 1, 1, 1, 1, 0];
 
-const MAKING: Step = Step::Phase(Phase::Making);
+/// In 128 lists that are not closed, five lists and twelve more, one in the other.
+const DEEP: &str = "((((((((((((((((((((((((((((((((((((((((((((((((((((((((((((((((\
+    ((((((((((((((((((((((((((((((((((((((((((((((((((((((((((((((((\
+    (a) (b) (c) (d) (e) ((((((((((((f";
 
-const MOVING: Step = Step::Phase(Phase::Moving);
+/// The same with another atom in the innermost list.
+const OTHER_DEEP: &str = "((((((((((((((((((((((((((((((((((((((((((((((((((((((((((((((((\
+    ((((((((((((((((((((((((((((((((((((((((((((((((((((((((((((((((\
+    (a) (b) (c) (d) (e) ((((((((((((g";
 
-pub const CASES: [Case; 43] = [
+pub const MAKING: Step = Step::Phase(Phase::Making);
+
+pub const MOVING: Step = Step::Phase(Phase::Moving);
+
+pub const CASES: [Case; 42] = [
     Case {
         name: "math_operations",
         steps: &[Step::Build(&MATH)],
@@ -432,6 +442,18 @@ pub const CASES: [Case; 43] = [
         ],
     },
     Case {
+        name: "trees of more than 128 levels",
+        steps: &[
+            Step::Make(Make::Parsed(DEEP)),
+            Step::Make(Make::Parsed(DEEP)),
+            Step::Alike,
+            Step::Make(Make::Shown),
+            Step::Make(Make::Parsed(OTHER_DEEP)),
+            Step::Alike,
+            Step::Make(Make::Shown),
+        ],
+    },
+    Case {
         name: "the program over sum_of_product",
         steps: &[
             Step::Make(Make::Words(&["tree"])),
@@ -698,38 +720,6 @@ pub const CASES: [Case; 43] = [
             Step::Go(Move::FirstChild),
             Step::Pointer(0, 1, 2),
             Step::Wrappers,
-        ],
-    },
-    Case {
-        name: "reparsed_inner_list",
-        steps: &[
-            Step::Make(Make::Parsed(SUM)),
-            Step::Make(Make::Root),
-            MOVING,
-            Step::GoToRoot(0),
-            Step::Go(Move::ElementAt(&[0, 3])),
-            Step::NotOneList("(* 7"),
-            Step::NotOneList("(a) (b)"),
-            MAKING,
-            Step::Make(Make::Reparsed("(* 7 (+ 1 1))")),
-            Step::Make(Make::Parsed("(+ (* 7 (+ 1 1)) 62)")),
-            Step::Equal,
-            MOVING,
-            Step::GoToRoot(0),
-            Step::Text,
-        ],
-    },
-    Case {
-        name: "lists_of_reparses",
-        steps: &[
-            Step::Make(Make::ListEdits(&[(3, 11, "()"), (3, 5, "(* 15 2)")])),
-            Step::Make(Make::ReparsedAll(SUM)),
-            Step::Make(Make::Parsed(SUM)),
-            Step::Equal,
-            Step::Make(Make::ListEdits(&[(0, 15, "(a (b))"), (3, 6, "(c (d) e)"), (6, 9, "()")])),
-            Step::Make(Make::ReparsedAll(SUM)),
-            Step::Make(Make::Parsed("(a (c () e))")),
-            Step::Equal,
         ],
     },
     Case {

@@ -19,7 +19,8 @@ pub fn leaf(token: &GreenToken) -> Result<GreenElement, Fault> {
 }
 
 impl Edit {
-    /// The node after the edit. `NotFound` where it has no such children; only a replacement may name one past the last.
+    /// The node after the edit. `NotFound` where it has no such children; only a replacement may
+    /// name one past the last.
     pub fn make(
         self,
         alloc: Global,

@@ -1,9 +1,10 @@
-//! Worked cases over a heap that refuses one request for memory: `tools/refuse_each_request` links the program with such a heap, has
-//! it refuse the first request, then the second and so on, and judges what the program prints.
+//! Worked cases over a heap that refuses one request for memory: `tools/refuse_each_request` links
+//! the program with such a heap, has it refuse the first request, then the second and so on, and
+//! judges what the program prints.
 //!
-//! Each call of a case prints a line with its answer. Where it is refused for memory it is made once more, so that all other
-//! lines have to be those of a run in which nothing is refused. The cases are data, and no part of the program asks for memory
-//! between a call and its answer.
+//! Each call of a case prints a line with its answer. Where it is refused for memory it is made
+//! once more, so that all other lines have to be those of a run in which nothing is refused. The
+//! cases are data, and no part of the program asks for memory between a call and its answer.
 #![tactic(auto)]
 
 mod building;
@@ -13,6 +14,7 @@ mod edits;
 mod making;
 mod moving;
 mod pointers;
+mod reparses;
 mod searches;
 mod sessions;
 mod shape;
@@ -26,6 +28,7 @@ mod typed;
 mod walks;
 
 use cases::CASES;
+use reparses::REPARSES;
 use state::State;
 use std::process::ExitCode;
 use step::Case;
@@ -42,7 +45,7 @@ fn main(rt: HostRuntime) -> ExitCode {
 }
 
 fn run_cases(log: &Transcript<'_>) -> Result<(), Stop> {
-    for case in CASES {
+    for case in CASES.into_iter().chain(REPARSES) {
         run_case(log, case)?;
     }
     Ok(())

@@ -21,7 +21,8 @@ pub enum Make {
     Node(u16),
     /// The tree after an edit.
     Edited(Edit),
-    /// The root with the tree in place of the node, or with the token in place of the token, where the case stands.
+    /// The root with the tree in place of the node, or with the token in place of the token, where
+    /// the case stands.
     Replaced,
     /// The same, by a typed cursor.
     TypedReplaced,
@@ -59,6 +60,8 @@ pub enum Make {
     ReparsedAll(&'static str),
     /// The text of the typed root.
     Text,
+    /// The text of the tree, which may have more than 128 levels.
+    Shown,
     /// A copy of the text that the case reads.
     Copy,
     /// The first of these calls, so many of them, as a script.
@@ -74,7 +77,8 @@ pub enum Make {
 }
 
 impl Make {
-    /// The name of the call. That of a call which drops large values, too, ends in `with drops`, for these requests need no answer.
+    /// The name of the call. That of a call which drops large values, too, ends in `with drops`,
+    /// for these requests need no answer.
     pub fn name(self) -> &'static str {
         match self {
             Make::Tree(_) => "a tree",
@@ -103,6 +107,7 @@ impl Make {
             Make::ListEdits(_) => "edits",
             Make::ReparsedAll(_) => "reparse_all, with drops",
             Make::Text => "to_string",
+            Make::Shown => "to_string of a tree, with a list",
             Make::Copy => "to_text",
             Make::Script(_, _) => "script",
             Make::Steps(_) => "steps",

@@ -169,9 +169,10 @@ where
     Ok(())
 }
 
-fn hash_of(element: &SyntaxElement) -> u64 {
+/// The hash of a value.
+pub fn hash_of<T: Hash>(value: &T) -> u64 {
     let mut hasher = DefaultHasher::new();
-    element.hash(&mut hasher);
+    value.hash(&mut hasher);
     hasher.finish()
 }
 

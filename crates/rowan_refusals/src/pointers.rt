@@ -5,7 +5,8 @@ use rowan::ast::{AstChildren, AstNode, AstPtr, SyntaxNodePtr, support};
 use rowan::{Steps, SyntaxNode, TextRange, TextSize};
 use rowan_tool::sexp::{Atom, Lang, List, Root, Sexp, SyntaxKind};
 
-/// Says where the pointer to a node leads, and where it is once so many bytes stand in place of a range of the text.
+/// Says where the pointer to a node leads, and where it is once so many bytes stand in place of a
+/// range of the text.
 pub fn tell_pointer(
     log: &Transcript<'_>,
     node: &SyntaxNode<Lang>,

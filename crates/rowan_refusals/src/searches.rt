@@ -9,7 +9,8 @@ type TypedNode = rowan::SyntaxNode<Lang>;
 
 type TypedElement = rowan::SyntaxElement<Lang>;
 
-/// Says how long the text of each child is, in bytes, and that of the first child, shared once more.
+/// Says how long the text of each child is, in bytes, and that of the first child, shared once
+/// more.
 pub fn tell_lengths(log: &Transcript<'_>, node: &GreenNode) -> Result<(), Stop> {
     for child in node.children() {
         let child = child.map_err(Stop::Refused)?;
@@ -42,7 +43,8 @@ pub enum Search {
 }
 
 impl Search {
-    /// Says what is found. Where the range or the offset does not lie in the node nothing is searched.
+    /// Says what is found. Where the range or the offset does not lie in the node nothing is
+    /// searched.
     pub fn tell(self, log: &Transcript<'_>, from: &SyntaxElement) -> Result<(), Stop> {
         let NodeOrToken::Node(node) = from else {
             return Err(Stop::Refused(Fault::NotFound));

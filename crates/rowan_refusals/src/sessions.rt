@@ -8,7 +8,8 @@ use rowan::script::{self, Outcome, Report, Session, Step, replay, session, trace
 use rowan::{Fault, GreenNode, GreenNodeBuilder, NodeCache};
 use std::alloc::Global;
 
-/// How the calls are made, and then two steps from the root of their tree: to its first token, and to the next.
+/// How the calls are made, and then two steps from the root of their tree: to its first token, and
+/// to the next.
 #[derive(Clone, Copy)]
 pub enum Playing {
     /// By `session`, with an own cache.
@@ -42,13 +43,13 @@ impl Playing {
                 let builder = GreenNodeBuilder::with_cache(alloc, cache);
                 session(alloc, builder, calls, steps)
             }
-            Playing::Replay => replayed(alloc, cache, calls),
+            Playing::Replay => replay_session(alloc, cache, calls),
         }
     }
 }
 
 /// The session of these calls, by the calls that it is made of.
-fn replayed(
+fn replay_session(
     alloc: Global,
     cache: &mut NodeCache,
     calls: &[script::Call],
@@ -56,21 +57,22 @@ fn replayed(
     let mut builder = GreenNodeBuilder::with_cache(alloc, cache);
     let outcomes = replay(alloc, &mut builder, calls)?;
     let end = match builder.finish() {
-        Ok(tree) => walked(alloc, tree),
+        Ok(tree) => walk(alloc, tree),
         Err(unfinished) => Err(unfinished.fault()),
     };
     Ok(Session { outcomes, end })
 }
 
 /// The root of a tree, and what the two steps from there report.
-fn walked(alloc: Global, tree: GreenNode) -> Result<(SyntaxNode, Vec<Report>), Fault> {
+fn walk(alloc: Global, tree: GreenNode) -> Result<(SyntaxNode, Vec<Report>), Fault> {
     let root = SyntaxNode::new_root(alloc, tree)?;
     let steps = [Step::FirstToken, Step::NextToken];
     let reports = trace(alloc, &root, steps.as_slice())?;
     Ok((root, reports))
 }
 
-/// The session of these calls one by one, on a builder with a cache of its own, without the part that was refused.
+/// The session of these calls one by one, on a builder with a cache of its own, without the part
+/// that was refused.
 fn without(alloc: Global, calls: &[Call], part: Part) -> Result<Session, Fault> {
     let mut builder = GreenNodeBuilder::new(alloc);
     let mut marks = Vec::new(alloc);
@@ -84,7 +86,7 @@ fn without(alloc: Global, calls: &[Call], part: Part) -> Result<Session, Fault> 
         outcomes.push(outcome)?;
     }
     let end = match builder.finish() {
-        Ok(tree) => walked(alloc, tree),
+        Ok(tree) => walk(alloc, tree),
         Err(unfinished) => Err(unfinished.fault()),
     };
     match part {
@@ -116,7 +118,8 @@ fn counts(cache: &NodeCache) -> (usize, usize) {
     (cache.token_count(), cache.node_count())
 }
 
-/// Says what a session answers, and drops it. Where a request is refused in it, it is made once more.
+/// Says what a session answers, and drops it. Where a request is refused in it, it is made once
+/// more.
 pub fn tell_session(
     log: &Transcript<'_>,
     playing: Playing,
@@ -127,7 +130,7 @@ pub fn tell_session(
     let kept = counts(cache);
     let mut answer = playing.play(log.alloc(), cache, script);
     if let Some(part) = refused_part(&answer) {
-        log.refused(playing.name(), part)?;
+        log.tell_refusal(playing.name(), part)?;
         let is_right = match answer {
             Ok(session) => session == without(log.alloc(), calls, part)?,
             Err(_) => counts(cache) == kept,
@@ -138,7 +141,7 @@ pub fn tell_session(
         answer = playing.play(log.alloc(), cache, script);
     }
     let session = answer?;
-    log.answered(playing.name(), Ok(()))?;
+    log.tell_answer(playing.name(), Ok(()))?;
     log.tell("outcomes", &session.outcomes)?;
     log.tell("end", &session.end)?;
     if let Ok((root, _)) = &session.end {

@@ -3,7 +3,8 @@
 use rowan::{GreenNode, NodeOrToken};
 use std::fmt;
 
-/// A green tree with all that is in it: a node as its kind and its children in brackets, a token as its kind and text.
+/// A green tree with all that is in it: a node as its kind and its children in brackets, a token as
+/// its kind and text.
 #[derive(Clone, Copy)]
 pub struct Shape<'a>(pub &'a GreenNode);
 

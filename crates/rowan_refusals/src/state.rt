@@ -4,7 +4,7 @@ use crate::building::{build, build_on, build_over};
 use crate::calls::{Call, script_of, tree_of};
 use crate::edits::leaf;
 use crate::making::{Made, Make};
-use crate::moving::{Move, compare};
+use crate::moving::{Move, compare, hash_of};
 use crate::pointers::{tell_pointer, tell_wrappers};
 use crate::searches::{index_at, range, tell_lengths};
 use crate::sessions::{Playing, tell_session};
@@ -69,6 +69,7 @@ impl State {
             Step::Counts => self.tell_counts(log),
             Step::Tree => log.tell("tree", &Shape(self.tree()?)),
             Step::Equal => self.tell_equal(log),
+            Step::Alike => self.tell_alike(log),
             Step::Lengths => tell_lengths(log, self.tree()?),
             Step::ChildAt(start, end) => {
                 log.tell(
@@ -101,7 +102,7 @@ impl State {
             Step::Slice(slice) => self.cut(log, slice),
             Step::Ask(question) => question.tell(log, self.text()?),
             Step::SameText(number) => self.tell_same_text(log, number),
-            Step::Compare(way) => compare(log, self.place()?, &self.found(way)?),
+            Step::Compare(way) => compare(log, self.place()?, &self.target_of(way)?),
             Step::CompareRoot(number) => compare(log, self.place()?, &self.root(number)?),
         }
     }
@@ -110,10 +111,10 @@ impl State {
     fn ask(&mut self, log: &Transcript<'_>, what: Make) -> Result<(), Stop> {
         let mut answer = self.make(what);
         if let Err(Fault::Memory) = answer {
-            log.answered(what.name(), answer)?;
+            log.tell_answer(what.name(), answer)?;
             answer = self.make(what);
         }
-        log.answered(what.name(), answer)?;
+        log.tell_answer(what.name(), answer)?;
         match self.made.as_slice().last() {
             Some(made) => made.tell(log),
             None => Ok(()),
@@ -122,11 +123,11 @@ impl State {
 
     /// Makes a value, and keeps it.
     fn make(&mut self, what: Make) -> Result<(), Fault> {
-        let made = self.made_by(what)?;
+        let made = self.make_value(what)?;
         Ok(self.made.push(made)?)
     }
 
-    fn made_by(&mut self, what: Make) -> Result<Made, Fault> {
+    fn make_value(&mut self, what: Make) -> Result<Made, Fault> {
         let alloc = self.alloc;
         match what {
             Make::Tree(calls) => Ok(Made::Tree(tree_of(alloc, calls)?)),
@@ -135,8 +136,8 @@ impl State {
             }
             Make::Node(kind) => Ok(Made::Tree(self.node(kind)?)),
             Make::Edited(edit) => Ok(Made::Edited(edit.make(alloc, self.tree()?, self.token()?)?)),
-            Make::Replaced => Ok(Made::Edited(self.replaced()?)),
-            Make::TypedReplaced => Ok(Made::Edited(self.typed_replaced()?)),
+            Make::Replaced => Ok(Made::Edited(self.replace()?)),
+            Make::TypedReplaced => Ok(Made::Edited(self.replace_typed()?)),
             Make::Root => Ok(Made::Cursor(SyntaxNode::new_root(alloc, self.tree()?.clone()?)?)),
             Make::Subtree => Ok(Made::Cursor(self.subtree()?)),
             Make::TypedSubtree => Ok(Made::Syntax(self.typed_node()?.clone_subtree()?)),
@@ -150,10 +151,11 @@ impl State {
             Make::Line => Ok(Made::Text(self.line()?)),
             Make::Json => Ok(Made::Json(self.json()?)),
             Make::JsonText => Ok(Made::Text(self.json_text()?)),
-            Make::Reparsed(text) => Ok(Made::Edited(self.reparsed(text)?)),
+            Make::Reparsed(text) => Ok(Made::Edited(self.reparse(text)?)),
             Make::ListEdits(edits) => self.set_list_edits(edits),
-            Make::ReparsedAll(text) => Ok(Made::Edited(self.reparsed_all(text)?)),
+            Make::ReparsedAll(text) => Ok(Made::Edited(self.reparse_text(text)?)),
             Make::Text => Ok(Made::Text(self.syntax()?.to_string(alloc)?)),
+            Make::Shown => Ok(Made::Text(self.tree()?.to_string(alloc)?)),
             Make::Copy => Ok(Made::Text(self.text()?.to_text()?)),
             Make::Script(calls, count) => self.set_script(calls, count),
             Make::Steps(strides) => self.set_steps(strides),
@@ -174,15 +176,16 @@ impl State {
         GreenNode::new(self.alloc, SyntaxKind(kind), children)
     }
 
-    /// The root with the last tree or token in place of the node or the token where the case stands.
-    fn replaced(&self) -> Result<GreenNode, Fault> {
+    /// The root with the last tree or token in place of the node or the token where the case
+    /// stands.
+    fn replace(&self) -> Result<GreenNode, Fault> {
         match self.place()? {
             NodeOrToken::Node(node) => node.replace_with(self.tree()?.clone()?),
             NodeOrToken::Token(token) => token.replace_with(self.token()?.clone()?),
         }
     }
 
-    fn typed_replaced(&self) -> Result<GreenNode, Fault> {
+    fn replace_typed(&self) -> Result<GreenNode, Fault> {
         match self.typed_place()? {
             NodeOrToken::Node(node) => node.replace_with(self.tree()?.clone()?),
             NodeOrToken::Token(token) => token.replace_with(self.token()?.clone()?),
@@ -200,11 +203,11 @@ impl State {
     }
 
     /// The root with a text in place of that list.
-    fn reparsed(&self, text: &str) -> Result<GreenNode, Fault> {
+    fn reparse(&self, text: &str) -> Result<GreenNode, Fault> {
         reparse_list(self.alloc, &self.list()?, text)
     }
 
-    fn reparsed_all(&self, text: &str) -> Result<GreenNode, Fault> {
+    fn reparse_text(&self, text: &str) -> Result<GreenNode, Fault> {
         reparse_all(self.alloc, text, self.list_edits.as_slice())
     }
 
@@ -319,7 +322,7 @@ impl State {
 
     /// Goes where a move leads.
     fn go(&mut self, log: &Transcript<'_>, way: Move) -> Result<(), Stop> {
-        let found = self.found(way)?;
+        let found = self.target_of(way)?;
         log.tell(way.name(), &found)?;
         self.place = Some(found);
         Ok(())
@@ -357,7 +360,7 @@ impl State {
     }
 
     /// Where a move from the place leads.
-    fn found(&self, way: Move) -> Result<SyntaxElement, Fault> {
+    fn target_of(&self, way: Move) -> Result<SyntaxElement, Fault> {
         way.make(self.place()?)?.ok_or(Fault::NotFound)
     }
 
@@ -377,7 +380,7 @@ impl State {
 
     /// Says why a text cannot take the place of the list where the case stands.
     fn tell_not_one_list(&self, log: &Transcript<'_>, text: &str) -> Result<(), Stop> {
-        log.tell("reparse_list", &self.reparsed(text).err())
+        log.tell("reparse_list", &self.reparse(text).err())
     }
 
     fn tell_counts(&self, log: &Transcript<'_>) -> Result<(), Stop> {
@@ -389,6 +392,23 @@ impl State {
 
     /// Says whether the last two trees that were made are equal.
     fn tell_equal(&self, log: &Transcript<'_>) -> Result<(), Stop> {
+        let (tree, other) = self.last_two()?;
+        log.tell("equal", &(tree == other))
+    }
+
+    /// Says whether the last two trees that were made are equal, and whether they are hashed
+    /// equally, where they may be so deep that both are done by a list.
+    fn tell_alike(&self, log: &Transcript<'_>) -> Result<(), Stop> {
+        let (tree, other) = self.last_two()?;
+        log.tell("equal, with a list", &(tree == other))?;
+        log.tell(
+            "hashed equally, with a list",
+            &(hash_of(tree) == hash_of(other)),
+        )
+    }
+
+    /// The last two trees that were made, edited ones counted.
+    fn last_two(&self) -> Result<(&GreenNode, &GreenNode), Fault> {
         let mut last = None;
         for made in self.made.as_slice().iter().rev() {
             let Some(tree) = made.green() else {
@@ -396,10 +416,10 @@ impl State {
             };
             match last {
                 None => last = Some(tree),
-                Some(other) => return log.tell("equal", &(tree == other)),
+                Some(other) => return Ok((tree, other)),
             }
         }
-        Err(Stop::Refused(Fault::NotFound))
+        Err(Fault::NotFound)
     }
 
     fn place(&self) -> Result<&SyntaxElement, Fault> {

@@ -10,14 +10,16 @@ use crate::traces::Stride;
 use crate::transcript::Phase;
 use crate::walks::Walk;
 
-/// A step of a case. The tree, the parse and so on is the last one that was made; the place is where the last step went.
+/// A step of a case. The tree, the parse and so on is the last one that was made; the place is
+/// where the last step went.
 #[derive(Clone, Copy)]
 pub enum Step {
     /// What the case does from now on.
     Phase(Phase),
     /// Builds by calls, with a cache of its own, and drops the tree.
     Build(&'static [Call]),
-    /// Builds by the first calls, after which `finish` refuses the builder, and goes on with the others.
+    /// Builds by the first calls, after which `finish` refuses the builder, and goes on with the
+    /// others.
     BuildOn(&'static [Call], &'static [Call]),
     /// Builds over the cache of the case, and says what the cache keeps then.
     BuildOver(Way, &'static [Call]),
@@ -32,6 +34,8 @@ pub enum Step {
     Tree,
     /// Whether the last two trees that were made are equal, edited ones counted.
     Equal,
+    /// The same of trees with more than 128 levels, and whether they are hashed equally.
+    Alike,
     /// How long the texts of the tree's children are.
     Lengths,
     /// Which child of the tree is at a range.
@@ -54,7 +58,8 @@ pub enum Step {
     TypedMoves,
     /// What the place is with and without the kinds of its language.
     Conversions,
-    /// Where the pointer to the place leads, and where it is once so many bytes stand in place of a range.
+    /// Where the pointer to the place leads, and where it is once so many bytes stand in place of a
+    /// range.
     Pointer(u32, u32, u32),
     /// What the wrappers of the place are.
     Wrappers,

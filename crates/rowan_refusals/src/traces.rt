@@ -40,7 +40,8 @@ impl Stride {
     }
 }
 
-/// Says what a trace from a node reports, and drops the reports. Where a request is refused in it, it is made once more.
+/// Says what a trace from a node reports, and drops the reports. Where a request is refused in it,
+/// it is made once more.
 pub fn tell_trace(
     log: &Transcript<'_>,
     start: &SyntaxNode,
@@ -48,14 +49,14 @@ pub fn tell_trace(
 ) -> Result<(), Stop> {
     let mut answer = trace(log.alloc(), start, steps.as_slice());
     if let Some(part) = refused_part(&answer) {
-        log.refused("trace", part)?;
+        log.tell_refusal("trace", part)?;
         if !is_without(log.alloc(), start, steps, part, answer)? {
             log.show("trace", &"other steps are not reported as without that one")?;
         }
         answer = trace(log.alloc(), start, steps.as_slice());
     }
     let reports = answer?;
-    log.answered("trace", Ok(()))?;
+    log.tell_answer("trace", Ok(()))?;
     log.tell("reports", &reports)?;
     tell_trees(log, reports.as_slice())?;
     log.drop_apart(reports)
@@ -83,7 +84,8 @@ fn refused_part(answer: &Result<Vec<Report>, Fault>) -> Option<Part> {
     }
 }
 
-/// Whether the reports are those of the steps without the refused one. Where the whole trace was refused there are none.
+/// Whether the reports are those of the steps without the refused one. Where the whole trace was
+/// refused there are none.
 fn is_without(
     alloc: Global,
     start: &SyntaxNode,

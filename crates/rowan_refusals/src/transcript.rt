@@ -128,12 +128,12 @@ impl<'a> Transcript<'a> {
     }
 
     /// Says that a part of a call was refused for memory.
-    pub fn refused(&self, call: &str, part: Part) -> Result<(), Stop> {
+    pub fn tell_refusal(&self, call: &str, part: Part) -> Result<(), Stop> {
         Ok(println!(self.rt; "{call}{part}: {:?}", Fault::Memory)?)
     }
 
     /// Says what a call answered.
-    pub fn answered<C: Display + Copy>(
+    pub fn tell_answer<C: Display + Copy>(
         &self,
         call: C,
         answer: Result<(), Fault>,

@@ -26,7 +26,8 @@ const MOVES: [Move; 14] = [
     Move::PrevToken,
 ];
 
-/// Says where the moves from an element lead, by the calls of the node or the token and by those of the element.
+/// Says where the moves from an element lead, by the calls of the node or the token and by those of
+/// the element.
 pub fn tell_moves(log: &Transcript<'_>, element: &SyntaxElement<Lang>) -> Result<(), Stop> {
     for way in MOVES {
         log.tell(way.name(), &make(way, element))?;

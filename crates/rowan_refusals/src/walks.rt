@@ -13,7 +13,8 @@ pub enum WalkCall {
     Skip,
 }
 
-/// A walk from a node by these calls. Then a clone of it goes on to its end, and then the walk itself.
+/// A walk from a node by these calls. Then a clone of it goes on to its end, and then the walk
+/// itself.
 #[derive(Clone, Copy)]
 pub enum Walk {
     /// Through nodes alone.
@@ -89,7 +90,8 @@ pub fn tell_clones(log: &Transcript<'_>, node: &SyntaxNode) -> Result<(), Stop> 
     )
 }
 
-/// Says what the typed iterators at a node give, each to its end, and the walks after a skip behind their second event.
+/// Says what the typed iterators at a node give, each to its end, and the walks after a skip behind
+/// their second event.
 pub fn tell_typed(log: &Transcript<'_>, node: &rowan::SyntaxNode<Lang>) -> Result<(), Stop> {
     tell_each(log, "child", node.children())?;
     tell_each(log, "child_with_tokens", node.children_with_tokens())?;

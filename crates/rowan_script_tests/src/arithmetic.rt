@@ -1,5 +1,6 @@
-//! A parser of sums and products, as `1 + 2 * (3`. No text is refused for its form, and the tree has each byte of it: a group
-//! that is never closed runs to the end, and what has no place stands in a node of its own.
+//! A parser of sums and products, as `1 + 2 * (3`. No text is refused for its form, and the tree
+//! has each byte of it: a group that is never closed runs to the end, and what has no place stands
+//! in a node of its own.
 mod kinds;
 
 ghost use Rattle.std.specs.Prelude.{◌≡◌, ◌++◌, IfOk, OnOk};
@@ -7,10 +8,10 @@ ghost use Rattle.rowan_green.specs.Loan.{text_so_far};
 ghost use Rattle.rowan_green.specs.Term.{node_text};
 
 pub use kinds::{Arithmetic, Kind};
-use rowan::{Checkpoint, Fault, GreenNode, GreenNodeBuilder, Language, OwnCache, SyntaxKind};
+use rowan::{Checkpoint, Fault, GreenNode, GreenNodeBuilder, Language, OwnedCache, SyntaxKind};
 use std::alloc::Global;
 
-type Builder<'a> = GreenNodeBuilder<'a, OwnCache>;
+type Builder<'a> = GreenNodeBuilder<'a, OwnedCache>;
 
 /// Parses a text. Refused where a node would pass a limit of trees, and for want of memory.
 pub fn parse(alloc: Global, text: &str) -> Result<GreenNode, Fault>
@@ -90,7 +91,8 @@ fn place_error(builder: &mut Builder<'_>, token: &str) -> Result<(), Fault>
     builder.finish_node()
 }
 
-/// A sum that is not complete: where it and its last product begin, and whether they have a sign yet.
+/// A sum that is not complete: where it and its last product begin, and whether they have a sign
+/// yet.
 #[derive(Clone, Copy)]
 struct Sum {
     start: Checkpoint,

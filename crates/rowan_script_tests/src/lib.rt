@@ -1,10 +1,12 @@
-//! Tests of scripts: whole runs of builder calls, with the builder's own cache and with one that runs share; traces of steps through
-//! a tree, and sessions of both; and, with what is proved of them, a small parser and pointers carried through traces.
+//! Tests of scripts: whole runs of builder calls, with the builder's own cache and with one that
+//! runs share; traces of steps through a tree, and sessions of both; and, with what is proved of
+//! them, a small parser and pointers carried through traces.
 #![tactic(auto)]
 
 pub mod arithmetic;
 #[cfg(test)]
 mod math;
+pub mod nested_lists;
 pub mod pointers;
 #[cfg(test)]
 mod report;

@@ -1,5 +1,5 @@
-//! A parser of arithmetic by recursive descent, which opens an operation at a checkpoint once it sees its operator: a port of
-//! rowan's example.
+//! A parser of arithmetic by recursive descent, which opens an operation at a checkpoint once it
+//! sees its operator: a port of rowan's example.
 use crate::word::Symbol::{self, Close, Leaf, Open};
 use crate::word::tree;
 use rowan::builder::CacheHome;

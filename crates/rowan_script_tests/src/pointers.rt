@@ -7,14 +7,16 @@ ghost use Rattle.rowan_green.specs.declared.utility_types.NodeOrToken.TheVariant
 ghost use Rattle.rowan_cursor.specs.Cursor.{StandsAt, text_range};
 ghost use Rattle.rowan_cursor.specs.Moves.{Element, place_of, cursor_at};
 ghost use Rattle.rowan.specs.Pointer.{pointer_to, carried_in_turn};
-ghost use Rattle.rowan.specs.Trace.{IsReport, element_after, new_term, replacement_of, replacements, root_of, tree_of, last_root, Trace};
+ghost use Rattle.rowan.specs.Trace.{IsReport, element_after, new_term, replacement_of};
+ghost use Rattle.rowan.specs.Trace.{replacements, root_of, tree_of, last_root, Trace};
 
 use rowan::ast::SyntaxNodePtr;
 use rowan::script::{Report, Step, trace};
 use rowan::{ElementCalls, Fault, Language, SyntaxNode, TextRange, TextSize, cursor, laws};
 use std::alloc::Global;
 
-/// Makes the steps from a node, and gives their reports, and the pointer to the node carried through them.
+/// Makes the steps from a node, and gives their reports, and the pointer to the node carried
+/// through them.
 pub fn trace_with_pointer<L: Language>(
     alloc: Global,
     node: &SyntaxNode<L>,

@@ -15,8 +15,8 @@ pub fn with_own_cache(alloc: Global, calls: &[Call]) -> Result<Run, Fault> {
     let mut builder = GreenNodeBuilder::new(alloc);
     let outcomes = replay(alloc, &mut builder, calls)?;
     match builder.finish() {
-        Ok(tree) => return Ok(answered(outcomes, Ok(tree))),
-        Err(unfinished) => return Ok(answered(outcomes, Err(unfinished.fault()))),
+        Ok(tree) => return Ok(run_of(outcomes, Ok(tree))),
+        Err(unfinished) => return Ok(run_of(outcomes, Err(unfinished.fault()))),
     }
 }
 
@@ -25,11 +25,11 @@ pub fn with_cache(alloc: Global, calls: &[Call], cache: &mut NodeCache) -> Resul
     let mut builder = GreenNodeBuilder::with_cache(alloc, cache);
     let outcomes = replay(alloc, &mut builder, calls)?;
     match builder.finish() {
-        Ok(tree) => return Ok(answered(outcomes, Ok(tree))),
-        Err(unfinished) => return Ok(answered(outcomes, Err(unfinished.fault()))),
+        Ok(tree) => return Ok(run_of(outcomes, Ok(tree))),
+        Err(unfinished) => return Ok(run_of(outcomes, Err(unfinished.fault()))),
     }
 }
 
-fn answered(outcomes: Vec<Outcome>, finished: Result<GreenNode, Fault>) -> Run {
+fn run_of(outcomes: Vec<Outcome>, finished: Result<GreenNode, Fault>) -> Run {
     Run { outcomes, finished }
 }

@@ -4,7 +4,7 @@ use crate::report::Answer::Moved;
 use crate::report::are_answered;
 use crate::run::Run;
 use crate::word::tree;
-use crate::worked::{MATH_OPERATIONS, calls, expected};
+use crate::worked::{MATH_OPERATIONS, calls, expected_run};
 use rowan::script::{Call, Session, Step, session};
 use rowan::{Fault, GreenNodeBuilder, NodeCache};
 use std::alloc::Global;
@@ -25,7 +25,8 @@ fn with_cache(alloc: Global, calls: &[Call], cache: &mut NodeCache) -> Result<Se
     )
 }
 
-/// Whether the session has the outcomes and the tree of the run, and went to the tree's first two tokens.
+/// Whether the session has the outcomes and the tree of the run, and went to the tree's first two
+/// tokens.
 fn is_of(session: &Session, run: &Run) -> bool {
     let Ok((root, reports)) = &session.end else {
         return false;
@@ -39,7 +40,8 @@ fn is_of(session: &Session, run: &Run) -> bool {
         && are_answered(reports.as_slice(), answers.as_slice())
 }
 
-/// Whether the first of the calls answer so, with an own cache, and twice with a cache that is lent.
+/// Whether the first of the calls answer so, with an own cache, and twice with a cache that is
+/// lent.
 fn is_answered(alloc: Global, count: usize, run: &Run) -> Result<bool, Fault> {
     let calls = calls(alloc, &MATH_OPERATIONS)?;
     let Some(calls) = calls.get(..count) else {
@@ -55,14 +57,14 @@ fn is_answered(alloc: Global, count: usize, run: &Run) -> Result<bool, Fault> {
 
 #[test]
 fn session_of_math(rt: HostRuntime) -> Result<(), Fail> {
-    let run = expected(rt.alloc(), MATH_OPERATIONS.as_slice(), MATH.as_slice())?;
+    let run = expected_run(rt.alloc(), MATH_OPERATIONS.as_slice(), MATH.as_slice())?;
     assert!(rt; is_answered(rt.alloc(), 23, &run)?);
     Ok(())
 }
 
 #[test]
 fn session_of_an_open_root(rt: HostRuntime) -> Result<(), Fail> {
-    let run = expected(rt.alloc(), &MATH_OPERATIONS[..22], &MATH[1..20])?;
+    let run = expected_run(rt.alloc(), &MATH_OPERATIONS[..22], &MATH[1..20])?;
     assert!(rt; is_answered(rt.alloc(), 22, &run)?);
     Ok(())
 }

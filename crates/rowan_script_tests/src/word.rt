@@ -18,7 +18,7 @@ struct Frame {
 }
 
 /// The first element that the symbols spell, by `GreenNode::new` and `GreenToken::new`.
-fn spelled(alloc: Global, symbols: &[Symbol]) -> Result<Option<GreenElement>, Fault> {
+fn spell(alloc: Global, symbols: &[Symbol]) -> Result<Option<GreenElement>, Fault> {
     let mut frames: Vec<Frame> = Vec::new(alloc);
     for symbol in symbols {
         let element = match *symbol {
@@ -48,7 +48,7 @@ fn spelled(alloc: Global, symbols: &[Symbol]) -> Result<Option<GreenElement>, Fa
 
 /// The tree that the symbols spell.
 pub fn tree(alloc: Global, symbols: &[Symbol]) -> Result<GreenNode, Fault> {
-    match spelled(alloc, symbols)? {
+    match spell(alloc, symbols)? {
         Some(NodeOrToken::Node(node)) => Ok(node),
         Some(NodeOrToken::Token(_)) => Err(Fault::NotANode),
         None => Err(Fault::NotOneElement),

@@ -75,7 +75,7 @@ fn outcome(answer: Answer, checkpoints: &Checkpoints) -> Result<Outcome, Fault> 
 }
 
 /// What a run of the calls has to answer.
-pub fn expected(
+pub fn expected_run(
     alloc: Global,
     answered: &[(Step, Answer)],
     symbols: &[Symbol],
@@ -89,14 +89,15 @@ pub fn expected(
     Ok(Run { outcomes, finished })
 }
 
-/// Whether the calls are answered so, with an own cache, and twice with a cache that both runs share.
+/// Whether the calls are answered so, with an own cache, and twice with a cache that both runs
+/// share.
 fn is_answered(
     alloc: Global,
     answered: &[(Step, Answer)],
     symbols: &[Symbol],
 ) -> Result<bool, Fault> {
     let calls = calls(alloc, answered)?;
-    let expected = expected(alloc, answered, symbols)?;
+    let expected = expected_run(alloc, answered, symbols)?;
     let mut cache = NodeCache::new(alloc);
     Ok(
         with_own_cache(alloc, calls.as_slice())? == expected

@@ -1,14 +1,16 @@
 -- What an s-expression reads: a number, or none.
---     An atom reads the number that its word writes.
---     A list reads what an operator gives for two numbers: its first expression is an atom with the operator, its second and third
---     read the numbers. Further ones are not looked at.
+-- An atom reads the number that its word writes. A list reads what an operator gives for two
+-- numbers: its first expression is an atom with the operator, its second and third read the
+-- numbers. Further ones are not looked at.
 -- All numbers are of 64 bits with a sign, and a result that is none of these is none.
-use Rattle.std.specs.Prelude.{ℕ, ◌^◌, ◌==◌, nat_lt, ℤ, pos, negsuc, ◌+ℤ◌, ◌-ℤ◌, ◌*ℤ◌, int_div, Bool, ◌&&◌, if◌then◌else◌, List, [], ◌∷◌, length, Option, Some, None}
+use Rattle.std.specs.Prelude.{ℕ, ◌^◌, ◌==◌, nat_lt, ℤ, pos, negsuc, ◌+ℤ◌, ◌-ℤ◌, ◌*ℤ◌, int_div, Bool}
+use Rattle.std.specs.Prelude.{◌&&◌, if◌then◌else◌, List, [], ◌∷◌, length, Option, Some, None}
 use Rattle.std.specs.Option.{option_and_then}
 use Rattle.std.specs.Str.{all_ascii_digits}
 use Rattle.std.specs.Str.Parse.{without_leading_sign, signed_digits_value}
 use Rattle.rowan_green.specs.declared.utility_types.NodeOrToken.TheVariants.{Node, Token}
-use Rattle.rowan_green.specs.Term.{NodeTerm, node, Forest, empty, node_then, token_then, Term, terms, node_kind, node_children}
+use Rattle.rowan_green.specs.Term.{NodeTerm, node, Forest, empty, node_then, token_then, Term}
+use Rattle.rowan_green.specs.Term.{terms, node_kind, node_children}
 use Rattle.rowan_cursor.specs.Cursor.{Cursor, term_at}
 use Rattle.rowan_cursor.specs.Moves.{children_of}
 use Rattle.rowan_tool.specs.declared.sexp.lang.SyntaxKind.{SyntaxKind}
@@ -70,7 +72,8 @@ result_of Div a b = quotient a b
 -- what it gives for two numbers that may be none
 abbrev pub result_if : Option Operator → Option ℤ → Option ℤ → Option ℤ
 result_if operator a b =
-    option_and_then (λ o. option_and_then (λ x. option_and_then (λ y. result_of o x y) b) a) operator
+    option_and_then (λ o. option_and_then (λ x. option_and_then (λ y. result_of o x y) b) a)
+    operator
 
 -- ---- expressions
 
@@ -100,7 +103,8 @@ value_by _ ts expressions = None
 -- the operator that a node is, if it is an atom
 abbrev pub operator_of : NodeTerm → Option Operator
 operator_of n =
-    if is_atom (kind_of (node_kind n)) then option_and_then operator_in (atom_text (node_children n)) else None
+    if is_atom (kind_of (node_kind n))
+    then option_and_then operator_in (atom_text (node_children n)) else None
 
 abbrev mutual
   -- what a node reads

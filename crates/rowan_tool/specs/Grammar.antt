@@ -1,13 +1,17 @@
 -- The grammar of s-expressions: which tree a list of tokens has.
---     A root is any sequence of white space, atoms, lists and errors.
---     An atom is a node with one word, and an error a node with one `)`, which stands in the root alone.
---     A list is a `(`, then any sequence of white space, atoms and lists, and then its `)`. A list without a `)` runs to the end
---     of the text: no token stands behind it.
-use Rattle.std.specs.Prelude.{◌≡◌, ◌≢◌, ℕ, ◌<◌, ◌==◌, Bool, true, false, ◌&&◌, ◌⊎◌, List, map, length, take, codes, count_by}
+-- A root is any sequence of white space, atoms, lists and errors. An atom is a node with one word,
+-- and an error a node with one `)`, which stands in the root alone. A list is a `(`, then any
+-- sequence of white space, atoms and lists, and then its `)`. A list without a `)` runs to the end
+-- of the text: no token stands behind it.
+use Rattle.std.specs.Prelude.{◌≡◌, ◌≢◌, ℕ, ◌<◌, ◌==◌, Bool, true, false, ◌&&◌, ◌⊎◌, List, map}
+use Rattle.std.specs.Prelude.{length, take, codes, count_by}
 use Rattle.rowan_green.specs.declared.utility_types.NodeOrToken.TheVariants.{Node}
 use Rattle.rowan_green.specs.Path.{tokens}
-use Rattle.rowan_green.specs.Term.{TokenTerm, token_of, NodeTerm, node, node_kind, Forest, empty, node_then, token_then}
-use Rattle.rowan_tool.specs.declared.sexp.lang.SyntaxKind.TheVariants.{L_PAREN, R_PAREN, WORD, WHITESPACE, ERROR, LIST, ATOM, ROOT}
+use Rattle.rowan_green.specs.Term.{TokenTerm, token_of, NodeTerm, node, node_kind, Forest, empty}
+use Rattle.rowan_green.specs.Term.{node_then, token_then}
+use Rattle.rowan_tool.specs.declared.sexp.lang.SyntaxKind.TheVariants.{L_PAREN, R_PAREN, WORD}
+use Rattle.rowan_tool.specs.declared.sexp.lang.SyntaxKind.TheVariants.{WHITESPACE, ERROR, LIST}
+use Rattle.rowan_tool.specs.declared.sexp.lang.SyntaxKind.TheVariants.{ATOM, ROOT}
 use Rattle.rowan_tool.specs.Sexp.{LexedToken, IsLexed, number_of}
 
 abbrev pub is_empty : Forest → Bool
@@ -38,8 +42,8 @@ pub record ClosesList (t : TokenTerm) (f : Forest) : Type 0 where
   pub last : f ≡ empty
 
 abbrev mutual
-  -- The node is an atom, a list or an error. It stands in a list (`inside`) or in the root, and it is `last` where no token of
-  -- the text stands behind it.
+  -- The node is an atom, a list or an error. It stands in a list (`inside`) or in the root, and it
+  -- is `last` where no token of the text stands behind it.
   pub IsElement : (inside last : Bool) → NodeTerm → Type 0
   IsElement inside last (node k empty) = ⊥
   IsElement inside last (node k (node_then n f)) = ⊥
@@ -79,8 +83,8 @@ pub record IsParse (text : List ℕ) (tree : NodeTerm) : Type 0 where
 abbrev pub count_of : ℕ → List ℕ → ℕ
 count_of byte text = count_by (λ b. b == byte) text
 
--- The text is that of one list: it begins with `(`, and the number of `(` less that of `)` becomes 0 at its last byte and
--- nowhere before.
+-- The text is that of one list: it begins with `(`, and the number of `(` less that of `)` becomes
+-- 0 at its last byte and nowhere before.
 pub record IsBalanced (text : List ℕ) : Type 0 where
   pub begins : take 1 text ≡ codes "("
   pub closed : count_of 40 text ≡ count_of 41 text

@@ -1,14 +1,17 @@
 -- What a parser's builder holds between two tokens: a root that is open, in it some open lists,
 -- and between them whole terms that are not empty. And what a parse that is refused leaves.
-use Rattle.std.specs.Prelude.{◌≡◌, ℕ, zero, suc, ◌+◌, ◌<◌, ◌≤◌, List, [], ◌∷◌, ◌++◌, length, replicate}
+use Rattle.std.specs.Prelude.{◌≡◌, ℕ, zero, suc, ◌+◌, ◌<◌, ◌≤◌, List, [], ◌∷◌, ◌++◌, length}
+use Rattle.std.specs.Prelude.{replicate}
 use Rattle.rowan_green.specs.declared.utility_types.NodeOrToken.TheVariants.{Node}
 use Rattle.rowan_green.specs.Term.{TokenTerm, NodeTerm, Term, node_kind, term_len}
 use Rattle.rowan_tool.specs.declared.sexp.lang.SyntaxKind.{SyntaxKind}
-use Rattle.rowan_tool.specs.declared.sexp.lang.SyntaxKind.TheVariants.{L_PAREN, R_PAREN, WORD, ERROR, LIST, ATOM, ROOT}
+use Rattle.rowan_tool.specs.declared.sexp.lang.SyntaxKind.TheVariants.{L_PAREN, R_PAREN, WORD}
+use Rattle.rowan_tool.specs.declared.sexp.lang.SyntaxKind.TheVariants.{ERROR, LIST, ATOM, ROOT}
 use Rattle.rowan_tool.specs.Sexp.{number_of, kind_of}
 use Rattle.rowan_green.specs.Cache.{CacheValue}
 use Rattle.rowan_green.specs.Stream.{intern_all}
-use Rattle.rowan_green.specs.Word.{Symbol, Open, Leaf, Close, Item, Bare, Whole, HasParts, whole_terms, word_text}
+use Rattle.rowan_green.specs.Word.{Symbol, Open, Leaf, Close, Item, Bare, Whole, HasParts}
+use Rattle.rowan_green.specs.Word.{whole_terms, word_text}
 
 abbrev pub root_kind : ℕ
 root_kind = number_of ROOT
@@ -28,7 +31,8 @@ open_after R_PAREN zero = zero
 open_after R_PAREN (suc n) = n
 open_after _ n = n
 
--- what the tokens that are left add, and the end of the text, which closes the open lists and the root
+-- what the tokens that are left add, and the end of the text, which closes the open lists and the
+-- root
 abbrev pub rest_word : ℕ → List TokenTerm → List Symbol
 rest_word n [] = replicate n Close ++ Close ∷ []
 rest_word n (t ∷ ts) =

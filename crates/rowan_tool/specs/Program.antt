@@ -1,7 +1,8 @@
 -- What the program's arguments ask for, and what it does for an input.
-use Rattle.std.specs.Prelude.{◌≡◌, ◌≢◌, ℕ, ℤ, ◌≤◌, List, [], ◌∷◌, ◌++◌, length, map, codes, string_bytes, Option, Some, None, IfSome, IsUtf8, IsAscii, String}
+use Rattle.std.specs.Prelude.{◌≡◌, ℕ, ℤ, ◌<◌, ◌≤◌, List, [], ◌∷◌, ◌++◌, length, map, codes}
+use Rattle.std.specs.Prelude.{string_bytes, Option, Some, None, IfSome, IsUtf8, String}
 use Rattle.std.specs.Fmt.{signed_decimal}
-use Rattle.std.specs.Io.KnownBytes.{Appends}
+use Rattle.std.specs.Io.KnownBytes.{Appends, Consumes}
 use Rattle.std.specs.List.{flat_map}
 use Rattle.std.specs.declared.alloc.Global.{Global}
 use Rattle.rowan_tool.specs.declared.program.Command.{Command}
@@ -11,15 +12,16 @@ use Rattle.serde_json.specs.Written.{compact_text}
 use Rattle.rowan_tool.specs.Eval.{Reading, readings}
 use Rattle.rowan_tool.specs.Grammar.{IsParse}
 use Rattle.rowan_tool.specs.Sexp.{kind_of, name_of}
-use Rattle.rowan_api.specs.Printed.{called, debug_tree, tree_json}
+use Rattle.rowan_api.specs.Printed.{raw_name, tree_json, IsDebugTree}
 use Rattle.rowan_cursor.specs.Cursor.{Cursor, term_at}
 use Rattle.rowan_cursor.specs.Moves.{cursor_at}
 use Rattle.rowan_green.specs.declared.utility_types.NodeOrToken.TheVariants.{Node, Token}
 use Rattle.rowan_green.specs.Fits.{byte_limit}
 use Rattle.rowan_green.specs.Term.{node, NodeTerm, Term}
 use Rattle.rowan_green.specs.declared.fault.Fault.{Fault}
-use Rattle.rowan_green.specs.declared.fault.Fault.TheVariants.{Memory}
-use Rattle.rowan_tool.specs.declared.program.Stop.TheVariants.{Usage, CannotRead, NotUtf8, TooLong, NoMemory, CannotWrite}
+use Rattle.rowan_green.specs.declared.fault.Fault.TheVariants.{Memory, TextTooLong}
+use Rattle.rowan_tool.specs.declared.program.Stop.TheVariants.{Usage, CannotRead, NotUtf8, TooLong}
+use Rattle.rowan_tool.specs.declared.program.Stop.TheVariants.{NoMemory, CannotWrite}
 
 -- the word that asks for the command
 abbrev pub argument_of : Command → List ℕ
@@ -49,6 +51,11 @@ pub record IsReadWhole (bytes : List ℕ) (rest : Option (List ℕ)) : Type 0 wh
 abbrev pub ReadsAll : (IsSuch : List ℕ → Type 0) (before after : Option (List ℕ)) → Type 0
 ReadsAll IsSuch before after = IfSome before (λ bytes. IsReadWhole bytes after × IsSuch bytes)
 
+-- where it is known which bytes an input holds, more of them than the limit were read
+abbrev pub ReadsTooMany : (before after : Option (List ℕ)) → Type 0
+ReadsTooMany before after = (bytes : List ℕ)
+    × Consumes before after bytes × (longest_input < length bytes)
+
 -- the line of a value: the number, or `none`
 abbrev pub value_line : Option ℤ → List ℕ
 value_line (Some n) = signed_decimal n ++ 10 ∷ []
@@ -69,27 +76,26 @@ value_lines_at c = value_lines_of (term_at c)
 
 -- how the raw kinds of s-expressions are called
 abbrev pub sexp_name : ℕ → List ℕ
-sexp_name = called name_of kind_of
+sexp_name = raw_name name_of kind_of
 
 -- the JSON of what stands at a cursor, without a space, and a newline
 abbrev pub json_line_at : Cursor → List ℕ
 json_line_at c = compact_text (tree_json sexp_name c) ++ 10 ∷ []
 
--- what a command shows of a text that has this tree: the lines of the tree, if the text is ASCII; the
--- lines of its values; its JSON
-abbrev pub Shows : Command → (text : List ℕ) → (tree : NodeTerm) → (shown : List ℕ) → Type 0
-Shows Tree text tree shown = IsAscii text → shown ≡ debug_tree sexp_name (cursor_at tree [])
-Shows Eval text tree shown = shown ≡ value_lines_at (cursor_at tree [])
-Shows Json text tree shown = shown ≡ json_line_at (cursor_at tree [])
+-- what a command shows of a tree: its lines; the lines of its values; its JSON
+abbrev pub Shows : Command → (tree : NodeTerm) → (shown : List ℕ) → Type 0
+Shows Tree tree shown = IsDebugTree sexp_name (cursor_at tree []) shown
+Shows Eval tree shown = shown ≡ value_lines_at (cursor_at tree [])
+Shows Json tree shown = shown ≡ json_line_at (cursor_at tree [])
 
 -- the command shows this of a text, by the tree that the grammar gives for it
 pub record IsShown (command : Command) (text shown : List ℕ) : Type 0 where
   pub tree : NodeTerm
   pub parse : IsParse text tree
-  pub shows : Shows command text tree shown
+  pub shows : Shows command tree shown
 
--- The arguments ask for a command, and one text was written after what the output held, where that is
--- known: what the command shows of the input, where that is known.
+-- the arguments ask for a command, and one text was written after what the output held, where that
+-- is known: what the command shows of the input, where that is known
 pub record IsAnswered (args : List (String Global)) (input old new : Option (List ℕ)) : Type 0 where
   pub command : Command
   pub asked : AsksFor args command
@@ -116,7 +122,6 @@ line_of TooLong = codes "rowan: text too long"
 line_of NoMemory = codes "rowan: out of memory"
 line_of CannotWrite = codes "rowan: cannot write standard output"
 
--- memory stops the program as itself, and any other fault of what it prints as a text that is too
--- long
+-- the program stops for want of memory or for a text that is too long
 abbrev pub StopsFor : Fault → Stop → Type 0
-StopsFor fault stop = (fault ≡ Memory → stop ≡ NoMemory) × (fault ≢ Memory → stop ≡ TooLong)
+StopsFor fault stop = (fault ≡ Memory → stop ≡ NoMemory) × (fault ≡ TextTooLong → stop ≡ TooLong)

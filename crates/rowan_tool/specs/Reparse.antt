@@ -1,8 +1,11 @@
--- Reparsing: a list of a tree is put in the place of another. It is the tree of the text that takes that one's place, so where the
--- tree was that of its text, it is so again, and nothing else needs to be parsed.
-use Rattle.std.specs.Prelude.{◌≡◌, ◌⊎◌, ⊤, Bool, ℕ, ◌<◌, ◌≤◌, List, [], ◌∷◌, ◌++◌, length, map, Some, String, string_bytes}
+-- Reparsing: a list of a tree is put in the place of another. It is the tree of the text that takes
+-- that one's place, so where the tree was that of its text, it is so again, and nothing else needs
+-- to be parsed.
+use Rattle.std.specs.Prelude.{◌≡◌, ◌⊎◌, ⊤, Bool, ℕ, ◌<◌, ◌≤◌, List, [], ◌∷◌, ◌++◌, length, map}
+use Rattle.std.specs.Prelude.{Some, String, string_bytes}
 use Rattle.rowan_green.specs.declared.fault.Fault.{Fault}
-use Rattle.rowan_green.specs.declared.fault.Fault.TheVariants.{TextTooLong, Memory, NotFound, NotOneList}
+use Rattle.rowan_green.specs.declared.fault.Fault.TheVariants.{TextTooLong, Memory, NotFound}
+use Rattle.rowan_green.specs.declared.fault.Fault.TheVariants.{NotOneList}
 use Rattle.rowan_green.specs.declared.utility_types.NodeOrToken.TheVariants.{Node}
 use Rattle.rowan_green.specs.Edits.{spliced}
 use Rattle.rowan_green.specs.Fits.{byte_limit, Fits}
@@ -25,8 +28,8 @@ pub record IsReparse (c : Cursor) (text : List ℕ) (new : NodeTerm) : Type 0 wh
   pub one : IsOneList text list
   pub replacement : IsReplacement c (Node list) new
 
--- Why a list is not parsed again: the new text is not one list; it is one, but the new tree would pass the limits; or there is no
--- memory.
+-- Why a list is not parsed again: the new text is not one list; it is one, but the new tree would
+-- pass the limits; or there is no memory.
 abbrev pub WhyNoReparse : Cursor → List ℕ → Fault → Type 0
 WhyNoReparse c text NotOneList = ¬ IsBalanced text
 WhyNoReparse c text TextTooLong = IsBalanced text
@@ -51,13 +54,14 @@ Edit = Span × List ℕ
 abbrev pub edits_of : {Z : Type 0} → List (Span × String Z) → List Edit
 edits_of given = map (λ edit. (edit.0, string_bytes edit.1)) given
 
--- the text after an edit, and after some, each of which is made in the text that the one before left
-abbrev pub edited : List ℕ → Edit → List ℕ
-edited text edit = spliced text edit.0.start edit.0.end edit.1
+-- the text after an edit, and after some, each of which is made in the text that the one before
+-- left
+abbrev pub edit_text : List ℕ → Edit → List ℕ
+edit_text text edit = spliced text edit.0.start edit.0.end edit.1
 
 abbrev pub text_after : List ℕ → List Edit → List ℕ
 text_after text [] = text
-text_after text (edit ∷ edits) = text_after (edited text edit) edits
+text_after text (edit ∷ edits) = text_after (edit_text text edit) edits
 
 -- a list of the text's tree has this range
 pub record IsListIn (text : List ℕ) (span : Span) : Type 0 where
@@ -90,19 +94,20 @@ HasNoList tree span fault =
 pub record IsEdit (text : List ℕ) (edit : Edit) : Type 0 where
   pub old : IsListIn text edit.0
   pub new : IsBalanced edit.1
-  pub fits : length (edited text edit) ≤ byte_limit
+  pub fits : length (edit_text text edit) ≤ byte_limit
 
 -- each edit is one of the text that those before it left
 abbrev pub AreEdits : List ℕ → List Edit → Type 0
 AreEdits text [] = ⊤
-AreEdits text (edit ∷ edits) = IsEdit text edit × AreEdits (edited text edit) edits
+AreEdits text (edit ∷ edits) = IsEdit text edit × AreEdits (edit_text text edit) edits
 
--- why an edit of a text is refused, want of memory aside; what its range is comes first, then the new text, and then the limit
+-- why an edit of a text is refused, want of memory aside; what its range is comes first, then the
+-- new text, and then the limit
 abbrev pub WhyNoEdit : List ℕ → Edit → Fault → Type 0
 WhyNoEdit text edit NotFound = ¬ IsListIn text edit.0
 WhyNoEdit text edit NotOneList = IsListIn text edit.0 × ¬ IsBalanced edit.1
 WhyNoEdit text edit TextTooLong =
-    IsListIn text edit.0 × IsBalanced edit.1 × (byte_limit < length (edited text edit))
+    IsListIn text edit.0 × IsBalanced edit.1 × (byte_limit < length (edit_text text edit))
 WhyNoEdit text edit _ = ⊥
 
 -- the first edit that is refused is refused for this
@@ -114,7 +119,8 @@ pub record RefusesFirst (text : List ℕ) (edits : List Edit) (fault : Fault) : 
   pub made : AreEdits text before
   pub why : WhyNoEdit (text_after text before) edit fault
 
--- why edits of a text are refused, want of memory aside: the text is past the limit itself, or one of them is refused
+-- why edits of a text are refused, want of memory aside: the text is past the limit itself, or one
+-- of them is refused
 abbrev pub WhyNoEdits : List ℕ → List Edit → Fault → Type 0
 WhyNoEdits text edits fault =
     ((byte_limit < length text) × (fault ≡ TextTooLong))

@@ -1,9 +1,12 @@
 //! The program `rowan`: what its arguments ask for, what it reads and writes, and why it stops.
-ghost use Rattle.std.specs.Prelude.{◌≡◌, ◌≢◌, ◌↔◌, ◌<◌, ◌≤◌, [], ◌++◌, length, take, Ok, Err, IfOk, IfErr, IfSome, IfNone, OnOk, IsUtf8, string_bytes, vec_len};
+ghost use Rattle.std.specs.Prelude.{◌≡◌, ◌≢◌, ◌↔◌, ◌<◌, ◌≤◌, [], ◌++◌, length, take, Ok, Err, IfOk};
+ghost use Rattle.std.specs.Prelude.{IfErr, IfSome, IfNone, OnOk, IsUtf8, string_bytes, vec_len};
 ghost use Rattle.std.specs.Io.KnownBytes.{Appends, Consumes, IsAtEnd};
 ghost use Rattle.rowan_cursor.specs.Moves.{cursor_at};
-ghost use Rattle.rowan_green.specs.Term.{node_text};
-ghost use Rattle.rowan_tool.specs.Program.{AsksFor, IsCommandLine, IsReadWhole, ReadsAll, IsShown, Shows, IsAnswered, longest_input, value_line, value_lines_at, json_line_at, status_of, line_of};
+ghost use Rattle.rowan_tool.specs.Program.{AsksFor, IsCommandLine, IsReadWhole, ReadsAll};
+ghost use Rattle.rowan_tool.specs.Program.{ReadsTooMany, IsShown, Shows, IsAnswered, StopsFor};
+ghost use Rattle.rowan_tool.specs.Program.{longest_input, value_line, value_lines_at, json_line_at};
+ghost use Rattle.rowan_tool.specs.Program.{status_of, line_of};
 
 use crate::sexp::{self, Lang, Parse, Root};
 use rowan::{Fault, GreenNode, SyntaxNode};
@@ -98,27 +101,14 @@ impl From<AllocError> for Stop {
     }
 }
 
-impl From<Fault> for Stop {
-    ghost use Rattle.rowan_tool.specs.Program.{StopsFor};
-
-    ghost from_gives = { StopsFor };
-
-    fn from(fault: Fault) -> Stop {
-        match fault {
-            Fault::Memory => Stop::NoMemory,
-            // `printed` gives no other fault than this one
-            _ => Stop::TooLong,
-        }
-    }
-}
-
-/// Does what the arguments ask for, the words after the program's name: reads the whole input, prints it into memory, and
-/// writes that.
+/// Does what the arguments ask for, the words after the program's name: reads the whole input,
+/// prints it into memory, and writes that.
 ///
-/// Stops with `Usage` where the arguments are no command, which is looked at before anything is read; with `CannotRead` after a
-/// read that failed; with `TooLong` where the input has more than 4,294,967,295 bytes, whatever they are; with `NotUtf8` where
-/// they are no text; with `NoMemory` where memory is refused; and with `CannotWrite` after a write that failed. Only then may
-/// something have been written.
+/// Stops with `Usage` where the arguments are no command, which is looked at before anything is
+/// read; with `CannotRead` after a read that failed; with `TooLong` once more than 4,294,967,295
+/// bytes were read, whatever they are; with `NotUtf8` where they are no text; with `NoMemory` where
+/// memory is refused; and with `CannotWrite` after a write that failed. Only then may something
+/// have been written.
 pub fn run<R: Read, W: Write>(
     alloc: Global,
     args: &[String],
@@ -131,14 +121,14 @@ pub fn run<R: Read, W: Write>(
 
     // Of an input whose bytes are known.
     ensures too_long { result ≡ Err Stop.TooLong →
-        IfSome (R.remaining input.old) (λ bytes. longest_input < length bytes) }
+        ReadsTooMany (R.remaining input.old) (R.remaining input.new) }
     ensures not_utf8 { result ≡ Err Stop.NotUtf8 →
         ReadsAll (λ bytes. ¬ IsUtf8 bytes) (R.remaining input.old) (R.remaining input.new) }
     ensures cannot_write { result ≡ Err Stop.CannotWrite →
         ReadsAll IsUtf8 (R.remaining input.old) (R.remaining input.new) }
     ensures read { OnOk result (ReadsAll IsUtf8 (R.remaining input.old) (R.remaining input.new)) }
 
-    // Of an output whose bytes are known, too. Text past ASCII stands in the quotes of `tree` as `{:?}` writes it.
+    // Of an output whose bytes are known, too.
     ensures written { OnOk result (IsAnswered args.now (R.remaining input.old)
         (W.contents output.old) (W.contents output.new)) }
 {
@@ -146,24 +136,37 @@ pub fn run<R: Read, W: Write>(
         return Err(Stop::Usage);
     };
     let text = text_of(read_all(alloc, input)?)?;
-    let shown = printed(alloc, command, text.as_str())?;
-    write_whole(output, shown.as_str())
+    match answer(alloc, command, text.as_str()) {
+        Ok(answer) => write_whole(output, answer.as_str()),
+        Err(fault) => Err(stop_for(fault)),
+    }
+}
+
+/// Why the program stops where a text has no answer.
+fn stop_for(fault: Fault) -> Stop
+    requires { fault ≢ Fault.Memory → fault ≡ Fault.TextTooLong }
+    ensures { StopsFor fault result }
+{
+    match fault {
+        Fault::Memory => Stop::NoMemory,
+        Fault::TextTooLong => Stop::TooLong,
+        _ => unreachable!(),
+    }
 }
 
 /// What the command prints for the text.
-fn printed(alloc: Global, command: Command, text: &str) -> Result<String, Fault>
+fn answer(alloc: Global, command: Command, text: &str) -> Result<String, Fault>
     ensures ok { IfOk result (λ shown. IsShown command text.now (string_bytes shown)) }
     ensures err { IfErr result (λ fault. fault ≢ Fault.Memory →
         (fault ≡ Fault.TextTooLong) × (longest_input < length text.now)) }
 {
     let parse = sexp::parse(alloc, text)?;
-    shown(alloc, command, &parse)
+    answer_of(alloc, command, &parse)
 }
 
 /// What the command prints of the tree.
-fn shown(alloc: Global, command: Command, parse: &Parse) -> Result<String, Fault>
-    ensures ok { IfOk result (λ shown.
-        Shows command (node_text parse.now) parse.now (string_bytes shown)) }
+fn answer_of(alloc: Global, command: Command, parse: &Parse) -> Result<String, Fault>
+    ensures ok { IfOk result (λ shown. Shows command parse.now (string_bytes shown)) }
     ensures err { IfErr result (λ fault. fault ≡ Fault.Memory) }
 {
     match command {
@@ -212,7 +215,7 @@ fn read_all<R: Read>(alloc: Global, input: &mut R) -> Result<Vec<u8>, Stop>
         (all ≡ bytes.items) × IsReadWhole all (R.remaining input.new))) }
     ensures err { IfErr result (λ stop. stop ≢ Stop.CannotRead → stop ≢ Stop.NoMemory →
         (stop ≡ Stop.TooLong)
-        × IfSome (R.remaining input.old) (λ all. longest_input < length all)) }
+        × ReadsTooMany (R.remaining input.old) (R.remaining input.new)) }
 {
     let mut buffer = [0; READ_SIZE];
     let mut bytes = Vec::new(alloc);

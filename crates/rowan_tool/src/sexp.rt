@@ -1,4 +1,5 @@
-//! S-expressions: their kinds, their lexer, their parser, the wrappers of their nodes, and what they read as numbers.
+//! S-expressions: their kinds, their lexer, their parser, the wrappers of their nodes, and what
+//! they read as numbers.
 mod ast;
 mod balance;
 mod eval;

@@ -1,5 +1,6 @@
 //! Pointers and wrappers, over the language in which even and odd raw kinds mean one kind each.
 mod casts;
+mod comparisons;
 mod pointers;
 mod wrappers;
 

@@ -1,4 +1,5 @@
-//! Printed trees of a language with two kinds, of which one has many raw kinds, and of one in which both have.
+//! Printed trees of a language with two kinds, of which one has many raw kinds, and of one in which
+//! both have.
 use crate::parts::Part::{self, Close, Leaf, Open};
 use crate::parts::tree;
 use rowan::{Fault, GreenNode, GreenNodeBuilder, Language, SyntaxKind, SyntaxNode};

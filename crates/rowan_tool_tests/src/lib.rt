@@ -1,4 +1,5 @@
-//! Tests of the typed layer, of pointers and wrappers, of the s-expressions and of the program that prints their trees.
+//! Tests of the typed layer, of pointers and wrappers, of the s-expressions and of the program that
+//! prints their trees.
 #![tactic(auto)]
 
 #[cfg(test)]

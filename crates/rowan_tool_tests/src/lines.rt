@@ -1,5 +1,6 @@
-//! Printed lines beside those of a plain printer, which pushes them piece by piece: for many texts, past ASCII too, on both sides of
-//! the lengths at which a text is cut. What is printed of text past ASCII, no contract says.
+//! Printed lines beside those of a plain printer, which pushes them piece by piece: for many texts,
+//! past ASCII too, on both sides of the lengths at which a text is cut. What is printed of text
+//! past ASCII, no contract says.
 use itoa::Buffer;
 use rowan::{
     Fault, GreenNode, GreenNodeBuilder, Language, SyntaxKind, SyntaxNode, SyntaxToken, TextRange,
@@ -142,7 +143,8 @@ fn tokens_print_alike(alloc: Global, node: &SyntaxNode<Lang>) -> Result<bool, Fa
     Ok(true)
 }
 
-/// Whether the lines of these texts are those of the plain printer: each alone, and all below the line of their node.
+/// Whether the lines of these texts are those of the plain printer: each alone, and all below the
+/// line of their node.
 fn prints_alike(alloc: Global, texts: &[String]) -> Result<bool, Fault> {
     let root = SyntaxNode::<Lang>::new_root(alloc, node_of(alloc, texts)?)?;
     if !tokens_print_alike(alloc, &root)? {

@@ -3,7 +3,8 @@ use rowan::builder::CacheHome;
 use rowan::{Fault, GreenNode, GreenNodeBuilder, SyntaxKind};
 use std::alloc::Global;
 
-/// A part of a tree: the beginning of a node of a raw kind, a token of one with its text, or the end of a node.
+/// A part of a tree: the beginning of a node of a raw kind, a token of one with its text, or the
+/// end of a node.
 #[derive(Clone, Copy)]
 pub enum Part {
     Open(u16),

@@ -41,9 +41,10 @@ const LIST_TREE: &str = r#"ROOT@0..7
 
 const ONE: &str = "1";
 
-const ONE_JSON: &str =
-    r#"{"children":[{"children":[{"kind":"WORD","text":"1","text_range":[0,1]}],"kind":"ATOM","text_range":[0,1]}],"kind":"ROOT","text_range":[0,1]}
-"#;
+const ONE_JSON: &str = "{\"children\":[{\"children\":[\
+    {\"kind\":\"WORD\",\"text\":\"1\",\"text_range\":[0,1]}],\
+    \"kind\":\"ATOM\",\"text_range\":[0,1]}],\
+    \"kind\":\"ROOT\",\"text_range\":[0,1]}\n";
 
 /// A command, its input, and what it writes.
 const ANSWERS: [(&str, &str, &str); 3] = [
@@ -73,7 +74,8 @@ fn answers(
     Ok(outcome == expected && written.as_slice() == text.as_bytes())
 }
 
-/// Whether a command answers as without a failure where any one read is interrupted, and stops where any one fails.
+/// Whether a command answers as without a failure where any one read is interrupted, and stops
+/// where any one fails.
 fn stands_each_read(
     alloc: Global,
     (command, text, shown): (&str, &str, &str),
@@ -113,8 +115,8 @@ fn reads_again_or_stops_at_each_read(rt: HostRuntime) -> Result<(), Fail> {
     Ok(())
 }
 
-/// How a command ends whose write or flush fails in this way after so many, and how many bytes of its answer it wrote;
-/// none where it wrote others.
+/// How a command ends whose write or flush fails in this way after so many, and how many bytes of
+/// its answer it wrote; none where it wrote others.
 fn after_writes(
     alloc: Global,
     (command, text, shown): (&str, &str, &str),
@@ -132,7 +134,8 @@ fn after_writes(
     }
 }
 
-/// Whether a command goes on where any one write is interrupted, and stops where any one fails, with what was written before.
+/// Whether a command goes on where any one write is interrupted, and stops where any one fails,
+/// with what was written before.
 fn stands_each_write(alloc: Global, answer: (&str, &str, &str), most: usize) -> Result<bool, Fail> {
     let len = answer.2.len();
     for writes in 0..calls(len, most) {

@@ -1,4 +1,5 @@
-//! Readers and writers that move a few bytes at a time and fail at a chosen call, and the words of a command line.
+//! Readers and writers that move a few bytes at a time and fail at a chosen call, and the words of
+//! a command line.
 use std::alloc::{AllocError, Global};
 use std::io::{self, ErrorKind, Read, Write};
 
@@ -39,7 +40,8 @@ impl Read for FailingReader<'_> {
     }
 }
 
-/// Writes at most `most` bytes at a time. One call fails, to write or to flush: the one after `left` others.
+/// Writes at most `most` bytes at a time. One call fails, to write or to flush: the one after
+/// `left` others.
 #[derive(Drop)]
 pub struct FailingWriter {
     pub written: Vec<u8>,

@@ -1,7 +1,9 @@
-//! Typed cursors beside the raw ones, over the language in which even and odd raw kinds mean one kind each.
+//! Typed cursors beside the raw ones, over the language in which even and odd raw kinds mean one
+//! kind each.
 //!
-//! A call that may be refused is run on the elements of a tree, and its answer is compared with that of the raw call. The calls are
-//! named by the values of small enums, and functions with a match make them.
+//! A call that may be refused is run on the elements of a tree, and its answer is compared with
+//! that of the raw call. The calls are named by the values of small enums, and functions with a
+//! match make them.
 mod changes;
 mod lists;
 mod moves;

@@ -6,8 +6,8 @@ use std::alloc::AllocError;
 use std::fmt;
 use std::marker::{Model, PhantomData};
 
-/// The children of a node that cast to a wrapper, from the first on. Each item shares the tree once more. Where that is refused
-/// for want of memory, the item is `Err(Fault::Memory)`, and then the iterator ends.
+/// The children of a node that cast to a wrapper, from the first on. Each item shares the tree once
+/// more. Where that is refused, the item is `Err(Fault::Memory)`, and then the iterator ends.
 #[derive(Drop)]
 pub struct AstChildren<N, L = <N as AstNode>::Language> {
     nodes: SyntaxNodeChildren<L>,

@@ -9,8 +9,8 @@ use crate::fault::Fault;
 
 /// A wrapper of the nodes of some kinds of a language. It is as cheap as the node itself.
 ///
-/// The ghost members are what contracts see: `casts`, which kinds cast to the wrapper, and `node_of`, the node in it. Kinds that
-/// `==` holds equal cast alike.
+/// The ghost members are what contracts see: `casts`, which kinds cast to the wrapper, and
+/// `node_of`, the node in it. Kinds that `==` holds equal cast alike.
 pub trait AstNode {
     /// The language of the nodes.
     type Language: Language;
@@ -33,8 +33,8 @@ pub trait AstNode {
         ensures node { result.now ≡ node_of self.now }
         ensures casts { casts_at Self.Language.meaning casts result.now ≡ true };
 
-    /// A wrapper of the same node in a tree of its own, where it is the root. It visits each node and token below it once.
-    /// `Err(Fault::Memory)` for want of memory.
+    /// A wrapper of the same node in a tree of its own, where it is the root. It visits each node
+    /// and token below it once. Refused with `Memory` alone.
     fn clone_subtree(&self) -> Result<Self, Fault>
         ensures ok { IfOk result (λ copy. StandsAt (node_of self.now) (node_of copy).root) }
         ensures top { IfOk result (λ copy. (node_of copy).path ≡ []) }

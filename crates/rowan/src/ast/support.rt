@@ -1,4 +1,5 @@
-//! What the calls of wrappers are made of: the children of a node that cast, and its tokens of a kind.
+//! What the calls of wrappers are made of: the children of a node that cast, and its tokens of a
+//! kind. Each is refused with `Memory` alone.
 ghost use Rattle.std.specs.Prelude.{◌≡◌, IfOk, IfErr};
 ghost use Rattle.std.specs.List.{find};
 ghost use Rattle.std.specs.Option.{option_map};
@@ -12,7 +13,7 @@ use crate::api::{Language, SyntaxNode, SyntaxToken};
 use crate::fault::Fault;
 use crate::utility_types::NodeOrToken;
 
-/// The first child that casts. Refused only for want of memory, where the tree cannot be shared once more.
+/// The first child that casts.
 pub fn child<N: AstNode>(parent: &SyntaxNode<N::Language>) -> Result<Option<N>, Fault>
     ensures ok { let casts = casts_at N.Language.meaning N.casts in
         IfOk result (λ found. option_map N.node_of found ≡ find casts (children parent.now)) }
@@ -22,8 +23,7 @@ pub fn child<N: AstNode>(parent: &SyntaxNode<N::Language>) -> Result<Option<N>, 
     casting.next().transpose()
 }
 
-/// The children that cast, in order. An item is `Err(Fault::Memory)` where the tree cannot be shared once more; then the iterator
-/// ends.
+/// The children that cast, in order.
 pub fn children<N: AstNode>(parent: &SyntaxNode<N::Language>) -> AstChildren<N>
     ensures ok { IfOk result (λ nodes. nodes ≡ children parent.now) }
     ensures err { IfErr result (λ e. e ≡ Fault.Memory) }
@@ -31,7 +31,7 @@ pub fn children<N: AstNode>(parent: &SyntaxNode<N::Language>) -> AstChildren<N>
     AstChildren::new(parent)
 }
 
-/// The first child that is a token of a kind. Refused only for want of memory, where the tree cannot be shared once more.
+/// The first child that is a token of a kind.
 pub fn token<L: Language>(
     parent: &SyntaxNode<L>,
     kind: L::Kind,

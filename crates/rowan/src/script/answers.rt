@@ -9,6 +9,7 @@ use rowan_cursor::cursor::SyntaxNode;
 pub struct Session {
     /// The outcome of each call.
     pub outcomes: Vec<Outcome>,
-    /// The root of the tree and the report of each step; or why there is no tree, or no memory for these.
+    /// The root of the tree and the report of each step; or why there is no tree, or no memory for
+    /// these.
     pub end: Result<(SyntaxNode, Vec<Report>), Fault>,
 }

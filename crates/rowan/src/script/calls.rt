@@ -10,16 +10,17 @@ pub enum Call {
     Token(SyntaxKind, String),
     /// Opens a node.
     StartNode(SyntaxKind),
-    /// Closes the innermost open node. Refused with `NothingOpen` where none is open, and with `TooManyChildren` or
-    /// `TextTooLong` where the node would pass a limit.
+    /// Closes the innermost open node. Refused with `NothingOpen` where none is open, and with
+    /// `TooManyChildren` or `TextTooLong` where the node would pass a limit.
     FinishNode,
     /// Takes a checkpoint, which is the next mark. Never refused.
     Mark,
-    /// Opens a node at a mark of the script, which are numbered from 0. Refused with `UnknownMark` where the mark was not taken
-    /// yet, and else as `StartNodeAtCheckpoint`.
+    /// Opens a node at a mark of the script, which are numbered from 0. Refused with `UnknownMark`
+    /// where the mark was not taken yet, and else as `StartNodeAtCheckpoint`.
     StartNodeAt(usize, SyntaxKind),
-    /// Opens a node at a checkpoint from anywhere. Refused with `CheckpointPast` where the builder holds fewer finished elements
-    /// than the checkpoint says, and with `CheckpointBefore` where the innermost open node was opened behind it.
+    /// Opens a node at a checkpoint from anywhere. Refused with `CheckpointPast` where the builder
+    /// holds fewer finished elements than the checkpoint says, and with `CheckpointBefore` where
+    /// the innermost open node was opened behind it.
     StartNodeAtCheckpoint(Checkpoint, SyntaxKind),
 }
 

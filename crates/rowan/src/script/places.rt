@@ -6,8 +6,9 @@ use crate::fault::Fault;
 use rowan_cursor::cursor::{SyntaxElement, SyntaxNode};
 use rowan_green::utility_types::NodeOrToken;
 
-/// The element that is reached from a node by these places, each among all children of the element before; the node itself
-/// where there are none. `None` where a place is not there. Refused only for want of memory.
+/// The element that is reached from a node by these places, each among all children of the element
+/// before; the node itself where there are none. `None` where a place is not there. Refused only
+/// for want of memory.
 pub fn element_at(node: &SyntaxNode, path: &[usize]) -> Result<Option<SyntaxElement>, Fault>
     ensures ok { IfOk result (λ found. found ≡ element_below node.now path.now) }
     ensures err { IfErr result (λ e. e ≡ Fault.Memory) }

@@ -16,11 +16,13 @@ use crate::script::traces::trace;
 use rowan_cursor::cursor::SyntaxNode;
 use std::alloc::Global;
 
-/// Makes the calls on a builder, as `replay` does, finishes its tree, and makes the steps from the root of that, as `trace` does.
-/// The builder is spent in any case: a cache that was lent goes back, with what the calls left in it.
+/// Makes the calls on a builder, as `replay` does, finishes its tree, and makes the steps from the
+/// root of that, as `trace` does. The builder is spent in any case: a cache that was lent goes
+/// back, with what the calls left in it.
 ///
-/// Refused with `Memory` where `replay` is, and then no call was made. All else that is refused stands in the session: what the
-/// calls and the steps were refused, and that there is no tree or no memory for its cursor and the reports.
+/// Refused with `Memory` where `replay` is, and then no call was made. All else that is refused
+/// stands in the session: what the calls and the steps were refused, and that there is no tree or
+/// no memory for its cursor and the reports.
 pub fn session<H: CacheHome>(
     alloc: Global,
     builder: GreenNodeBuilder<'_, H>,
@@ -32,7 +34,7 @@ pub fn session<H: CacheHome>(
     ensures err { IfErr result (λ e. e ≡ Fault.Memory) }
     ensures unchanged { OnErr result (H.receives builder.exit.0.now (cache_of builder.entry)) }
 {
-    builder.run(|builder| play(alloc, builder, calls, steps))
+    builder.with(|builder| play(alloc, builder, calls, steps))
 }
 
 // Makes the calls, and then the steps from the root of the tree that the builder then has.

@@ -4,7 +4,8 @@ use crate::green::{GreenNode, GreenToken};
 use crate::text::{TextRange, TextSize};
 use rowan_cursor::cursor::{SyntaxElement, SyntaxNode, SyntaxToken};
 
-/// A call of a cursor, as a value. Offsets and ranges are counted from the start of the tree's text, in bytes.
+/// A call of a cursor, as a value. Offsets and ranges are counted from the start of the tree's
+/// text, in bytes.
 #[derive(PartialEq, Eq, Debug, Drop)]
 pub enum Step {
     /// To the parent. A root has none.
@@ -39,12 +40,15 @@ pub enum Step {
     ChildAtRange(TextRange),
     /// To the element that covers a range, from a node that has the range.
     Covering(TextRange),
-    /// To the token at an offset, of two the left one, from a node whose range has the offset or ends there.
+    /// To the token at an offset, of two the left one, from a node whose range has the offset or
+    /// ends there.
     LeftTokenAt(TextSize),
-    /// To the token at an offset, of two the right one, from a node whose range has the offset or ends there.
+    /// To the token at an offset, of two the right one, from a node whose range has the offset or
+    /// ends there.
     RightTokenAt(TextSize),
-    /// Puts a green node in the place of a node, and goes to the root of the new tree. Refused with `OtherKind` where the two are
-    /// of different kinds, and with `TextTooLong` where the new tree would have more than 4,294,967,295 bytes.
+    /// Puts a green node in the place of a node, and goes to the root of the new tree. Refused with
+    /// `OtherKind` where the two are of different kinds, and with `TextTooLong` where the new tree
+    /// would have more than 4,294,967,295 bytes.
     ReplaceNode(GreenNode),
     /// Puts a green token in the place of a token, and is refused as `ReplaceNode` is.
     ReplaceToken(GreenToken),
@@ -55,8 +59,8 @@ pub enum Step {
 pub enum Report {
     /// The element to which the step led.
     Moved(SyntaxElement),
-    /// The step led nowhere: its call found nothing; or it was not made, since a node or a token has no such call, or since the
-    /// step's offset or range does not lie in the node's.
+    /// The step led nowhere: its call found nothing; or it was not made, since a node or a token
+    /// has no such call, or since the step's offset or range does not lie in the node's.
     Nowhere,
     /// The root of the new tree. The tree before is as it was, and so are its cursors.
     Replaced(SyntaxNode),

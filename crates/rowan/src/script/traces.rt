@@ -1,5 +1,6 @@
 //! Traces of steps through a tree.
-ghost use Rattle.std.specs.Prelude.{◌≡◌, Ok, Some, None, IfOk, IfErr, OnErr, IsSome, IsSomeAnd, slice_get};
+ghost use Rattle.std.specs.Prelude.{◌≡◌, Ok, Some, None, IfOk, IfErr, OnErr, IsSome, IsSomeAnd};
+ghost use Rattle.std.specs.Prelude.{slice_get};
 ghost use Rattle.std.specs.List.{last_or};
 ghost use Rattle.rowan_green.specs.declared.utility_types.NodeOrToken.TheVariants.{Node, Token};
 ghost use Rattle.rowan_green.specs.Span.{Holds};
@@ -17,18 +18,20 @@ use crate::utility_types::NodeOrToken;
 use rowan_cursor::cursor::{ElementCalls, SyntaxElement, SyntaxNode, SyntaxToken};
 use std::alloc::{AllocError, Global};
 
-/// Makes the steps from a node, in order, and gives the report of each. A step makes the call of its name on the element where
-/// the steps before it led: where the latest report moved, or at the root of the latest new tree. A step that leads nowhere, or
-/// is refused, ends nothing: the next step starts from the same element.
+/// Makes the steps from a node, in order, and gives the report of each. A step makes the call of
+/// its name on the element where the steps before it led: where the latest report moved, or at the
+/// root of the latest new tree. A step that leads nowhere, or is refused, ends nothing: the next
+/// step starts from the same element.
 ///
-/// The room for the reports is asked for first. Where there is none, the answer is `Memory` and no step was made. It is not
-/// refused for another cause.
+/// The room for the reports is asked for first. Where there is none, the answer is `Memory` and no
+/// step was made. It is not refused for another cause.
 ///
 /// ```rust
 /// // `root` is the root of `f(x)`: a token `f`, and a node with the tokens `(`, `x` and `)`
 /// let steps = [Step::FirstToken, Step::NextToken, Step::Parent, Step::FirstChild];
 /// let reports = trace(alloc, &root, steps.as_slice())?;
-/// // The reports are `Moved` to `f`, to `(` and to the node, and `Nowhere`, since no child of that is a node.
+/// // The reports are `Moved` to `f`, to `(` and to the node, and `Nowhere`, since no child of that
+/// // is a node.
 /// ```
 pub fn trace(alloc: Global, start: &SyntaxNode, steps: &[Step]) -> Result<Vec<Report>, Fault>
     ensures ok { IfOk result (λ reports. Trace (Node start.now) steps.now reports.items) }
@@ -43,7 +46,8 @@ pub fn trace(alloc: Global, start: &SyntaxNode, steps: &[Step]) -> Result<Vec<Re
     Ok(reports)
 }
 
-// Makes a step, and leaves `here` where it led. A step is refused, too, where the cursor cannot be shared once more.
+// Makes a step, and leaves `here` where it led. A step is refused, too, where the cursor cannot be
+// shared once more.
 fn make_step(alloc: Global, here: &mut SyntaxElement, step: &Step) -> Report
     ensures report { IsReport here.old step.now result }
     ensures led { here.new ≡ element_after here.old result }
@@ -92,10 +96,10 @@ fn step_from_node(alloc: Global, node: &SyntaxNode, step: &Step) -> Report
         Step::FirstToken => Report::from(node.first_token()),
         Step::LastToken => Report::from(node.last_token()),
         Step::ChildAtRange(range) => Report::from(node.child_or_token_at_range(*range)),
-        Step::Covering(range) => Report::from(covering(node, *range)),
+        Step::Covering(range) => Report::from(covering_element(node, *range)),
         Step::LeftTokenAt(offset) => Report::from(left_token_at(node, *offset)),
         Step::RightTokenAt(offset) => Report::from(right_token_at(node, *offset)),
-        Step::ReplaceNode(new) => replaced(replace_node(alloc, node, new)),
+        Step::ReplaceNode(new) => replacement_report(replace_node(alloc, node, new)),
         Step::NextToken | Step::PrevToken | Step::ReplaceToken(_) => Report::Nowhere,
     }
 }
@@ -113,7 +117,7 @@ fn step_from_token(alloc: Global, token: &SyntaxToken, step: &Step) -> Report
         Step::LastToken => Report::from(last_token(token)),
         Step::NextToken => Report::from(token.next_token()),
         Step::PrevToken => Report::from(token.prev_token()),
-        Step::ReplaceToken(new) => replaced(replace_token(alloc, token, new)),
+        Step::ReplaceToken(new) => replacement_report(replace_token(alloc, token, new)),
         _ => Report::Nowhere,
     }
 }
@@ -135,7 +139,7 @@ fn last_token(token: &SyntaxToken) -> Result<Option<SyntaxToken>, Fault>
 }
 
 // The element that covers a range, where the range lies in the node's.
-fn covering(node: &SyntaxNode, range: TextRange) -> Result<Option<SyntaxElement>, Fault>
+fn covering_element(node: &SyntaxNode, range: TextRange) -> Result<Option<SyntaxElement>, Fault>
     ensures covered { LiesIn range (text_range node.now)
         → IfOk result (λ found. IsSomeAnd found (IsCovering range node.now)) }
     ensures outside { ¬ LiesIn range (text_range node.now) → result ≡ Ok None }
@@ -198,7 +202,7 @@ fn replace_token(alloc: Global, token: &SyntaxToken, new: &GreenToken) -> Result
 }
 
 // The report of a replacement.
-fn replaced(root: Result<SyntaxNode, Fault>) -> Report
+fn replacement_report(root: Result<SyntaxNode, Fault>) -> Report
     ensures ok { IfOk root (λ root. result ≡ Report.Replaced root) }
     ensures err { IfErr root (λ e. result ≡ Report.Refused e) }
 {

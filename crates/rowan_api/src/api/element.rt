@@ -1,7 +1,9 @@
 ghost use Rattle.std.specs.Prelude.{◌≡◌, IfOk, IfErr, Some};
 ghost use Rattle.std.specs.Option.{option_map};
 ghost use Rattle.rowan_cursor.specs.Cursor.{index, kind, text_range};
-ghost use Rattle.rowan_cursor.specs.Moves.{Element, place_of, tree_top, parent, next_sibling_or_token, prev_sibling_or_token, element_ancestors};
+ghost use Rattle.rowan_cursor.specs.Moves.{Element, place_of, tree_top, parent};
+ghost use Rattle.rowan_cursor.specs.Moves.{next_sibling_or_token, prev_sibling_or_token};
+ghost use Rattle.rowan_cursor.specs.Moves.{element_ancestors};
 
 use crate::api::{Ancestors, Language, SyntaxNode, SyntaxToken};
 use rowan_cursor::cursor;
@@ -13,7 +15,7 @@ use rowan_green::utility_types::NodeOrToken;
 pub type SyntaxElement<L> = NodeOrToken<SyntaxNode<L>, SyntaxToken<L>>;
 
 // The raw element, with the kinds of a language.
-pub(super) fn typed<L>(raw: cursor::SyntaxElement) -> SyntaxElement<L>
+pub(super) fn give_kinds<L>(raw: cursor::SyntaxElement) -> SyntaxElement<L>
     ensures { result ≡ raw }
 {
     match raw {
@@ -23,17 +25,17 @@ pub(super) fn typed<L>(raw: cursor::SyntaxElement) -> SyntaxElement<L>
 }
 
 // The element that a move of the raw cursor found, if it found one.
-pub(super) fn found<L>(raw: Option<cursor::SyntaxElement>) -> Option<SyntaxElement<L>>
+pub(super) fn from_answer<L>(raw: Option<cursor::SyntaxElement>) -> Option<SyntaxElement<L>>
     ensures { result ≡ raw }
 {
     match raw {
-        Some(raw) => Some(typed(raw)),
+        Some(raw) => Some(give_kinds(raw)),
         None => None,
     }
 }
 
-/// The calls of a [`SyntaxElement`]. It is a trait since the type of elements is that of another crate. A move is refused only
-/// where the tree cannot be shared once more, since its reference count is full; then the answer is `Err(Fault::Memory)`.
+/// The calls of a [`SyntaxElement`]. It is a trait since the type of elements is that of another
+/// crate. A move is refused as that of a [`SyntaxNode`] is.
 pub trait TypedElementCalls<L: Language> {
     ghost element: { Self → Element };
 
@@ -58,33 +60,28 @@ pub trait TypedElementCalls<L: Language> {
         ensures { option_map L.meaning (kind (place_of (element self.now))) ≡ Some result };
 
     /// The parent, or `None` of a root.
-    /// `Err(Fault::Memory)` where the tree cannot be shared once more.
     fn parent(&self) -> Result<Option<SyntaxNode<L>>, Fault>
         ensures ok { IfOk result (λ found. found ≡ parent (place_of (element self.now))) }
         ensures err { IfErr result (λ e. e ≡ Fault.Memory) };
 
     /// The root of the tree.
-    /// `Err(Fault::Memory)` where the tree cannot be shared once more.
     fn tree_top(&self) -> Result<SyntaxNode<L>, Fault>
         ensures ok { IfOk result (λ n. n ≡ tree_top (place_of (element self.now))) }
         ensures err { IfErr result (λ e. e ≡ Fault.Memory) };
 
     /// The next sibling.
-    /// `Err(Fault::Memory)` where the tree cannot be shared once more.
     fn next_sibling_or_token(&self) -> Result<Option<SyntaxElement<L>>, Fault>
         ensures ok { IfOk result (λ found.
             found ≡ next_sibling_or_token (place_of (element self.now))) }
         ensures err { IfErr result (λ e. e ≡ Fault.Memory) };
 
     /// The sibling before this one.
-    /// `Err(Fault::Memory)` where the tree cannot be shared once more.
     fn prev_sibling_or_token(&self) -> Result<Option<SyntaxElement<L>>, Fault>
         ensures ok { IfOk result (λ found.
             found ≡ prev_sibling_or_token (place_of (element self.now))) }
         ensures err { IfErr result (λ e. e ≡ Fault.Memory) };
 
     /// A node and the nodes above it, up to the root; of a token the nodes above it.
-    /// An item is `Err(Fault::Memory)` where the tree cannot be shared once more; then the iterator ends.
     fn ancestors(&self) -> Ancestors<L>
         ensures ok { IfOk result (λ list. list ≡ element_ancestors (element self.now)) }
         ensures err { IfErr result (λ e. e ≡ Fault.Memory) };
@@ -94,7 +91,7 @@ impl<L: Language> TypedElementCalls<L> for SyntaxElement<L> {
     ghost element = { λ e. e };
 
     fn from_raw(raw: cursor::SyntaxElement) -> SyntaxElement<L> {
-        typed(raw)
+        give_kinds(raw)
     }
 
     fn into_raw(self) -> cursor::SyntaxElement {

@@ -5,8 +5,9 @@ ghost use Rattle.json.specs.Print.{print};
 ghost use Rattle.serde_json.specs.Written.{compact_text};
 ghost use Rattle.rowan_green.specs.Term.{node_len};
 ghost use Rattle.rowan_api.specs.Opened.{open_size, IsWithin};
-ghost use Rattle.rowan_api.specs.Printed.{called, extent, node_json, token_object, tree_json};
-ghost use Rattle.rowan_api.specs.Spelled.{Spells, SpellsUpTo, begun, ended, kind_tokens, range_tokens, value_tokens, open_tokens};
+ghost use Rattle.rowan_api.specs.Printed.{raw_name, extent, node_json, token_object, tree_json};
+ghost use Rattle.rowan_api.specs.Spelled.{Spells, SpellsUpTo, begin_tokens, end_tokens};
+ghost use Rattle.rowan_api.specs.Spelled.{kind_tokens, range_tokens, value_tokens, open_tokens};
 
 use crate::api::language::Language;
 use crate::api::open_node::OpenNode;
@@ -25,7 +26,7 @@ pub(super) fn tree_text<L: Language>(
 ) -> Result<String, AllocError>
     requires { range ≡ extent range.start (node_len root.now) }
     ensures { IfOk result (λ s. string_bytes s
-        ≡ compact_text (node_json (called L.name L.meaning) range.start root.now)) }
+        ≡ compact_text (node_json (raw_name L.name L.meaning) range.start root.now)) }
 {
     let len = u32::from(range.len());
     let mut out = Writer::new(Vec::with_capacity(alloc, len as usize)?);
@@ -40,15 +41,16 @@ pub(super) fn tree_text<L: Language>(
     Ok(text_of(out))
 }
 
-// Writes the value of the next child of a node, of a node up to those of its children. The node is open still, and so is then the
-// child, if it is a node. Where no child is left it writes the end of the node, which is open no more.
+// Writes the value of the next child of a node, of a node up to those of its children. The node is
+// open still, and so is then the child, if it is a node. Where no child is left it writes the end
+// of the node, which is open no more.
 fn write_child<'a, L: Language>(
     out: &mut Writer,
     opened: &mut Vec<OpenNode<'a>>,
     parent: &OpenNode<'a>,
 ) -> Result<(), AllocError>
     requires { IsWithin parent.now }
-    ensures tokens { let left = open_tokens (called L.name L.meaning) in
+    ensures tokens { let left = open_tokens (raw_name L.name L.meaning) in
         OnOk result (SpellsUpTo out.old out.new (left (opened.old.items ++ parent.now ∷ []))
         (left opened.new.items)) }
     ensures within { AllByRecursion IsWithin opened.old.items
@@ -82,7 +84,7 @@ pub(super) fn token_text<L: Language>(
     token: &SyntaxToken,
 ) -> Result<String, AllocError>
     ensures { IfOk result (λ s.
-        string_bytes s ≡ compact_text (tree_json (called L.name L.meaning) token.now)) }
+        string_bytes s ≡ compact_text (tree_json (raw_name L.name L.meaning) token.now)) }
 {
     let mut out = Writer::new(Vec::new(alloc));
     write_token::<L>(&mut out, token.green(), token.text_range())?;
@@ -100,7 +102,7 @@ fn text_of(out: Writer) -> String
 
 // What stands before the values of the children of a node.
 fn write_beginning(out: &mut Writer) -> Result<(), AllocError>
-    ensures { OnOk result (Spells out.old out.new begun) }
+    ensures { OnOk result (Spells out.old out.new begin_tokens) }
 {
     out.begin_object()?;
     out.key("children")?;
@@ -114,7 +116,7 @@ fn write_end<L: Language>(
     range: TextRange,
 ) -> Result<(), AllocError>
     ensures { OnOk result
-        (Spells out.old out.new (ended (called L.name L.meaning kind.0) range)) }
+        (Spells out.old out.new (end_tokens (raw_name L.name L.meaning kind.0) range)) }
 {
     out.end_array()?;
     write_kind::<L>(out, kind)?;
@@ -128,7 +130,8 @@ fn write_token<L: Language>(
     range: TextRange,
 ) -> Result<(), AllocError>
     ensures { OnOk result (Spells out.old out.new
-        (value_tokens (token_object (called L.name L.meaning token.now.kind) range token.now.text))) }
+        (value_tokens (token_object
+        (raw_name L.name L.meaning token.now.kind) range token.now.text))) }
 {
     out.begin_object()?;
     write_kind::<L>(out, token.kind())?;

@@ -2,8 +2,8 @@
 ghost use Rattle.std.specs.Prelude.{◌≡◌, map, IfOk, OnOk};
 ghost use Rattle.serde_json.specs.View.{view};
 ghost use Rattle.rowan_cursor.specs.Cursor.{text_range};
-ghost use Rattle.rowan_api.specs.Printed.{called, kind_called, node_object, tree_json};
-ghost use Rattle.rowan_api.specs.Unfinished.{values_of, entered, left};
+ghost use Rattle.rowan_api.specs.Printed.{raw_name, kind_name, node_object, tree_json};
+ghost use Rattle.rowan_api.specs.Unfinished.{values_of, after_enter, after_leave};
 
 use crate::api::language::Language;
 use rowan_cursor::cursor::{SyntaxElement, SyntaxNode, SyntaxToken};
@@ -14,7 +14,7 @@ use std::mem;
 
 // The value of a node and of all that is in it.
 pub(super) fn node_json<L: Language>(alloc: Global, node: &SyntaxNode) -> Result<Value, AllocError>
-    ensures { IfOk result (λ v. view v ≡ tree_json (called L.name L.meaning) node.now) }
+    ensures { IfOk result (λ v. view v ≡ tree_json (raw_name L.name L.meaning) node.now) }
 {
     let mut draft = Draft::new(alloc);
     for event in node.preorder_with_tokens() {
@@ -34,7 +34,7 @@ pub(super) fn token_json<L: Language>(
     alloc: Global,
     token: &SyntaxToken,
 ) -> Result<Value, AllocError>
-    ensures { IfOk result (λ v. view v ≡ tree_json (called L.name L.meaning) token.now) }
+    ensures { IfOk result (λ v. view v ≡ tree_json (raw_name L.name L.meaning) token.now) }
 {
     let green = token.green();
     let kind = L::kind_name(L::kind_from_raw(green.kind()));
@@ -52,7 +52,7 @@ fn node_object<L: Language>(
     children: Vec<Value>,
 ) -> Result<Value, AllocError>
     ensures { IfOk result (λ v. view v
-        ≡ node_object (kind_called (called L.name L.meaning) node.now) (text_range node.now)
+        ≡ node_object (kind_name (raw_name L.name L.meaning) node.now) (text_range node.now)
         (map view children.items)) }
 {
     let kind = L::kind_name(L::kind_from_raw(node.green().kind()));
@@ -63,7 +63,8 @@ fn node_object<L: Language>(
     json!(in alloc; {"children": children, "kind": kind, "text_range": [start, end]})
 }
 
-// The values that are finished: those of the children of the innermost open node, and of the nodes around it, outermost first.
+// The values that are finished: those of the children of the innermost open node, and of the nodes
+// around it, outermost first.
 #[derive(Drop)]
 struct Draft {
     inner: Vec<Value>,
@@ -89,7 +90,7 @@ impl Draft {
         element: &SyntaxElement,
     ) -> Result<(), AllocError>
         ensures { OnOk result (values_of self.new
-            ≡ entered (called L.name L.meaning) element.now (values_of self.old)) }
+            ≡ after_enter (raw_name L.name L.meaning) element.now (values_of self.old)) }
     {
         match element {
             NodeOrToken::Node(_) => {
@@ -109,7 +110,7 @@ impl Draft {
         element: &SyntaxElement,
     ) -> Result<(), AllocError>
         ensures { OnOk result (values_of self.new
-            ≡ left (called L.name L.meaning) element.now (values_of self.old)) }
+            ≡ after_leave (raw_name L.name L.meaning) element.now (values_of self.old)) }
     {
         match element {
             NodeOrToken::Node(node) => {

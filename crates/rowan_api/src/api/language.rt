@@ -4,11 +4,12 @@ use rowan_green::green::SyntaxKind;
 use std::fmt;
 use std::hash::Hash;
 
-/// The kinds of a language: what each raw kind means, and how it is called. None of the calls can be refused.
+/// The kinds of a language: what each raw kind means, and how it is called. None of the calls can
+/// be refused.
 ///
-/// The type that implements it stands for the language; its values say nothing. Every raw kind means a kind, and several may
-/// mean the same one. The two ghost members are what contracts see: `meaning`, the kind of each raw kind, and `name`, the bytes
-/// of each kind's name.
+/// The type that implements it stands for the language; its values say nothing. Every raw kind
+/// means a kind, and several may mean the same one. The two ghost members are what contracts see:
+/// `meaning`, the kind of each raw kind, and `name`, the bytes of each kind's name.
 ///
 /// A language of lists, which have the raw kind 0, and of words, which have all others:
 ///

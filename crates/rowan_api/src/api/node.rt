@@ -3,16 +3,15 @@ mod moves;
 mod search;
 mod walks;
 
-ghost use Rattle.std.specs.Prelude.{◌≡◌, [], IfOk, IfErr, Some, IsAscii, string_bytes};
+ghost use Rattle.std.specs.Prelude.{◌≡◌, [], IfOk, IfErr, Some, string_bytes};
 ghost use Rattle.std.specs.Option.{option_map};
 ghost use Rattle.rowan_green.specs.declared.utility_types.NodeOrToken.TheVariants.{Node};
-ghost use Rattle.rowan_green.specs.Term.{node_text};
 ghost use Rattle.serde_json.specs.View.{view};
 ghost use Rattle.serde_json.specs.Written.{compact_text};
-ghost use Rattle.rowan_cursor.specs.Cursor.{StandsAt, index, kind, text_range, text_at};
+ghost use Rattle.rowan_cursor.specs.Cursor.{StandsAt, index, kind, text_range};
 ghost use Rattle.rowan_cursor.specs.Replacement.{IsReplacement, KeepsTheRest, WhyNoReplacement};
 ghost use Rattle.rowan_cursor.specs.SyntaxText.{whole_text};
-ghost use Rattle.rowan_api.specs.Printed.{called, debug_line, debug_tree, tree_json};
+ghost use Rattle.rowan_api.specs.Printed.{raw_name, tree_json, IsDebugLine, IsDebugTree};
 
 use crate::api::language::Language;
 use crate::api::{json_text, json_value, printed};
@@ -29,10 +28,12 @@ use std::marker::{Model, PhantomData};
 
 /// A node in a tree of a language: a root, and the way from it to the node.
 ///
-/// It is the raw node of `cursor`, and its calls answer as that one's do, with kinds by the language. `From` turns each into the
-/// other. All cursors of one tree share it, and it lives as long as one of them. A move asks for no memory, and is refused only
-/// where the tree cannot be shared once more, since its reference count is full; then the answer is `Err(Fault::Memory)`. Two
-/// nodes are equal if they have equal green nodes and their texts start at the same offset.
+/// It is the raw node of `cursor`, and its calls answer as that one's do, with kinds by the
+/// language. `From` turns each into the other. All cursors of one tree share it, and it lives as
+/// long as one of them. A move asks for no memory, but its answer shares the tree once more. Where
+/// the reference count of the tree is full it is refused, as `Err(Fault::Memory)`; an iterator
+/// gives that as an item, and then ends. Two nodes are equal if they have equal green nodes and
+/// their texts start at the same offset.
 #[derive(Drop)]
 pub struct SyntaxNode<L> {
     raw: cursor::SyntaxNode,
@@ -54,7 +55,7 @@ impl<L> Model for SyntaxNode<L> {
 
 impl<L> SyntaxNode<L> {
     // The node that a move of the raw cursor found, if it found one.
-    pub(super) fn found(raw: Option<cursor::SyntaxNode>) -> Option<SyntaxNode<L>>
+    pub(super) fn from_answer(raw: Option<cursor::SyntaxNode>) -> Option<SyntaxNode<L>>
         ensures { result ≡ raw }
     {
         match raw {
@@ -64,7 +65,8 @@ impl<L> SyntaxNode<L> {
     }
 
     /// The cursor at the root of a green tree. It visits each node and token once.
-    /// `Err(Fault::Memory)` for want of memory, and where the tree has more than 4,294,967,295 nodes and tokens.
+    /// `Err(Fault::Memory)` for want of memory, and where the tree has more than 4,294,967,295
+    /// nodes and tokens.
     pub fn new_root(alloc: Global, green: GreenNode) -> Result<SyntaxNode<L>, Fault>
         ensures ok { IfOk result (λ n. n ≡ record { root = green; path = [] }) }
         ensures err { IfErr result (λ e. e ≡ Fault.Memory) }
@@ -72,8 +74,8 @@ impl<L> SyntaxNode<L> {
         Ok(SyntaxNode::from(cursor::SyntaxNode::new_root(alloc, green)?))
     }
 
-    /// The root of a new tree, which has the green node of this one. It visits each node and token below this one once.
-    /// `Err(Fault::Memory)` for want of memory.
+    /// The root of a new tree, which has the green node of this one. It visits each node and token
+    /// below this one once. `Err(Fault::Memory)` for want of memory.
     pub fn clone_subtree(&self) -> Result<SyntaxNode<L>, Fault>
         ensures ok { IfOk result (λ n. StandsAt self.now n.root) }
         ensures top { IfOk result (λ n. n.path ≡ []) }
@@ -82,13 +84,15 @@ impl<L> SyntaxNode<L> {
         Ok(SyntaxNode::from(self.raw.clone_subtree()?))
     }
 
-    /// The root of a new tree: of the tree of this cursor, with another green node in place of the one at this cursor. For each
-    /// ancestor one new node is made, and all other children are shared. Nothing is changed in place: this tree and all its
-    /// cursors answer as before. For a root it is the replacement itself.
+    /// The root of a new tree: of the tree of this cursor, with another green node in place of the
+    /// one at this cursor. For each ancestor one new node is made, and all other children are
+    /// shared. Nothing is changed in place: this tree and all its cursors answer as before. For a
+    /// root it is the replacement itself.
     ///
-    /// `Err(Fault::OtherKind)` where the replacement has another raw kind, also one that means the same kind of the language;
-    /// this is looked at before all else. `Err(Fault::TextTooLong)` where a node of the new tree would have more than
-    /// 4,294,967,295 bytes of text; `Err(Fault::Memory)` for want of memory.
+    /// `Err(Fault::OtherKind)` where the replacement has another raw kind, also one that means the
+    /// same kind of the language; this is looked at before all else. `Err(Fault::TextTooLong)`
+    /// where a node of the new tree would have more than 4,294,967,295 bytes of text;
+    /// `Err(Fault::Memory)` for want of memory.
     pub fn replace_with(&self, replacement: GreenNode) -> Result<GreenNode, Fault>
         ensures ok { IfOk result (IsReplacement self.now (Node replacement)) }
         ensures rest { IfOk result (KeepsTheRest self.now (Node replacement)) }
@@ -120,7 +124,6 @@ impl<L> SyntaxNode<L> {
     }
 
     /// The text of the node.
-    /// `Err(Fault::Memory)` where the tree cannot be shared once more.
     pub fn text(&self) -> Result<SyntaxText, Fault>
         ensures ok { IfOk result (λ text. text ≡ whole_text self.now) }
         ensures err { IfErr result (λ e. e ≡ Fault.Memory) }
@@ -137,69 +140,69 @@ impl<L: Language> SyntaxNode<L> {
         L::kind_from_raw(self.raw.kind())
     }
 
-    /// The node as a line, `KIND@start..end`: the name of the kind, and the range with offsets in the root.
-    /// `Err(Fault::Memory)` for want of memory.
+    /// The node as a line, `KIND@start..end`: the name of the kind, and the range with offsets in
+    /// the root. `Err(Fault::Memory)` for want of memory.
     pub fn debug_line(&self, alloc: Global) -> Result<String, Fault>
         ensures ok { IfOk result (λ s.
-            string_bytes s ≡ debug_line (called L.name L.meaning) self.now) }
+            IsDebugLine (raw_name L.name L.meaning) self.now (string_bytes s)) }
         ensures err { IfErr result (λ e. e ≡ Fault.Memory) }
     {
         Ok(printed::node_line::<L>(alloc, &self.raw)?)
     }
 
-    /// The node and all that is in it as text, a line for each node and token in the order of the source. A line has two
-    /// spaces for each level below this node, and then what `debug_line` gives of the node or token. `Err(Fault::Memory)` for
-    /// want of memory.
-    ///
-    /// The contract says it of ASCII text. Text past ASCII stands in its quotes as `{:?}` writes it.
+    /// The node and all that is in it as text, a line for each node and token in the order of the
+    /// source. A line has two spaces for each level below this node, what `debug_line` gives of the
+    /// node or token, and a newline. `Err(Fault::Memory)` for want of memory.
     pub fn debug_tree(&self, alloc: Global) -> Result<String, Fault>
-        ensures ok { IsAscii (text_at self.now) → IfOk result (λ s.
-            string_bytes s ≡ debug_tree (called L.name L.meaning) self.now) }
+        ensures ok { IfOk result (λ s.
+            IsDebugTree (raw_name L.name L.meaning) self.now (string_bytes s)) }
         ensures err { IfErr result (λ e. e ≡ Fault.Memory) }
     {
         Ok(printed::tree::<L>(alloc, self.green(), self.text_range())?)
     }
 
-    /// The lines of a tree without a cursor: what `debug_tree` gives of a cursor at its root, and the contract says it of ASCII
-    /// text, too. `Err(Fault::Memory)` for want of memory.
+    /// The lines of a tree without a cursor: what `debug_tree` gives of a cursor at its root.
+    /// `Err(Fault::Memory)` for want of memory.
     pub fn debug_tree_of(alloc: Global, root: &GreenNode) -> Result<String, Fault>
-        ensures ok { IsAscii (node_text root.now) → IfOk result (λ s. string_bytes s
-            ≡ debug_tree (called L.name L.meaning) (record { root = root.now; path = [] })) }
+        ensures ok { IfOk result (λ s. IsDebugTree (raw_name L.name L.meaning)
+            (record { root = root.now; path = [] }) (string_bytes s)) }
         ensures err { IfErr result (λ e. e ≡ Fault.Memory) }
     {
         let range = TextRange::at(TextSize::from(0), root.text_len());
         Ok(printed::tree::<L>(alloc, root, range)?)
     }
 
-    /// The node and all that is in it as JSON. A node is a map of `children`, the list of the values of its children, tokens too;
-    /// `kind`, the name of the kind; and `text_range`, a list of the start and the end, with offsets in the root. A token has
-    /// `text` in place of `children`. `Err(Fault::Memory)` for want of memory.
+    /// The node and all that is in it as JSON. A node is a map of `children`, the list of the
+    /// values of its children, tokens too; `kind`, the name of the kind; and `text_range`, a list
+    /// of the start and the end, with offsets in the root. A token has `text` in place of
+    /// `children`. `Err(Fault::Memory)` for want of memory.
     ///
-    /// It is made by a loop, so a deep tree needs no deep stack; to drop or to print the value of a deep tree does.
+    /// It is made by a loop, so a deep tree needs no deep stack; to drop or to print the value of a
+    /// deep tree does.
     pub fn to_json(&self, alloc: Global) -> Result<Value, Fault>
-        ensures ok { IfOk result (λ v. view v ≡ tree_json (called L.name L.meaning) self.now) }
+        ensures ok { IfOk result (λ v. view v ≡ tree_json (raw_name L.name L.meaning) self.now) }
         ensures err { IfErr result (λ e. e ≡ Fault.Memory) }
     {
         Ok(json_value::node_json::<L>(alloc, &self.raw)?)
     }
 
-    /// The JSON of the node and of all that is in it as text, with no space: the text of the value of `to_json`, which is not
-    /// made for it. `Err(Fault::Memory)` for want of memory.
+    /// The JSON of the node and of all that is in it as text, with no space: the text of the value
+    /// of `to_json`, which is not made for it. `Err(Fault::Memory)` for want of memory.
     ///
     /// It is made by a loop, so a deep tree needs no deep stack.
     pub fn to_json_string(&self, alloc: Global) -> Result<String, Fault>
         ensures ok { IfOk result (λ s.
-            string_bytes s ≡ compact_text (tree_json (called L.name L.meaning) self.now)) }
+            string_bytes s ≡ compact_text (tree_json (raw_name L.name L.meaning) self.now)) }
         ensures err { IfErr result (λ e. e ≡ Fault.Memory) }
     {
         Ok(json_text::tree_text::<L>(alloc, self.green(), self.text_range())?)
     }
 
-    /// The JSON of a tree as text without a cursor: what `to_json_string` gives of a cursor at its root. `Err(Fault::Memory)` for
-    /// want of memory.
+    /// The JSON of a tree as text without a cursor: what `to_json_string` gives of a cursor at its
+    /// root. `Err(Fault::Memory)` for want of memory.
     pub fn to_json_string_of(alloc: Global, root: &GreenNode) -> Result<String, Fault>
         ensures ok { IfOk result (λ s. string_bytes s ≡ compact_text
-            (tree_json (called L.name L.meaning) (record { root = root.now; path = [] }))) }
+            (tree_json (raw_name L.name L.meaning) (record { root = root.now; path = [] }))) }
         ensures err { IfErr result (λ e. e ≡ Fault.Memory) }
     {
         let range = TextRange::at(TextSize::from(0), root.text_len());

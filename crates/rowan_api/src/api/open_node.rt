@@ -3,14 +3,15 @@ ghost use Rattle.std.specs.Prelude.{◌≡◌, ◌+◌, ◌<◌, ◌≤◌, [], 
 ghost use Rattle.rowan_green.specs.Fits.{byte_limit, child_limit};
 ghost use Rattle.rowan_green.specs.Lent.{pointee};
 ghost use Rattle.rowan_green.specs.Term.{node_len, term_len};
-ghost use Rattle.rowan_api.specs.Opened.{left, next_start, HasNext, Passes, IsWithin};
+ghost use Rattle.rowan_api.specs.Opened.{children_left, next_start, HasNext, Passes, IsWithin};
 ghost use Rattle.rowan_api.specs.Printed.{extent};
 
 use rowan_green::green::{GreenElementRef, GreenNode};
 use rowan_green::text::{TextRange, TextSize};
 
-// A node whose children are gone through, where its text starts, and the place of the child that comes next. A list of such nodes
-// leads from a root to where a loop is, since a green node does not know its parent.
+// A node whose children are gone through, where its text starts, and the place of the child that
+// comes next. A list of such nodes leads from a root to where a loop is, since a green node does
+// not know its parent.
 #[derive(Clone, Copy)]
 pub(super) struct OpenNode<'a> {
     green: &'a GreenNode,
@@ -51,7 +52,7 @@ impl<'a> OpenNode<'a> {
         ensures child { IfSome result (λ p. HasNext self.now (pointee p.1)) }
         ensures start { IfSome result (λ p. p.0 ≡ next_start self.now) }
         ensures within { IfSome result (λ p. p.0 + term_len (pointee p.1) ≤ byte_limit) }
-        ensures none { IsNone result → left self.now ≡ [] }
+        ensures none { IsNone result → children_left self.now ≡ [] }
     {
         let Some(found) = self.green.child_ref(self.next) else {
             return None;

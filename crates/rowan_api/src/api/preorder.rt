@@ -7,8 +7,9 @@ use std::alloc::AllocError;
 use std::fmt;
 use std::marker::{Model, PhantomData};
 
-/// A walk through a node and the nodes below it: each is entered before the nodes below it, and left after. Each item shares
-/// the tree once more. Where that is refused for want of memory, the item is `Err(Fault::Memory)`, and then the iterator ends.
+/// A walk through a node and the nodes below it: each is entered before the nodes below it, and
+/// left after. Each item shares the tree once more. Where that is refused for want of memory, the
+/// item is `Err(Fault::Memory)`, and then the iterator ends.
 #[derive(Drop)]
 pub struct Preorder<L> {
     raw: cursor::Preorder,
@@ -41,9 +42,9 @@ impl<L> Preorder<L> {
         }
     }
 
-    /// Drops what is left before the next Leave of a node that was entered. So after an Enter that node's Leave comes next, and
-    /// after a Leave that of the parent. Several calls before one `next` are one. Before the first `next` and at the end nothing
-    /// is dropped.
+    /// Drops what is left before the next Leave of a node that was entered. So after an Enter that
+    /// node's Leave comes next, and after a Leave that of the parent. Several calls before one
+    /// `next` are one. Before the first `next` and at the end nothing is dropped.
     pub fn skip_subtree(&mut self)
         ensures { self.new ≡ skip_rest self.old }
     {

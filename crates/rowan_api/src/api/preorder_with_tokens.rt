@@ -7,9 +7,10 @@ use std::alloc::AllocError;
 use std::fmt;
 use std::marker::{Model, PhantomData};
 
-/// A walk through a node and all that is below it: each element is entered before what is below it, and left after; a token is
-/// entered and left at once. Each item shares the tree once more. Where that is refused for want of memory, the item is
-/// `Err(Fault::Memory)`, and then the iterator ends.
+/// A walk through a node and all that is below it: each element is entered before what is below it,
+/// and left after; a token is entered and left at once. Each item shares the tree once more. Where
+/// that is refused for want of memory, the item is `Err(Fault::Memory)`, and then the iterator
+/// ends.
 #[derive(Drop)]
 pub struct PreorderWithTokens<L> {
     raw: cursor::PreorderWithTokens,
@@ -42,9 +43,9 @@ impl<L> PreorderWithTokens<L> {
         }
     }
 
-    /// Drops what is left before the next Leave of an element that was entered. So after an Enter that element's Leave comes
-    /// next, and after a Leave that of the parent. Several calls before one `next` are one. Before the first `next` and at the
-    /// end nothing is dropped.
+    /// Drops what is left before the next Leave of an element that was entered. So after an Enter
+    /// that element's Leave comes next, and after a Leave that of the parent. Several calls before
+    /// one `next` are one. Before the first `next` and at the end nothing is dropped.
     pub fn skip_subtree(&mut self)
         ensures { self.new ≡ skip_rest self.old }
     {
@@ -64,8 +65,12 @@ impl<L> Iterator for PreorderWithTokens<L> {
 
     fn next(&mut self) -> Option<Result<WalkEvent<SyntaxElement<L>>, Fault>> {
         match self.raw.next()? {
-            Ok(WalkEvent::Enter(element)) => Some(Ok(WalkEvent::Enter(element::typed(element)))),
-            Ok(WalkEvent::Leave(element)) => Some(Ok(WalkEvent::Leave(element::typed(element)))),
+            Ok(WalkEvent::Enter(element)) => Some(Ok(WalkEvent::Enter(element::give_kinds(
+                element,
+            )))),
+            Ok(WalkEvent::Leave(element)) => Some(Ok(WalkEvent::Leave(element::give_kinds(
+                element,
+            )))),
             Err(fault) => Some(Err(fault)),
         }
     }

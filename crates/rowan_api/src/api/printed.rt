@@ -1,13 +1,15 @@
 //! Nodes and tokens as text: a line for each.
-ghost use Rattle.std.specs.Prelude.{◌≡◌, [], ◌∷◌, ◌++◌, ◌+◌, ◌*◌, codes, decimal, drop, length, replicate, string_bytes, IsAscii, IsTrue, IfOk, OnOk, ◌<◌, ◌≤◌};
-ghost use Rattle.std.specs.List.{flat_map, list_all, AllByRecursion};
+ghost use Rattle.std.specs.Prelude.{◌≡◌, [], ◌∷◌, ◌++◌, ◌+◌, ◌*◌, ◌<◌, ◌≤◌, ℕ, List};
+ghost use Rattle.std.specs.Prelude.{codes, chars, decimal, drop, length, replicate, string_bytes};
+ghost use Rattle.std.specs.Prelude.{IsAscii, IsTrue, IfOk, OnOk};
+ghost use Rattle.std.specs.List.{list_all, AllByRecursion};
 ghost use Rattle.std.specs.Char.{is_ascii};
-ghost use Rattle.std.specs.Fmt.{debug_escape};
 ghost use Rattle.rowan_green.specs.Fits.{byte_limit};
-ghost use Rattle.rowan_green.specs.Term.{node_len, node_text, token_len};
-ghost use Rattle.rowan_cursor.specs.Cursor.{text_at};
-ghost use Rattle.rowan_api.specs.Opened.{open_lines, open_size, IsPlain, IsWithin};
-ghost use Rattle.rowan_api.specs.Printed.{called, beginning, shown, quoted, is_plain, extent, headline, node_line, token_line, node_lines, debug_line};
+ghost use Rattle.rowan_green.specs.Term.{node_len, token_len};
+ghost use Rattle.rowan_api.specs.Opened.{open_size, Completes, IsWithin};
+ghost use Rattle.rowan_api.specs.Printed.{raw_name, front_of, is_plain, extent};
+ghost use Rattle.rowan_api.specs.Printed.{headline, node_line, Adds, IsEscape, AreEscapes};
+ghost use Rattle.rowan_api.specs.Printed.{IsTextLine, IsTokenLine, AreNodeLines, IsDebugLine};
 
 use crate::api::language::Language;
 use crate::api::open_node::OpenNode;
@@ -18,10 +20,15 @@ use rowan_green::text::{TextRange, TextSize};
 use rowan_green::utility_types::NodeOrToken;
 use std::alloc::{AllocError, Global};
 
-// Two spaces for each of the levels that one push indents.
-const INDENT: &str = "                                                                ";
+// The spaces for a level.
+const INDENT: usize = 2;
 
+// The levels that one push indents, their spaces, and these behind a newline.
 const LEVELS: usize = 32;
+
+const SPACES: &str = "                                                                ";
+
+const NEW_LINE: &str = "\n                                                                ";
 
 // A text of at least so many bytes is cut, at the first border from `CUT` on.
 const LONG: usize = 25;
@@ -38,8 +45,8 @@ pub(super) fn tree<L: Language>(
     range: TextRange,
 ) -> Result<String, AllocError>
     requires { range ≡ extent range.start (node_len root.now) }
-    ensures { IsAscii (node_text root.now) → IfOk result (λ s.
-        string_bytes s ≡ node_lines (called L.name L.meaning) range.start 0 root.now) }
+    ensures { IfOk result (λ s.
+        AreNodeLines (raw_name L.name L.meaning) range.start 0 root.now (string_bytes s)) }
 {
     let start = range.start();
     let mut text = String::new(alloc);
@@ -51,22 +58,22 @@ pub(super) fn tree<L: Language>(
     while let Some(parent) = opened.pop() {
         push_child::<L>(&mut text, &mut opened, &parent)?;
     }
+    text.push_str("\n")?;
     Ok(text)
 }
 
-// Writes the line of the next child of a node. The node is open still, and so is then the child, if it is a node. Where no child
-// is left, the node is open no more.
+// Ends the last line, and writes that of the next child of a node. The node is open still, and so
+// is then the child, if it is a node. Where no child is left, nothing is written, and the node is
+// open no more.
 fn push_child<'a, L: Language>(
     text: &mut String,
     opened: &mut Vec<OpenNode<'a>>,
     parent: &OpenNode<'a>,
 ) -> Result<(), AllocError>
     requires { IsWithin parent.now }
-    ensures lines { let lines = open_lines (called L.name L.meaning) 1 in
-        IsPlain parent.now → OnOk result (string_bytes text.new ++ lines opened.new.items
-        ≡ string_bytes text.old ++ lines (opened.old.items ++ parent.now ∷ [])) }
-    ensures plain { AllByRecursion IsPlain (opened.old.items ++ parent.now ∷ [])
-        → OnOk result (AllByRecursion IsPlain opened.new.items) }
+    ensures lines { let completes = Completes (raw_name L.name L.meaning) in
+        (whole : List ℕ) → OnOk result (completes (string_bytes text.new) opened.new.items whole
+        → completes (string_bytes text.old) (opened.old.items ++ parent.now ∷ []) whole) }
     ensures within { AllByRecursion IsWithin opened.old.items
         → OnOk result (AllByRecursion IsWithin opened.new.items) }
     ensures smaller { OnOk result
@@ -79,7 +86,7 @@ fn push_child<'a, L: Language>(
     if opened.push(parent.past_child()).is_err() {
         return Err(AllocError);
     }
-    push_indent(text, opened.len())?;
+    push_new_line(text, opened.len())?;
     match child {
         NodeOrToken::Node(node) => {
             if opened.push(OpenNode::new(node, start)).is_err() {
@@ -91,17 +98,17 @@ fn push_child<'a, L: Language>(
     }
 }
 
-// The line of a node whose text starts at an offset, and its newline.
+// The line of a node whose text starts at an offset.
 fn push_node<L: Language>(
     text: &mut String,
     node: &GreenNode,
     start: TextSize,
 ) -> Result<(), AllocError>
     requires { start + node_len node.now ≤ byte_limit }
-    ensures { OnOk result (string_bytes text.new ≡ string_bytes text.old
-        ++ node_line (called L.name L.meaning) start node.now ++ codes "\n") }
+    ensures { OnOk result (string_bytes text.new
+        ≡ string_bytes text.old ++ node_line (raw_name L.name L.meaning) start node.now) }
 {
-    let mut room = *b"@4294967295..4294967295\n";
+    let mut room = *b"@4294967295..4294967295";
     push_headline::<L>(
         text,
         node.kind(),
@@ -110,23 +117,24 @@ fn push_node<L: Language>(
     )
 }
 
-// The line of a token whose text starts at an offset, and its newline.
+// The line of a token whose text starts at an offset.
 fn push_token<L: Language>(
     text: &mut String,
     token: &GreenToken,
     start: TextSize,
 ) -> Result<(), AllocError>
     requires { start + token_len token.now ≤ byte_limit }
-    ensures { IsAscii token.now.text → OnOk result (string_bytes text.new ≡ string_bytes text.old
-        ++ token_line (called L.name L.meaning) start token.now ++ codes "\n") }
+    ensures { OnOk result (Adds (IsTokenLine (raw_name L.name L.meaning) start token.now)
+        (string_bytes text.old) (string_bytes text.new)) }
 {
     let range = TextRange::at(start, token.text_len());
-    push_token_line::<L>(text, token.kind(), range, token.text())
+    push_text_line::<L>(text, token.kind(), range, token.text())
 }
 
 // The line of a node.
 pub(super) fn node_line<L: Language>(alloc: Global, node: &SyntaxNode) -> Result<String, AllocError>
-    ensures { IfOk result (λ s. string_bytes s ≡ debug_line (called L.name L.meaning) node.now) }
+    ensures { IfOk result (λ s.
+        IsDebugLine (raw_name L.name L.meaning) node.now (string_bytes s)) }
 {
     let mut line = String::new(alloc);
     let mut room = *b"@4294967295..4294967295";
@@ -139,18 +147,17 @@ pub(super) fn token_line<L: Language>(
     alloc: Global,
     token: &SyntaxToken,
 ) -> Result<String, AllocError>
-    ensures { IsAscii (text_at token.now) →
-        IfOk result (λ s. string_bytes s ≡ debug_line (called L.name L.meaning) token.now) }
+    ensures { IfOk result (λ s.
+        IsDebugLine (raw_name L.name L.meaning) token.now (string_bytes s)) }
 {
     let mut line = String::new(alloc);
     let green = token.green();
-    push_token_line::<L>(&mut line, green.kind(), token.text_range(), green.text())?;
-    line.pop();
+    push_text_line::<L>(&mut line, green.kind(), token.text_range(), green.text())?;
     Ok(line)
 }
 
-// The name of the kind, the range, and what stands in the room behind that of a range. All but the name is one piece, since a piece
-// costs more than its bytes.
+// The name of the kind, the range, and what stands in the room behind that of a range. All but the
+// name is one piece, since a piece costs more than its bytes.
 fn push_headline<L: Language>(
     text: &mut String,
     kind: SyntaxKind,
@@ -174,7 +181,8 @@ fn place_range(room: &mut [u8], range: TextRange) -> usize
     ensures within { result ≤ length room.new }
     ensures written { drop result room.new ≡ codes "@" ++ (decimal range.start
         ++ (codes ".." ++ (decimal range.end ++ drop RANGE room.old))) }
-    ensures ascii { IsTrue (list_all is_ascii (drop RANGE room.old)) → IsAscii (drop result room.new) }
+    ensures ascii { IsTrue (list_all is_ascii (drop RANGE room.old))
+        → IsAscii (drop result room.new) }
 {
     let end = write_digits(u64::from(u32::from(range.end())), room, RANGE);
     room[end - 1] = b'.';
@@ -184,71 +192,87 @@ fn place_range(room: &mut [u8], range: TextRange) -> usize
     start - 1
 }
 
-fn push_indent(text: &mut String, level: usize) -> Result<(), AllocError>
+// A newline, and the spaces of a level.
+fn push_new_line(text: &mut String, level: usize) -> Result<(), AllocError>
     ensures { OnOk result (string_bytes text.new
-        ≡ string_bytes text.old ++ replicate (2 * level) 32) }
+        ≡ string_bytes text.old ++ codes "\n" ++ replicate (2 * level) 32) }
 {
+    let (start, _) = NEW_LINE.split_at(1 + INDENT * (level % LEVELS));
+    text.push_str(start)?;
     for _ in 0..level / LEVELS {
-        text.push_str(INDENT)?;
+        text.push_str(SPACES)?;
     }
-    let (indent, _) = INDENT.split_at(2 * (level % LEVELS));
-    text.push_str(indent)
+    Ok(())
 }
 
-// The line of a token with a text, and its newline. The text is in quotes, where a long one is cut and ends in points.
-fn push_token_line<L: Language>(
+// The headline, and the text in quotes, where a long one is cut and ends in points.
+fn push_text_line<L: Language>(
     text: &mut String,
     kind: SyntaxKind,
     range: TextRange,
     all: &str,
 ) -> Result<(), AllocError>
-    ensures { IsAscii all.now → OnOk result (string_bytes text.new ≡ string_bytes text.old
-        ++ (headline (L.name (L.meaning kind.0)) range ++ codes " " ++ quoted (shown all.now))
-        ++ codes "\n") }
+    ensures { OnOk result (Adds (IsTextLine (L.name (L.meaning kind.0)) range all.now)
+        (string_bytes text.old) (string_bytes text.new)) }
 {
+    let mut room = *b"@4294967295..4294967295 \"";
+    push_headline::<L>(text, kind, range, &mut room)?;
     if all.len() < LONG {
-        push_opened::<L>(text, kind, range, all)?;
-        text.push_str("\"\n")
+        push_escapes(text, all)?;
+        text.push_str("\"")
     } else {
-        push_opened::<L>(text, kind, range, beginning(all))?;
-        text.push_str(" ...\"\n")
+        push_escapes(text, front_of(all))?;
+        text.push_str(" ...\"")
     }
 }
 
 // The part before the first border of characters from `CUT` on.
-fn beginning(text: &str) -> &str
+fn front_of(text: &str) -> &str
     requires { CUT ≤ length text.now }
-    ensures { result.now ≡ beginning text.now }
+    ensures { result.now ≡ front_of text.now }
 {
-    let (beginning, _) = text.split_at(text.ceil_char_boundary(CUT));
-    beginning
+    let (front, _) = text.split_at(text.ceil_char_boundary(CUT));
+    front
 }
 
-// The headline, and the text behind a quote, and no quote after it.
-fn push_opened<L: Language>(
-    text: &mut String,
-    kind: SyntaxKind,
-    range: TextRange,
-    shown: &str,
-) -> Result<(), AllocError>
-    ensures { IsAscii shown.now → OnOk result (string_bytes text.new ≡ string_bytes text.old
-        ++ headline (L.name (L.meaning kind.0)) range ++ codes " \"" ++ flat_map (debug_escape 34) shown.now) }
+// A text as it stands in quotes.
+fn push_escapes(text: &mut String, part: &str) -> Result<(), AllocError>
+    ensures { OnOk result (Adds (AreEscapes (chars part.now))
+        (string_bytes text.old) (string_bytes text.new)) }
 {
-    if is_plain(shown) {
-        let mut room = *b"@4294967295..4294967295 \"";
-        push_headline::<L>(text, kind, range, &mut room)?;
-        return text.push_str(shown);
+    if is_all_plain(part) {
+        return text.push_str(part);
     }
-    let mut room = *b"@4294967295..4294967295 ";
-    push_headline::<L>(text, kind, range, &mut room)?;
-    write!(text, "{shown:?}")?;
-    text.pop();
+    for character in part.chars() {
+        push_escape(text, character)?;
+    }
     Ok(())
 }
 
-// Whether each byte stands for itself between quotes.
-fn is_plain(text: &str) -> bool
+// A character as it stands in quotes.
+fn push_escape(text: &mut String, character: char) -> Result<(), AllocError>
+    ensures { OnOk result (Adds (IsEscape character)
+        (string_bytes text.old) (string_bytes text.new)) }
+{
+    if is_plain(character) {
+        return text.push(character);
+    }
+    for escaped in character.escape_debug() {
+        text.push(escaped)?;
+    }
+    Ok(())
+}
+
+// Whether each character stands for itself in quotes.
+fn is_all_plain(text: &str) -> bool
     ensures { result ≡ list_all is_plain text.now }
 {
-    text.bytes().all(|byte| (b' '..=b'~').contains(&byte) && byte != b'"' && byte != b'\\')
+    text.bytes().all(|byte| is_plain(char::from(byte)))
+}
+
+// Whether a character stands for itself in quotes.
+fn is_plain(character: char) -> bool
+    ensures { result ≡ is_plain character }
+{
+    (' '..='~').contains(&character) && character != '"' && character != '\\'
 }

@@ -1,12 +1,14 @@
-ghost use Rattle.std.specs.Prelude.{◌≡◌, IfOk, IfErr, Some, IsAscii, string_bytes};
+ghost use Rattle.std.specs.Prelude.{◌≡◌, IfOk, IfErr, Some, string_bytes};
 ghost use Rattle.std.specs.Option.{option_map};
 ghost use Rattle.rowan_green.specs.declared.utility_types.NodeOrToken.TheVariants.{Token};
 ghost use Rattle.serde_json.specs.View.{view};
 ghost use Rattle.serde_json.specs.Written.{compact_text};
 ghost use Rattle.rowan_cursor.specs.Cursor.{StandsAtToken, index, kind, text_range, text_at};
-ghost use Rattle.rowan_cursor.specs.Moves.{tree_top, parent, next_sibling_or_token, prev_sibling_or_token, next_token, prev_token, parent_ancestors, siblings_with_tokens};
+ghost use Rattle.rowan_cursor.specs.Moves.{tree_top, parent, next_sibling_or_token};
+ghost use Rattle.rowan_cursor.specs.Moves.{prev_sibling_or_token, next_token, prev_token};
+ghost use Rattle.rowan_cursor.specs.Moves.{parent_ancestors, siblings_with_tokens};
 ghost use Rattle.rowan_cursor.specs.Replacement.{IsReplacement, KeepsTheRest, WhyNoReplacement};
-ghost use Rattle.rowan_api.specs.Printed.{called, debug_line, tree_json};
+ghost use Rattle.rowan_api.specs.Printed.{raw_name, tree_json, IsDebugLine};
 
 use crate::api::typed_elements::TypedElements;
 use crate::api::typed_nodes::TypedNodes;
@@ -27,10 +29,11 @@ use std::marker::{Model, PhantomData};
 
 /// A token in a tree of a language: a root, and the way from it to the token.
 ///
-/// It is the raw token of `cursor`, and its calls answer as that one's do, with kinds by the language. `From` turns each into the
-/// other. A move asks for no memory, and is refused only where the tree cannot be shared once more, since its reference count is
-/// full; then the answer is `Err(Fault::Memory)`. Two tokens are equal if they have equal green tokens and their texts start at
-/// the same offset.
+/// It is the raw token of `cursor`, and its calls answer as that one's do, with kinds by the
+/// language. `From` turns each into the other. A move asks for no memory, but its answer shares the
+/// tree once more. Where the reference count of the tree is full it is refused, as
+/// `Err(Fault::Memory)`; an iterator gives that as an item, and then ends. Two tokens are equal if
+/// they have equal green tokens and their texts start at the same offset.
 #[derive(Drop)]
 pub struct SyntaxToken<L> {
     raw: cursor::SyntaxToken,
@@ -52,7 +55,7 @@ impl<L> Model for SyntaxToken<L> {
 
 impl<L> SyntaxToken<L> {
     // The token that a move of the raw cursor found, if it found one.
-    pub(super) fn found(raw: Option<cursor::SyntaxToken>) -> Option<SyntaxToken<L>>
+    pub(super) fn from_answer(raw: Option<cursor::SyntaxToken>) -> Option<SyntaxToken<L>>
         ensures { result ≡ raw }
     {
         match raw {
@@ -61,13 +64,14 @@ impl<L> SyntaxToken<L> {
         }
     }
 
-    /// The root of a new tree: of the tree of this cursor, with another green token in place of the one at this cursor. For each
-    /// ancestor one new node is made, and all other children are shared. Nothing is changed in place: this tree and all its
-    /// cursors answer as before.
+    /// The root of a new tree: of the tree of this cursor, with another green token in place of the
+    /// one at this cursor. For each ancestor one new node is made, and all other children are
+    /// shared. Nothing is changed in place: this tree and all its cursors answer as before.
     ///
-    /// `Err(Fault::OtherKind)` where the replacement has another raw kind, also one that means the same kind of the language;
-    /// this is looked at before all else. `Err(Fault::TextTooLong)` where a node of the new tree would have more than
-    /// 4,294,967,295 bytes of text; `Err(Fault::Memory)` for want of memory.
+    /// `Err(Fault::OtherKind)` where the replacement has another raw kind, also one that means the
+    /// same kind of the language; this is looked at before all else. `Err(Fault::TextTooLong)`
+    /// where a node of the new tree would have more than 4,294,967,295 bytes of text;
+    /// `Err(Fault::Memory)` for want of memory.
     pub fn replace_with(&self, replacement: GreenToken) -> Result<GreenNode, Fault>
         ensures ok { IfOk result (IsReplacement self.now (Token replacement)) }
         ensures rest { IfOk result (KeepsTheRest self.now (Token replacement)) }
@@ -106,7 +110,6 @@ impl<L> SyntaxToken<L> {
     }
 
     /// The root of the tree.
-    /// `Err(Fault::Memory)` where the tree cannot be shared once more.
     pub fn tree_top(&self) -> Result<SyntaxNode<L>, Fault>
         ensures ok { IfOk result (λ n. n ≡ tree_top self.now) }
         ensures err { IfErr result (λ e. e ≡ Fault.Memory) }
@@ -115,52 +118,47 @@ impl<L> SyntaxToken<L> {
     }
 
     /// The parent.
-    /// `Err(Fault::Memory)` where the tree cannot be shared once more.
     pub fn parent(&self) -> Result<Option<SyntaxNode<L>>, Fault>
         ensures ok { IfOk result (λ found. found ≡ parent self.now) }
         ensures err { IfErr result (λ e. e ≡ Fault.Memory) }
     {
-        Ok(SyntaxNode::found(self.raw.parent()?))
+        Ok(SyntaxNode::from_answer(self.raw.parent()?))
     }
 
     /// The next sibling.
-    /// `Err(Fault::Memory)` where the tree cannot be shared once more.
     pub fn next_sibling_or_token(&self) -> Result<Option<SyntaxElement<L>>, Fault>
         ensures ok { IfOk result (λ found. found ≡ next_sibling_or_token self.now) }
         ensures err { IfErr result (λ e. e ≡ Fault.Memory) }
     {
-        Ok(element::found(self.raw.next_sibling_or_token()?))
+        Ok(element::from_answer(self.raw.next_sibling_or_token()?))
     }
 
     /// The sibling before this one.
-    /// `Err(Fault::Memory)` where the tree cannot be shared once more.
     pub fn prev_sibling_or_token(&self) -> Result<Option<SyntaxElement<L>>, Fault>
         ensures ok { IfOk result (λ found. found ≡ prev_sibling_or_token self.now) }
         ensures err { IfErr result (λ e. e ≡ Fault.Memory) }
     {
-        Ok(element::found(self.raw.prev_sibling_or_token()?))
+        Ok(element::from_answer(self.raw.prev_sibling_or_token()?))
     }
 
     /// The next token of the tree, also an empty one, whatever node it is in.
-    /// `Err(Fault::Memory)` where the tree cannot be shared once more.
     pub fn next_token(&self) -> Result<Option<SyntaxToken<L>>, Fault>
         ensures ok { IfOk result (λ found. found ≡ next_token self.now) }
         ensures err { IfErr result (λ e. e ≡ Fault.Memory) }
     {
-        Ok(SyntaxToken::found(self.raw.next_token()?))
+        Ok(SyntaxToken::from_answer(self.raw.next_token()?))
     }
 
     /// The token of the tree before this one, also an empty one, whatever node it is in.
-    /// `Err(Fault::Memory)` where the tree cannot be shared once more.
     pub fn prev_token(&self) -> Result<Option<SyntaxToken<L>>, Fault>
         ensures ok { IfOk result (λ found. found ≡ prev_token self.now) }
         ensures err { IfErr result (λ e. e ≡ Fault.Memory) }
     {
-        Ok(SyntaxToken::found(self.raw.prev_token()?))
+        Ok(SyntaxToken::from_answer(self.raw.prev_token()?))
     }
 
-    /// The nodes above the token: its parent, and so on up to the root. [`SyntaxToken::parent_ancestors`] says so by its name.
-    /// An item is `Err(Fault::Memory)` where the tree cannot be shared once more; then the iterator ends.
+    /// The nodes above the token, as [`SyntaxToken::parent_ancestors`] gives them.
+    #[deprecated(note = "call `parent_ancestors`, since a token is not among its ancestors")]
     pub fn ancestors(&self) -> Ancestors<L>
         ensures ok { IfOk result (λ list. list ≡ parent_ancestors self.now) }
         ensures err { IfErr result (λ e. e ≡ Fault.Memory) }
@@ -169,7 +167,6 @@ impl<L> SyntaxToken<L> {
     }
 
     /// The nodes above the token: its parent, and so on up to the root.
-    /// An item is `Err(Fault::Memory)` where the tree cannot be shared once more; then the iterator ends.
     pub fn parent_ancestors(&self) -> Ancestors<L>
         ensures ok { IfOk result (λ list. list ≡ parent_ancestors self.now) }
         ensures err { IfErr result (λ e. e ≡ Fault.Memory) }
@@ -178,7 +175,6 @@ impl<L> SyntaxToken<L> {
     }
 
     /// The token, and then its siblings in a direction, nearest first.
-    /// An item is `Err(Fault::Memory)` where the tree cannot be shared once more; then the iterator ends.
     pub fn siblings_with_tokens(&self, direction: Direction) -> SiblingsWithTokens<L>
         ensures ok { IfOk result (λ list. list ≡ siblings_with_tokens direction self.now) }
         ensures err { IfErr result (λ e. e ≡ Fault.Memory) }
@@ -195,33 +191,35 @@ impl<L: Language> SyntaxToken<L> {
         L::kind_from_raw(self.raw.kind())
     }
 
-    /// The token as a line, `KIND@start..end "text"`: the name of the kind, the range with offsets in the root, and the text in
-    /// quotes, as `{:?}` writes it. Of a text of 25 bytes or more only the part before the first border of characters at byte 21
-    /// or later is shown, followed by a space and three points. `Err(Fault::Memory)` for want of memory.
+    /// The token as a line, `KIND@start..end "text"`: the name of the kind, the range with offsets
+    /// in the root, and the text in quotes, as `{:?}` writes it. Of a text of 25 bytes or more only
+    /// the part before the first border of characters at byte 21 or later stands in quotes,
+    /// followed by a space and three points. `Err(Fault::Memory)` for want of memory.
     ///
-    /// The contract says it of ASCII text.
+    /// A character past ASCII stands as itself, or as `\u{..}` where it does not print or extends
+    /// the character before it. The contract leaves open which characters those are.
     pub fn debug_line(&self, alloc: Global) -> Result<String, Fault>
-        ensures ok { IsAscii (text_at self.now) → IfOk result (λ s.
-            string_bytes s ≡ debug_line (called L.name L.meaning) self.now) }
+        ensures ok { IfOk result (λ s.
+            IsDebugLine (raw_name L.name L.meaning) self.now (string_bytes s)) }
         ensures err { IfErr result (λ e. e ≡ Fault.Memory) }
     {
         Ok(printed::token_line::<L>(alloc, &self.raw)?)
     }
 
-    /// The token as JSON: a map of `kind`, the name of the kind; `text`; and `text_range`, a list of the start and the end, with
-    /// offsets in the root. `Err(Fault::Memory)` for want of memory.
+    /// The token as JSON: a map of `kind`, the name of the kind; `text`; and `text_range`, a list
+    /// of the start and the end, with offsets in the root. `Err(Fault::Memory)` for want of memory.
     pub fn to_json(&self, alloc: Global) -> Result<Value, Fault>
-        ensures ok { IfOk result (λ v. view v ≡ tree_json (called L.name L.meaning) self.now) }
+        ensures ok { IfOk result (λ v. view v ≡ tree_json (raw_name L.name L.meaning) self.now) }
         ensures err { IfErr result (λ e. e ≡ Fault.Memory) }
     {
         Ok(json_value::token_json::<L>(alloc, &self.raw)?)
     }
 
-    /// The JSON of the token as text, with no space: the text of the value of `to_json`, which is not made for it.
-    /// `Err(Fault::Memory)` for want of memory.
+    /// The JSON of the token as text, with no space: the text of the value of `to_json`, which is
+    /// not made for it. `Err(Fault::Memory)` for want of memory.
     pub fn to_json_string(&self, alloc: Global) -> Result<String, Fault>
         ensures ok { IfOk result (λ s.
-            string_bytes s ≡ compact_text (tree_json (called L.name L.meaning) self.now)) }
+            string_bytes s ≡ compact_text (tree_json (raw_name L.name L.meaning) self.now)) }
         ensures err { IfErr result (λ e. e ≡ Fault.Memory) }
     {
         Ok(json_text::token_text::<L>(alloc, &self.raw)?)

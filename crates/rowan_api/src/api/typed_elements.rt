@@ -6,8 +6,8 @@ use std::alloc::AllocError;
 use std::fmt;
 use std::marker::{Model, PhantomData};
 
-/// The elements that a raw iterator gives, with the kinds of a language. Where the raw one gives `Err(Fault::Memory)`, so does
-/// this one, and then it ends.
+/// The elements that a raw iterator gives, with the kinds of a language. Where the raw one gives
+/// `Err(Fault::Memory)`, so does this one, and then it ends.
 #[derive(Drop)]
 pub struct TypedElements<L, I> {
     raw: I,
@@ -53,7 +53,7 @@ impl<L, I: Iterator<Item = Result<cursor::SyntaxElement, Fault>>> Iterator for T
 
     fn next(&mut self) -> Option<Result<SyntaxElement<L>, Fault>> {
         match self.raw.next()? {
-            Ok(element) => Some(Ok(element::typed(element))),
+            Ok(element) => Some(Ok(element::give_kinds(element))),
             Err(fault) => Some(Err(fault)),
         }
     }

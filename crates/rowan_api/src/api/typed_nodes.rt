@@ -6,8 +6,8 @@ use std::alloc::AllocError;
 use std::fmt;
 use std::marker::{Model, PhantomData};
 
-/// The nodes that a raw iterator gives, with the kinds of a language. Where the raw one gives `Err(Fault::Memory)`, so does this
-/// one, and then it ends.
+/// The nodes that a raw iterator gives, with the kinds of a language. Where the raw one gives
+/// `Err(Fault::Memory)`, so does this one, and then it ends.
 #[derive(Drop)]
 pub struct TypedNodes<L, I> {
     raw: I,

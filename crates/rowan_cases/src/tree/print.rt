@@ -66,7 +66,7 @@ fn push_beginning(
 
 fn push_token(alloc: Global, text: &mut String, token: &GreenToken) -> Result<(), AllocError> {
     push_kind(text, token.kind())?;
-    text.push_str(operand::quoted(alloc, token.text())?.as_str())
+    text.push_str(operand::quote(alloc, token.text())?.as_str())
 }
 
 fn push_kind(text: &mut String, kind: SyntaxKind) -> Result<(), AllocError> {

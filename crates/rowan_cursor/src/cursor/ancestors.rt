@@ -2,13 +2,15 @@
 use crate::cursor::SyntaxNode;
 use crate::cursor::climb::Climb;
 use crate::cursor::remainder::Remainder;
+use crate::table::Table;
 use rowan_green::fault::Fault;
 use std::alloc::AllocError;
 use std::fmt;
 use std::marker::Model;
+use std::rc::Rc;
 
-/// The nodes from one on up to the root. Each item shares the tree once more. Where that is refused for want of memory, the
-/// item is `Err(Fault::Memory)`, and then the iterator ends.
+/// The nodes from one on up to the root. An item is refused as a move is, and then the iterator
+/// ends.
 #[derive(Drop)]
 pub struct Ancestors {
     climb: Remainder<Climb>,
@@ -23,19 +25,24 @@ impl Model for Ancestors {
 
     ghost coded = { coded_rest_of_cursors };
 
-    ghost use Rattle.rowan_cursor.specs.Walks.{rest_of, climb_nodes};
+    ghost use Rattle.rowan_cursor.specs.Walks.{rest_of, IfWalk, climb_nodes, HasClimb};
 
     ghost view = { λ i. rest_of climb_nodes i.climb };
+
+    ghost invariant = { λ i. IfWalk HasClimb i.climb };
 }
 
 impl Ancestors {
-    ghost use Rattle.std.specs.Prelude.{◌≡◌};
-    ghost use Rattle.rowan_cursor.specs.Walks.{rest_of, climb_nodes};
+    ghost use Rattle.std.specs.Prelude.{◌≡◌, IfOk};
+    ghost use Rattle.rowan_cursor.specs.Walks.{climb_nodes, HasClimb};
 
-    pub(super) fn new(climb: Remainder<Climb>) -> Ancestors
-        ensures { result ≡ rest_of climb_nodes climb }
+    pub(super) fn new(table: &Rc<Table>, climb: Climb) -> Ancestors
+        requires { HasClimb table.now.value climb }
+        ensures { IfOk result (λ list. list ≡ climb_nodes table.now.value climb) }
     {
-        Ancestors { climb }
+        Ancestors {
+            climb: Remainder::new::<SyntaxNode>(table, climb),
+        }
     }
 }
 
@@ -50,7 +57,7 @@ impl Iterator for Ancestors {
     ghost remaining = { λ s. at_most (count_of s) };
 
     fn next(&mut self) -> Option<Result<SyntaxNode, Fault>> {
-        self.climb.next_ancestor()
+        self.climb.next()
     }
 }
 
@@ -60,7 +67,7 @@ impl Clone for Ancestors {
     ghost is_clone = { λ rest copy. copy ≡ rest };
 
     fn clone(&self) -> Result<Ancestors, AllocError> {
-        let climb = self.climb.copy()?;
+        let climb = self.climb.copy::<SyntaxNode>()?;
         Ok(Ancestors { climb })
     }
 }

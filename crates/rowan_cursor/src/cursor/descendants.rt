@@ -2,13 +2,15 @@
 use crate::cursor::SyntaxNode;
 use crate::cursor::remainder::Remainder;
 use crate::cursor::traversal::Traversal;
+use crate::table::Table;
 use rowan_green::fault::Fault;
 use std::alloc::AllocError;
 use std::fmt;
 use std::marker::Model;
+use std::rc::Rc;
 
-/// A node and the nodes below it, in the order of the tree: each before those below it. Each item shares the tree once more.
-/// Where that is refused for want of memory, the item is `Err(Fault::Memory)`, and then the iterator ends.
+/// A node and the nodes below it, in the order of the tree: each before those below it. An item is
+/// refused as a move is, and then the iterator ends.
 #[derive(Drop)]
 pub struct Descendants {
     traversal: Remainder<Traversal>,
@@ -23,21 +25,25 @@ impl Model for Descendants {
 
     ghost coded = { coded_rest_of_cursors };
 
-    ghost use Rattle.rowan_cursor.specs.TraversalView.{traversal_nodes};
-    ghost use Rattle.rowan_cursor.specs.Walks.{rest_of};
+    ghost use Rattle.rowan_cursor.specs.TraversalView.{traversal_nodes, HasTraversal};
+    ghost use Rattle.rowan_cursor.specs.Walks.{rest_of, IfWalk};
 
     ghost view = { λ i. rest_of traversal_nodes i.traversal };
+
+    ghost invariant = { λ i. IfWalk HasTraversal i.traversal };
 }
 
 impl Descendants {
-    ghost use Rattle.std.specs.Prelude.{◌≡◌};
-    ghost use Rattle.rowan_cursor.specs.TraversalView.{traversal_nodes};
-    ghost use Rattle.rowan_cursor.specs.Walks.{rest_of};
+    ghost use Rattle.std.specs.Prelude.{◌≡◌, IfOk};
+    ghost use Rattle.rowan_cursor.specs.TraversalView.{traversal_nodes, HasTraversal};
 
-    pub(super) fn new(traversal: Remainder<Traversal>) -> Descendants
-        ensures { result ≡ rest_of traversal_nodes traversal }
+    pub(super) fn new(table: &Rc<Table>, traversal: Traversal) -> Descendants
+        requires { HasTraversal table.now.value traversal }
+        ensures { IfOk result (λ list. list ≡ traversal_nodes table.now.value traversal) }
     {
-        Descendants { traversal }
+        Descendants {
+            traversal: Remainder::new::<SyntaxNode>(table, traversal),
+        }
     }
 }
 
@@ -52,7 +58,7 @@ impl Iterator for Descendants {
     ghost remaining = { λ s. at_most (count_of s) };
 
     fn next(&mut self) -> Option<Result<SyntaxNode, Fault>> {
-        self.traversal.next_node()
+        self.traversal.next()
     }
 }
 
@@ -62,7 +68,7 @@ impl Clone for Descendants {
     ghost is_clone = { λ rest copy. copy ≡ rest };
 
     fn clone(&self) -> Result<Descendants, AllocError> {
-        let traversal = self.traversal.copy()?;
+        let traversal = self.traversal.copy::<SyntaxNode>()?;
         Ok(Descendants { traversal })
     }
 }

@@ -2,13 +2,15 @@
 use crate::cursor::SyntaxElement;
 use crate::cursor::remainder::Remainder;
 use crate::cursor::traversal::Traversal;
+use crate::table::Table;
 use rowan_green::fault::Fault;
 use std::alloc::AllocError;
 use std::fmt;
 use std::marker::Model;
+use std::rc::Rc;
 
-/// A node and all that is below it, in the order of the tree: each element before what is below it. Each item shares the tree
-/// once more. Where that is refused for want of memory, the item is `Err(Fault::Memory)`, and then the iterator ends.
+/// A node and all that is below it, in the order of the tree: each element before what is below it.
+/// An item is refused as a move is, and then the iterator ends.
 #[derive(Drop)]
 pub struct DescendantsWithTokens {
     traversal: Remainder<Traversal>,
@@ -23,21 +25,25 @@ impl Model for DescendantsWithTokens {
 
     ghost coded = { coded_rest_of_elements };
 
-    ghost use Rattle.rowan_cursor.specs.TraversalView.{traversal_elements};
-    ghost use Rattle.rowan_cursor.specs.Walks.{rest_of};
+    ghost use Rattle.rowan_cursor.specs.TraversalView.{traversal_elements, HasTraversal};
+    ghost use Rattle.rowan_cursor.specs.Walks.{rest_of, IfWalk};
 
     ghost view = { λ i. rest_of traversal_elements i.traversal };
+
+    ghost invariant = { λ i. IfWalk HasTraversal i.traversal };
 }
 
 impl DescendantsWithTokens {
-    ghost use Rattle.std.specs.Prelude.{◌≡◌};
-    ghost use Rattle.rowan_cursor.specs.TraversalView.{traversal_elements};
-    ghost use Rattle.rowan_cursor.specs.Walks.{rest_of};
+    ghost use Rattle.std.specs.Prelude.{◌≡◌, IfOk};
+    ghost use Rattle.rowan_cursor.specs.TraversalView.{traversal_elements, HasTraversal};
 
-    pub(super) fn new(traversal: Remainder<Traversal>) -> DescendantsWithTokens
-        ensures { result ≡ rest_of traversal_elements traversal }
+    pub(super) fn new(table: &Rc<Table>, traversal: Traversal) -> DescendantsWithTokens
+        requires { HasTraversal table.now.value traversal }
+        ensures { IfOk result (λ list. list ≡ traversal_elements table.now.value traversal) }
     {
-        DescendantsWithTokens { traversal }
+        DescendantsWithTokens {
+            traversal: Remainder::new::<SyntaxElement>(table, traversal),
+        }
     }
 }
 
@@ -52,7 +58,7 @@ impl Iterator for DescendantsWithTokens {
     ghost remaining = { λ s. at_most (count_of s) };
 
     fn next(&mut self) -> Option<Result<SyntaxElement, Fault>> {
-        self.traversal.next_element()
+        self.traversal.next()
     }
 }
 
@@ -62,7 +68,7 @@ impl Clone for DescendantsWithTokens {
     ghost is_clone = { λ rest copy. copy ≡ rest };
 
     fn clone(&self) -> Result<DescendantsWithTokens, AllocError> {
-        let traversal = self.traversal.copy()?;
+        let traversal = self.traversal.copy::<SyntaxElement>()?;
         Ok(DescendantsWithTokens { traversal })
     }
 }

@@ -1,8 +1,11 @@
+//! Nodes and tokens of a tree as one type, and the calls that both have.
 ghost use Rattle.std.specs.Prelude.{◌≡◌, IfOk, IfErr, IfSome, Some};
 ghost use Rattle.std.specs.Option.{option_map};
 ghost use Rattle.rowan_cursor.specs.Cursor.{index, kind, text_range};
 ghost use Rattle.rowan_cursor.specs.TableView.{IsWithin, element_of};
-ghost use Rattle.rowan_cursor.specs.Moves.{Element, place_of, tree_top, parent, next_sibling_or_token, prev_sibling_or_token, first_token, last_token, element_ancestors};
+ghost use Rattle.rowan_cursor.specs.Moves.{Element, place_of, tree_top, parent};
+ghost use Rattle.rowan_cursor.specs.Moves.{next_sibling_or_token, prev_sibling_or_token};
+ghost use Rattle.rowan_cursor.specs.Moves.{first_token, last_token, element_ancestors};
 
 use crate::cursor::{Ancestors, SyntaxNode, SyntaxToken};
 use crate::table::Table;
@@ -29,7 +32,7 @@ pub(super) fn at(table: &Rc<Table>, number: usize) -> Result<SyntaxElement, Allo
 }
 
 // The element with the number that a move found, if it found one.
-pub(super) fn found(
+pub(super) fn option_at(
     table: &Rc<Table>,
     number: Option<usize>,
 ) -> Result<Option<SyntaxElement>, AllocError>
@@ -42,8 +45,8 @@ pub(super) fn found(
     }
 }
 
-/// The calls of a [`SyntaxElement`]. It is a trait since the type of elements is that of another crate. A move is refused only
-/// where the tree cannot be shared once more, since its reference count is full; then the answer is `Err(Fault::Memory)`.
+/// The calls of a [`SyntaxElement`]. It is a trait since the type of elements is that of another
+/// crate. A move is refused as that of a [`SyntaxNode`] is.
 pub trait ElementCalls {
     ghost element: { Self → Element };
 
@@ -60,45 +63,38 @@ pub trait ElementCalls {
         ensures { kind (place_of (element self.now)) ≡ Some result.0 };
 
     /// The parent, or `None` of a root.
-    /// `Err(Fault::Memory)` where the tree cannot be shared once more.
     fn parent(&self) -> Result<Option<SyntaxNode>, Fault>
         ensures ok { IfOk result (λ found. found ≡ parent (place_of (element self.now))) }
         ensures err { IfErr result (λ e. e ≡ Fault.Memory) };
 
     /// The root of the tree.
-    /// `Err(Fault::Memory)` where the tree cannot be shared once more.
     fn tree_top(&self) -> Result<SyntaxNode, Fault>
         ensures ok { IfOk result (λ n. n ≡ tree_top (place_of (element self.now))) }
         ensures err { IfErr result (λ e. e ≡ Fault.Memory) };
 
     /// The first token of all that are in a node, also an empty one; a token itself.
-    /// `Err(Fault::Memory)` where the tree cannot be shared once more.
     fn first_token(&self) -> Result<Option<SyntaxToken>, Fault>
         ensures ok { IfOk result (λ found. found ≡ first_token (place_of (element self.now))) }
         ensures err { IfErr result (λ e. e ≡ Fault.Memory) };
 
     /// The last token of all that are in a node, also an empty one; a token itself.
-    /// `Err(Fault::Memory)` where the tree cannot be shared once more.
     fn last_token(&self) -> Result<Option<SyntaxToken>, Fault>
         ensures ok { IfOk result (λ found. found ≡ last_token (place_of (element self.now))) }
         ensures err { IfErr result (λ e. e ≡ Fault.Memory) };
 
     /// The next sibling.
-    /// `Err(Fault::Memory)` where the tree cannot be shared once more.
     fn next_sibling_or_token(&self) -> Result<Option<SyntaxElement>, Fault>
         ensures ok { IfOk result (λ found.
             found ≡ next_sibling_or_token (place_of (element self.now))) }
         ensures err { IfErr result (λ e. e ≡ Fault.Memory) };
 
     /// The sibling before this one.
-    /// `Err(Fault::Memory)` where the tree cannot be shared once more.
     fn prev_sibling_or_token(&self) -> Result<Option<SyntaxElement>, Fault>
         ensures ok { IfOk result (λ found.
             found ≡ prev_sibling_or_token (place_of (element self.now))) }
         ensures err { IfErr result (λ e. e ≡ Fault.Memory) };
 
     /// A node and the nodes above it, up to the root; of a token the nodes above it.
-    /// An item is `Err(Fault::Memory)` where the tree cannot be shared once more; then the iterator ends.
     fn ancestors(&self) -> Ancestors
         ensures ok { IfOk result (λ list. list ≡ element_ancestors (element self.now)) }
         ensures err { IfErr result (λ e. e ≡ Fault.Memory) };
@@ -145,14 +141,14 @@ impl ElementCalls for SyntaxElement {
     fn first_token(&self) -> Result<Option<SyntaxToken>, Fault> {
         match self {
             NodeOrToken::Node(node) => node.first_token(),
-            NodeOrToken::Token(token) => Ok(token.first_token()?),
+            NodeOrToken::Token(token) => Ok(token.own_token()?),
         }
     }
 
     fn last_token(&self) -> Result<Option<SyntaxToken>, Fault> {
         match self {
             NodeOrToken::Node(node) => node.last_token(),
-            NodeOrToken::Token(token) => Ok(token.last_token()?),
+            NodeOrToken::Token(token) => Ok(token.own_token()?),
         }
     }
 

@@ -2,14 +2,15 @@
 use crate::cursor::SyntaxElement;
 use crate::cursor::remainder::Remainder;
 use crate::cursor::row::Row;
+use crate::table::Table;
 use rowan_green::fault::Fault;
 use std::alloc::AllocError;
 use std::fmt;
 use std::marker::Model;
+use std::rc::Rc;
 
-/// The children of a node, from the first on; or, as [`SiblingsWithTokens`], an element and its siblings in one direction.
-/// Each item shares the tree once more. Where that is refused for want of memory, the item is `Err(Fault::Memory)`, and then
-/// the iterator ends.
+/// The children of a node, from the first on; or, as [`SiblingsWithTokens`], an element and its
+/// siblings in one direction. An item is refused as a move is, and then the iterator ends.
 #[derive(Drop)]
 pub struct SyntaxElementChildren {
     row: Remainder<Row>,
@@ -27,19 +28,24 @@ impl Model for SyntaxElementChildren {
 
     ghost coded = { coded_rest_of_elements };
 
-    ghost use Rattle.rowan_cursor.specs.Walks.{rest_of, row_elements};
+    ghost use Rattle.rowan_cursor.specs.Walks.{rest_of, IfWalk, row_elements, HasRow};
 
     ghost view = { λ i. rest_of row_elements i.row };
+
+    ghost invariant = { λ i. IfWalk HasRow i.row };
 }
 
 impl SyntaxElementChildren {
-    ghost use Rattle.std.specs.Prelude.{◌≡◌};
-    ghost use Rattle.rowan_cursor.specs.Walks.{rest_of, row_elements};
+    ghost use Rattle.std.specs.Prelude.{◌≡◌, IfOk};
+    ghost use Rattle.rowan_cursor.specs.Walks.{row_elements, HasRow};
 
-    pub(super) fn new(row: Remainder<Row>) -> SyntaxElementChildren
-        ensures { result ≡ rest_of row_elements row }
+    pub(super) fn new(table: &Rc<Table>, row: Row) -> SyntaxElementChildren
+        requires { HasRow table.now.value row }
+        ensures { IfOk result (λ list. list ≡ row_elements table.now.value row) }
     {
-        SyntaxElementChildren { row }
+        SyntaxElementChildren {
+            row: Remainder::new::<SyntaxElement>(table, row),
+        }
     }
 }
 
@@ -54,7 +60,7 @@ impl Iterator for SyntaxElementChildren {
     ghost remaining = { λ s. at_most (count_of s) };
 
     fn next(&mut self) -> Option<Result<SyntaxElement, Fault>> {
-        self.row.next_element()
+        self.row.next()
     }
 }
 
@@ -64,7 +70,7 @@ impl Clone for SyntaxElementChildren {
     ghost is_clone = { λ rest copy. copy ≡ rest };
 
     fn clone(&self) -> Result<SyntaxElementChildren, AllocError> {
-        let row = self.row.copy()?;
+        let row = self.row.copy::<SyntaxElement>()?;
         Ok(SyntaxElementChildren { row })
     }
 }

@@ -1,3 +1,4 @@
+//! Nodes of a tree, as cursors, and their moves.
 mod search;
 mod text;
 
@@ -6,7 +7,12 @@ ghost use Rattle.std.specs.Option.{option_map};
 ghost use Rattle.rowan_green.specs.declared.utility_types.NodeOrToken.TheVariants.{Node};
 ghost use Rattle.rowan_cursor.specs.Cursor.{StandsAt, index, kind, text_range};
 ghost use Rattle.rowan_cursor.specs.TableView.{cursor_of, IsNodeIn};
-ghost use Rattle.rowan_cursor.specs.Moves.{tree_top, parent, first_child, last_child, first_child_or_token, last_child_or_token, child_or_token_at_index, next_sibling, prev_sibling, next_sibling_or_token, prev_sibling_or_token, first_token, last_token, children, children_with_tokens, siblings, siblings_with_tokens, ancestors};
+ghost use Rattle.rowan_cursor.specs.Moves.{tree_top, parent, first_child, last_child};
+ghost use Rattle.rowan_cursor.specs.Moves.{first_child_or_token, last_child_or_token};
+ghost use Rattle.rowan_cursor.specs.Moves.{child_or_token_at_index, next_sibling, prev_sibling};
+ghost use Rattle.rowan_cursor.specs.Moves.{next_sibling_or_token, prev_sibling_or_token};
+ghost use Rattle.rowan_cursor.specs.Moves.{first_token, last_token, children, children_with_tokens};
+ghost use Rattle.rowan_cursor.specs.Moves.{siblings, siblings_with_tokens, ancestors};
 ghost use Rattle.rowan_cursor.specs.Replacement.{IsReplacement, KeepsTheRest, WhyNoReplacement};
 
 mod walks;
@@ -30,17 +36,22 @@ use std::rc::Rc;
 
 /// A node in a tree: a root, and the way from it to the node.
 ///
-/// All cursors of one tree share it, and it lives as long as one of them. A move goes by a table of the tree, which `new_root`
-/// fills, and asks for no memory. It is refused only where the tree cannot be shared once more, since its reference count is
-/// full; then the answer is `Err(Fault::Memory)`. Two nodes are equal if they have equal green nodes and their texts start at
-/// the same offset.
+/// All cursors of one tree share it, and it lives as long as one of them. A move goes by a table of
+/// the tree, which `new_root` fills, and asks for no memory. Two nodes are equal if they have equal
+/// green nodes and their texts start at the same offset.
+///
+/// # Errors
+///
+/// A move answers `Err(Fault::Memory)` where the count of the tree's owners is full. An iterator
+/// gives that `Err` as an item, and then it ends.
 ///
 /// ```rust
 /// // `green` is the node of `f(x)`: a token `f`, and a node with the tokens `(`, `x` and `)`
 /// let call = SyntaxNode::new_root(alloc, green)?;
 /// if let Some(arguments) = call.first_child()? {
 ///     assert_eq!(rt; arguments.index(), 1);
-///     assert_eq!(rt; arguments.text_range(), TextRange::new(TextSize::from(1), TextSize::from(4)));
+///     let range = TextRange::new(TextSize::from(1), TextSize::from(4));
+///     assert_eq!(rt; arguments.text_range(), range);
 ///     assert_eq!(rt; arguments.parent()?, Some(call));
 ///     for element in arguments.children_with_tokens() {
 ///         let kind = element?.kind();
@@ -79,7 +90,7 @@ impl SyntaxNode {
     }
 
     // The cursor at the node with the number that a move found, if it found one.
-    pub(super) fn found(
+    pub(super) fn option_at(
         table: &Rc<Table>,
         number: Option<usize>,
     ) -> Result<Option<SyntaxNode>, AllocError>
@@ -93,8 +104,8 @@ impl SyntaxNode {
     }
 
     /// The cursor at the root of a green tree. It visits each node and token once.
-    /// `Err(Fault::Memory)` for want of memory, and where the tree has more than 4,294,967,295 nodes and tokens, whose table
-    /// would take 100 GB.
+    /// `Err(Fault::Memory)` for want of memory, and where the tree has more than 4,294,967,295
+    /// nodes and tokens, whose table would take 100 GB.
     pub fn new_root(alloc: Global, green: GreenNode) -> Result<SyntaxNode, Fault>
         ensures ok { IfOk result (λ n. n ≡ record { root = green; path = [] }) }
         ensures err { IfErr result (λ e. e ≡ Fault.Memory) }
@@ -103,8 +114,8 @@ impl SyntaxNode {
         Ok(SyntaxNode { table, number: 0 })
     }
 
-    /// The root of a new tree, which has the green node of this one. It visits each node and token below this one once.
-    /// `Err(Fault::Memory)` for want of memory.
+    /// The root of a new tree, which has the green node of this one. It visits each node and token
+    /// below this one once. `Err(Fault::Memory)` for want of memory.
     pub fn clone_subtree(&self) -> Result<SyntaxNode, Fault>
         ensures ok { IfOk result (λ n. StandsAt self.now n.root) }
         ensures top { IfOk result (λ n. n.path ≡ []) }
@@ -113,13 +124,14 @@ impl SyntaxNode {
         SyntaxNode::new_root(self.table.allocator(), self.green().clone()?)
     }
 
-    /// The root of a new tree: of the tree of this cursor, with another green node in place of the one at this cursor. For each
-    /// ancestor one new node is made, and all other children are shared. Nothing is changed in place: this tree and all its
-    /// cursors answer as before. For a root it is the replacement itself.
+    /// The root of a new tree: of the tree of this cursor, with another green node in place of the
+    /// one at this cursor. For each ancestor one new node is made, and all other children are
+    /// shared. Nothing is changed in place: this tree and all its cursors answer as before. For a
+    /// root it is the replacement itself.
     ///
-    /// `Err(Fault::OtherKind)` where the replacement is of another kind, which is looked at before all else;
-    /// `Err(Fault::TextTooLong)` where a node of the new tree would have more than 4,294,967,295 bytes of text;
-    /// `Err(Fault::Memory)` for want of memory.
+    /// `Err(Fault::OtherKind)` where the replacement is of another kind, which is looked at before
+    /// all else; `Err(Fault::TextTooLong)` where a node of the new tree would have more than
+    /// 4,294,967,295 bytes of text; `Err(Fault::Memory)` for want of memory.
     pub fn replace_with(&self, replacement: GreenNode) -> Result<GreenNode, Fault>
         ensures ok { IfOk result (IsReplacement self.now (Node replacement)) }
         ensures rest { IfOk result (KeepsTheRest self.now (Node replacement)) }
@@ -161,7 +173,6 @@ impl SyntaxNode {
     }
 
     /// The root of the tree.
-    /// `Err(Fault::Memory)` where the tree cannot be shared once more.
     pub fn tree_top(&self) -> Result<SyntaxNode, Fault>
         ensures ok { IfOk result (λ n. n ≡ tree_top self.now) }
         ensures err { IfErr result (λ e. e ≡ Fault.Memory) }
@@ -170,156 +181,146 @@ impl SyntaxNode {
     }
 
     /// The parent, or `None` of a root.
-    /// `Err(Fault::Memory)` where the tree cannot be shared once more.
     pub fn parent(&self) -> Result<Option<SyntaxNode>, Fault>
         ensures ok { IfOk result (λ found. found ≡ parent self.now) }
         ensures err { IfErr result (λ e. e ≡ Fault.Memory) }
     {
-        Ok(SyntaxNode::found(&self.table, self.table.parent(self.number))?)
+        Ok(SyntaxNode::option_at(&self.table, self.table.parent(self.number))?)
     }
 
     /// The first child that is a node.
-    /// `Err(Fault::Memory)` where the tree cannot be shared once more.
     pub fn first_child(&self) -> Result<Option<SyntaxNode>, Fault>
         ensures ok { IfOk result (λ found. found ≡ first_child self.now) }
         ensures err { IfErr result (λ e. e ≡ Fault.Memory) }
     {
-        Ok(SyntaxNode::found(&self.table, self.table.first_child(self.number))?)
+        Ok(SyntaxNode::option_at(&self.table, self.table.first_child(self.number))?)
     }
 
     /// The last child that is a node.
-    /// `Err(Fault::Memory)` where the tree cannot be shared once more.
     pub fn last_child(&self) -> Result<Option<SyntaxNode>, Fault>
         ensures ok { IfOk result (λ found. found ≡ last_child self.now) }
         ensures err { IfErr result (λ e. e ≡ Fault.Memory) }
     {
-        Ok(SyntaxNode::found(&self.table, self.table.last_child(self.number))?)
+        Ok(SyntaxNode::option_at(&self.table, self.table.last_child(self.number))?)
     }
 
     /// The first child.
-    /// `Err(Fault::Memory)` where the tree cannot be shared once more.
     pub fn first_child_or_token(&self) -> Result<Option<SyntaxElement>, Fault>
         ensures ok { IfOk result (λ found. found ≡ first_child_or_token self.now) }
         ensures err { IfErr result (λ e. e ≡ Fault.Memory) }
     {
-        Ok(element::found(&self.table, self.table.first_child_or_token(self.number))?)
+        Ok(element::option_at(&self.table, self.table.first_child_or_token(self.number))?)
     }
 
     /// The last child.
-    /// `Err(Fault::Memory)` where the tree cannot be shared once more.
     pub fn last_child_or_token(&self) -> Result<Option<SyntaxElement>, Fault>
         ensures ok { IfOk result (λ found. found ≡ last_child_or_token self.now) }
         ensures err { IfErr result (λ e. e ≡ Fault.Memory) }
     {
-        Ok(element::found(&self.table, self.table.last_child_or_token(self.number))?)
+        Ok(element::option_at(&self.table, self.table.last_child_or_token(self.number))?)
     }
 
     /// The child at an index among all children, or `None` past the last one.
-    /// `Err(Fault::Memory)` where the tree cannot be shared once more.
     pub fn child_or_token_at_index(&self, index: usize) -> Result<Option<SyntaxElement>, Fault>
         ensures ok { IfOk result (λ found. found ≡ child_or_token_at_index self.now index) }
         ensures err { IfErr result (λ e. e ≡ Fault.Memory) }
     {
-        Ok(element::found(&self.table, self.table.child_at(self.number, index))?)
+        Ok(element::option_at(&self.table, self.table.child_at(self.number, index))?)
     }
 
     /// The next sibling that is a node.
-    /// `Err(Fault::Memory)` where the tree cannot be shared once more.
     pub fn next_sibling(&self) -> Result<Option<SyntaxNode>, Fault>
         ensures ok { IfOk result (λ found. found ≡ next_sibling self.now) }
         ensures err { IfErr result (λ e. e ≡ Fault.Memory) }
     {
-        Ok(SyntaxNode::found(&self.table, self.table.next_sibling(self.number))?)
+        Ok(SyntaxNode::option_at(&self.table, self.table.next_sibling(self.number))?)
     }
 
     /// The nearest sibling before this one that is a node.
-    /// `Err(Fault::Memory)` where the tree cannot be shared once more.
     pub fn prev_sibling(&self) -> Result<Option<SyntaxNode>, Fault>
         ensures ok { IfOk result (λ found. found ≡ prev_sibling self.now) }
         ensures err { IfErr result (λ e. e ≡ Fault.Memory) }
     {
-        Ok(SyntaxNode::found(&self.table, self.table.prev_sibling(self.number))?)
+        Ok(SyntaxNode::option_at(&self.table, self.table.prev_sibling(self.number))?)
     }
 
     /// The next sibling.
-    /// `Err(Fault::Memory)` where the tree cannot be shared once more.
     pub fn next_sibling_or_token(&self) -> Result<Option<SyntaxElement>, Fault>
         ensures ok { IfOk result (λ found. found ≡ next_sibling_or_token self.now) }
         ensures err { IfErr result (λ e. e ≡ Fault.Memory) }
     {
-        Ok(element::found(&self.table, self.table.next_sibling_or_token(self.number))?)
+        Ok(element::option_at(&self.table, self.table.next_sibling_or_token(self.number))?)
     }
 
     /// The sibling before this one.
-    /// `Err(Fault::Memory)` where the tree cannot be shared once more.
     pub fn prev_sibling_or_token(&self) -> Result<Option<SyntaxElement>, Fault>
         ensures ok { IfOk result (λ found. found ≡ prev_sibling_or_token self.now) }
         ensures err { IfErr result (λ e. e ≡ Fault.Memory) }
     {
-        Ok(element::found(&self.table, self.table.prev_sibling_or_token(self.number))?)
+        Ok(element::option_at(&self.table, self.table.prev_sibling_or_token(self.number))?)
     }
 
     /// The first token of all that are in this node, also an empty one.
-    /// `Err(Fault::Memory)` where the tree cannot be shared once more.
     pub fn first_token(&self) -> Result<Option<SyntaxToken>, Fault>
         ensures ok { IfOk result (λ found. found ≡ first_token self.now) }
         ensures err { IfErr result (λ e. e ≡ Fault.Memory) }
     {
-        Ok(SyntaxToken::found(&self.table, self.table.first_token(self.number))?)
+        Ok(SyntaxToken::option_at(&self.table, self.table.first_token(self.number))?)
     }
 
     /// The last token of all that are in this node, also an empty one.
-    /// `Err(Fault::Memory)` where the tree cannot be shared once more.
     pub fn last_token(&self) -> Result<Option<SyntaxToken>, Fault>
         ensures ok { IfOk result (λ found. found ≡ last_token self.now) }
         ensures err { IfErr result (λ e. e ≡ Fault.Memory) }
     {
-        Ok(SyntaxToken::found(&self.table, self.table.last_token(self.number))?)
+        Ok(SyntaxToken::option_at(&self.table, self.table.last_token(self.number))?)
     }
 
     /// The node and the nodes above it, up to the root.
-    /// An item is `Err(Fault::Memory)` where the tree cannot be shared once more; then the iterator ends.
     pub fn ancestors(&self) -> Ancestors
         ensures ok { IfOk result (λ list. list ≡ ancestors self.now) }
         ensures err { IfErr result (λ e. e ≡ Fault.Memory) }
     {
-        Ancestors::new(Climb::new(&self.table, Some(self.number)))
+        Ancestors::new(&self.table, Climb::new(Some(self.number)))
     }
 
     /// The children that are nodes.
-    /// An item is `Err(Fault::Memory)` where the tree cannot be shared once more; then the iterator ends.
     pub fn children(&self) -> SyntaxNodeChildren
         ensures ok { IfOk result (λ list. list ≡ children self.now) }
         ensures err { IfErr result (λ e. e ≡ Fault.Memory) }
     {
-        SyntaxNodeChildren::new(Row::children(&self.table, self.number))
+        SyntaxNodeChildren::new(&self.table, Row::children(&self.table, self.number))
     }
 
     /// The children.
-    /// An item is `Err(Fault::Memory)` where the tree cannot be shared once more; then the iterator ends.
     pub fn children_with_tokens(&self) -> SyntaxElementChildren
         ensures ok { IfOk result (λ list. list ≡ children_with_tokens self.now) }
         ensures err { IfErr result (λ e. e ≡ Fault.Memory) }
     {
-        SyntaxElementChildren::new(Row::children(&self.table, self.number))
+        SyntaxElementChildren::new(&self.table, Row::children(&self.table, self.number))
     }
 
-    /// The node, and then its siblings in a direction that are nodes, nearest first. A root has none.
-    /// An item is `Err(Fault::Memory)` where the tree cannot be shared once more; then the iterator ends.
+    /// The node, and then its siblings in a direction that are nodes, nearest first. A root has
+    /// none.
     pub fn siblings(&self, direction: Direction) -> Siblings
         ensures ok { IfOk result (λ list. list ≡ siblings direction self.now) }
         ensures err { IfErr result (λ e. e ≡ Fault.Memory) }
     {
-        Siblings::new(Row::siblings(&self.table, self.number, direction))
+        Siblings::new(
+            &self.table,
+            Row::siblings(&self.table, self.number, direction),
+        )
     }
 
     /// The node, and then its siblings in a direction, nearest first. A root has none.
-    /// An item is `Err(Fault::Memory)` where the tree cannot be shared once more; then the iterator ends.
     pub fn siblings_with_tokens(&self, direction: Direction) -> SiblingsWithTokens
         ensures ok { IfOk result (λ list. list ≡ siblings_with_tokens direction self.now) }
         ensures err { IfErr result (λ e. e ≡ Fault.Memory) }
     {
-        SiblingsWithTokens::new(Row::siblings(&self.table, self.number, direction))
+        SiblingsWithTokens::new(
+            &self.table,
+            Row::siblings(&self.table, self.number, direction),
+        )
     }
 }
 

@@ -2,14 +2,15 @@
 use crate::cursor::SyntaxNode;
 use crate::cursor::remainder::Remainder;
 use crate::cursor::row::Row;
+use crate::table::Table;
 use rowan_green::fault::Fault;
 use std::alloc::AllocError;
 use std::fmt;
 use std::marker::Model;
+use std::rc::Rc;
 
-/// The children of a node that are nodes, from the first on; or, as [`Siblings`], a node and its siblings in one direction.
-/// Each item shares the tree once more. Where that is refused for want of memory, the item is `Err(Fault::Memory)`, and then
-/// the iterator ends.
+/// The children of a node that are nodes, from the first on; or, as [`Siblings`], a node and its
+/// siblings in one direction. An item is refused as a move is, and then the iterator ends.
 #[derive(Drop)]
 pub struct SyntaxNodeChildren {
     row: Remainder<Row>,
@@ -27,19 +28,24 @@ impl Model for SyntaxNodeChildren {
 
     ghost coded = { coded_rest_of_cursors };
 
-    ghost use Rattle.rowan_cursor.specs.Walks.{rest_of, row_nodes};
+    ghost use Rattle.rowan_cursor.specs.Walks.{rest_of, IfWalk, row_nodes, HasRow};
 
     ghost view = { λ i. rest_of row_nodes i.row };
+
+    ghost invariant = { λ i. IfWalk HasRow i.row };
 }
 
 impl SyntaxNodeChildren {
-    ghost use Rattle.std.specs.Prelude.{◌≡◌};
-    ghost use Rattle.rowan_cursor.specs.Walks.{rest_of, row_nodes};
+    ghost use Rattle.std.specs.Prelude.{◌≡◌, IfOk};
+    ghost use Rattle.rowan_cursor.specs.Walks.{row_nodes, HasRow};
 
-    pub(super) fn new(row: Remainder<Row>) -> SyntaxNodeChildren
-        ensures { result ≡ rest_of row_nodes row }
+    pub(super) fn new(table: &Rc<Table>, row: Row) -> SyntaxNodeChildren
+        requires { HasRow table.now.value row }
+        ensures { IfOk result (λ list. list ≡ row_nodes table.now.value row) }
     {
-        SyntaxNodeChildren { row }
+        SyntaxNodeChildren {
+            row: Remainder::new::<SyntaxNode>(table, row),
+        }
     }
 }
 
@@ -54,7 +60,7 @@ impl Iterator for SyntaxNodeChildren {
     ghost remaining = { λ s. at_most (count_of s) };
 
     fn next(&mut self) -> Option<Result<SyntaxNode, Fault>> {
-        self.row.next_node()
+        self.row.next()
     }
 }
 
@@ -64,7 +70,7 @@ impl Clone for SyntaxNodeChildren {
     ghost is_clone = { λ rest copy. copy ≡ rest };
 
     fn clone(&self) -> Result<SyntaxNodeChildren, AllocError> {
-        let row = self.row.copy()?;
+        let row = self.row.copy::<SyntaxNode>()?;
         Ok(SyntaxNodeChildren { row })
     }
 }

@@ -2,15 +2,17 @@
 use crate::cursor::SyntaxElement;
 use crate::cursor::remainder::Remainder;
 use crate::cursor::traversal::Traversal;
+use crate::table::Table;
 use rowan_green::fault::Fault;
 use rowan_green::utility_types::WalkEvent;
 use std::alloc::AllocError;
 use std::fmt;
 use std::marker::Model;
+use std::rc::Rc;
 
-/// A walk through a node and all that is below it: each element is entered before what is below it, and left after; a token is
-/// entered and left at once. Each item shares the tree once more. Where that is refused for want of memory, the item is
-/// `Err(Fault::Memory)`, and then the iterator ends.
+/// A walk through a node and all that is below it: each element is entered before what is below it,
+/// and left after; a token is entered and left at once. An item is refused as a move is, and then
+/// the iterator ends.
 #[derive(Drop)]
 pub struct PreorderWithTokens {
     traversal: Remainder<Traversal>,
@@ -26,27 +28,31 @@ impl Model for PreorderWithTokens {
 
     ghost coded = { coded_rest_of_events };
 
-    ghost use Rattle.rowan_cursor.specs.TraversalView.{traversal_events};
-    ghost use Rattle.rowan_cursor.specs.Walks.{rest_of};
+    ghost use Rattle.rowan_cursor.specs.TraversalView.{traversal_events, HasTraversal};
+    ghost use Rattle.rowan_cursor.specs.Walks.{rest_of, IfWalk};
 
     ghost view = { λ i. rest_of traversal_events i.traversal };
+
+    ghost invariant = { λ i. IfWalk HasTraversal i.traversal };
 }
 
 impl PreorderWithTokens {
-    ghost use Rattle.std.specs.Prelude.{◌≡◌};
+    ghost use Rattle.std.specs.Prelude.{◌≡◌, IfOk};
     ghost use Rattle.rowan_cursor.specs.Preorder.{skip_rest};
-    ghost use Rattle.rowan_cursor.specs.TraversalView.{traversal_events};
-    ghost use Rattle.rowan_cursor.specs.Walks.{rest_of};
+    ghost use Rattle.rowan_cursor.specs.TraversalView.{traversal_events, HasTraversal};
 
-    pub(super) fn new(traversal: Remainder<Traversal>) -> PreorderWithTokens
-        ensures { result ≡ rest_of traversal_events traversal }
+    pub(super) fn new(table: &Rc<Table>, traversal: Traversal) -> PreorderWithTokens
+        requires { HasTraversal table.now.value traversal }
+        ensures { IfOk result (λ list. list ≡ traversal_events table.now.value traversal) }
     {
-        PreorderWithTokens { traversal }
+        PreorderWithTokens {
+            traversal: Remainder::new::<WalkEvent<SyntaxElement>>(table, traversal),
+        }
     }
 
-    /// Drops what is left before the next Leave of an element that was entered. So after an Enter that element's Leave comes
-    /// next, and after a Leave that of the parent. Several calls before one `next` are one. Before the first `next` and at the
-    /// end nothing is dropped.
+    /// Drops what is left before the next Leave of an element that was entered. So after an Enter
+    /// that element's Leave comes next, and after a Leave that of the parent. Several calls before
+    /// one `next` are one. Before the first `next` and at the end nothing is dropped.
     pub fn skip_subtree(&mut self)
         ensures { self.new ≡ skip_rest self.old }
     {
@@ -65,7 +71,7 @@ impl Iterator for PreorderWithTokens {
     ghost remaining = { λ s. at_most (count_of s) };
 
     fn next(&mut self) -> Option<Result<WalkEvent<SyntaxElement>, Fault>> {
-        self.traversal.next_event()
+        self.traversal.next()
     }
 }
 
@@ -75,7 +81,7 @@ impl Clone for PreorderWithTokens {
     ghost is_clone = { λ rest copy. copy ≡ rest };
 
     fn clone(&self) -> Result<PreorderWithTokens, AllocError> {
-        let traversal = self.traversal.copy()?;
+        let traversal = self.traversal.copy::<WalkEvent<SyntaxElement>>()?;
         Ok(PreorderWithTokens { traversal })
     }
 }

@@ -1,9 +1,13 @@
+//! Tokens of a tree, as cursors, and their moves.
 ghost use Rattle.std.specs.Prelude.{◌≡◌, IfOk, IfErr, IfSome, Some};
 ghost use Rattle.std.specs.Option.{option_map};
 ghost use Rattle.rowan_green.specs.declared.utility_types.NodeOrToken.TheVariants.{Token};
 ghost use Rattle.rowan_cursor.specs.Cursor.{StandsAtToken, index, kind, text_range, text_at};
 ghost use Rattle.rowan_cursor.specs.TableView.{cursor_of, IsTokenIn};
-ghost use Rattle.rowan_cursor.specs.Moves.{tree_top, parent, next_sibling_or_token, prev_sibling_or_token, first_token, last_token, next_token, prev_token, siblings_with_tokens, parent_ancestors};
+ghost use Rattle.rowan_cursor.specs.Moves.{tree_top, parent, next_sibling_or_token};
+ghost use Rattle.rowan_cursor.specs.Moves.{prev_sibling_or_token, first_token, last_token};
+ghost use Rattle.rowan_cursor.specs.Moves.{next_token, prev_token, siblings_with_tokens};
+ghost use Rattle.rowan_cursor.specs.Moves.{parent_ancestors};
 ghost use Rattle.rowan_cursor.specs.Replacement.{IsReplacement, KeepsTheRest, WhyNoReplacement};
 
 use crate::cursor::climb::Climb;
@@ -22,9 +26,13 @@ use std::rc::Rc;
 
 /// A token in a tree: a root, and the way from it to the token.
 ///
-/// All cursors of one tree share it, and it lives as long as one of them. A move is refused only where the tree cannot be
-/// shared once more, since its reference count is full; then the answer is `Err(Fault::Memory)`. Two tokens are equal if they
-/// have equal green tokens and their texts start at the same offset.
+/// All cursors of one tree share it, and it lives as long as one of them. Two tokens are equal if
+/// they have equal green tokens and their texts start at the same offset.
+///
+/// # Errors
+///
+/// A move answers `Err(Fault::Memory)` where the count of the tree's owners is full. An iterator
+/// gives that `Err` as an item, and then it ends.
 #[derive(Drop)]
 pub struct SyntaxToken {
     table: Rc<Table>,
@@ -57,7 +65,7 @@ impl SyntaxToken {
     }
 
     // The cursor at the token with the number that a move found, if it found one.
-    pub(super) fn found(
+    pub(super) fn option_at(
         table: &Rc<Table>,
         number: Option<usize>,
     ) -> Result<Option<SyntaxToken>, AllocError>
@@ -70,13 +78,13 @@ impl SyntaxToken {
         }
     }
 
-    /// The root of a new tree: of the tree of this cursor, with another green token in place of the one at this cursor. For each
-    /// ancestor one new node is made, and all other children are shared. Nothing is changed in place: this tree and all its
-    /// cursors answer as before.
+    /// The root of a new tree: of the tree of this cursor, with another green token in place of the
+    /// one at this cursor. For each ancestor one new node is made, and all other children are
+    /// shared. Nothing is changed in place: this tree and all its cursors answer as before.
     ///
-    /// `Err(Fault::OtherKind)` where the replacement is of another kind, which is looked at before all else;
-    /// `Err(Fault::TextTooLong)` where a node of the new tree would have more than 4,294,967,295 bytes of text;
-    /// `Err(Fault::Memory)` for want of memory.
+    /// `Err(Fault::OtherKind)` where the replacement is of another kind, which is looked at before
+    /// all else; `Err(Fault::TextTooLong)` where a node of the new tree would have more than
+    /// 4,294,967,295 bytes of text; `Err(Fault::Memory)` for want of memory.
     pub fn replace_with(&self, replacement: GreenToken) -> Result<GreenNode, Fault>
         ensures ok { IfOk result (IsReplacement self.now (Token replacement)) }
         ensures rest { IfOk result (KeepsTheRest self.now (Token replacement)) }
@@ -125,7 +133,6 @@ impl SyntaxToken {
     }
 
     /// The root of the tree.
-    /// `Err(Fault::Memory)` where the tree cannot be shared once more.
     pub fn tree_top(&self) -> Result<SyntaxNode, Fault>
         ensures ok { IfOk result (λ n. n ≡ tree_top self.now) }
         ensures err { IfErr result (λ e. e ≡ Fault.Memory) }
@@ -134,80 +141,71 @@ impl SyntaxToken {
     }
 
     /// The parent.
-    /// `Err(Fault::Memory)` where the tree cannot be shared once more.
     pub fn parent(&self) -> Result<Option<SyntaxNode>, Fault>
         ensures ok { IfOk result (λ found. found ≡ parent self.now) }
         ensures err { IfErr result (λ e. e ≡ Fault.Memory) }
     {
-        Ok(SyntaxNode::found(&self.table, self.table.parent(self.number))?)
+        Ok(SyntaxNode::option_at(&self.table, self.table.parent(self.number))?)
     }
 
     /// The next sibling.
-    /// `Err(Fault::Memory)` where the tree cannot be shared once more.
     pub fn next_sibling_or_token(&self) -> Result<Option<SyntaxElement>, Fault>
         ensures ok { IfOk result (λ found. found ≡ next_sibling_or_token self.now) }
         ensures err { IfErr result (λ e. e ≡ Fault.Memory) }
     {
-        Ok(element::found(&self.table, self.table.next_sibling_or_token(self.number))?)
+        Ok(element::option_at(&self.table, self.table.next_sibling_or_token(self.number))?)
     }
 
     /// The sibling before this one.
-    /// `Err(Fault::Memory)` where the tree cannot be shared once more.
     pub fn prev_sibling_or_token(&self) -> Result<Option<SyntaxElement>, Fault>
         ensures ok { IfOk result (λ found. found ≡ prev_sibling_or_token self.now) }
         ensures err { IfErr result (λ e. e ≡ Fault.Memory) }
     {
-        Ok(element::found(&self.table, self.table.prev_sibling_or_token(self.number))?)
+        Ok(element::option_at(&self.table, self.table.prev_sibling_or_token(self.number))?)
     }
 
     /// The next token of the tree, also an empty one, whatever node it is in.
-    /// `Err(Fault::Memory)` where the tree cannot be shared once more.
     pub fn next_token(&self) -> Result<Option<SyntaxToken>, Fault>
         ensures ok { IfOk result (λ found. found ≡ next_token self.now) }
         ensures err { IfErr result (λ e. e ≡ Fault.Memory) }
     {
-        Ok(SyntaxToken::found(&self.table, self.table.next_token(self.number))?)
+        Ok(SyntaxToken::option_at(&self.table, self.table.next_token(self.number))?)
     }
 
     /// The token of the tree before this one, also an empty one, whatever node it is in.
-    /// `Err(Fault::Memory)` where the tree cannot be shared once more.
     pub fn prev_token(&self) -> Result<Option<SyntaxToken>, Fault>
         ensures ok { IfOk result (λ found. found ≡ prev_token self.now) }
         ensures err { IfErr result (λ e. e ≡ Fault.Memory) }
     {
-        Ok(SyntaxToken::found(&self.table, self.table.prev_token(self.number))?)
+        Ok(SyntaxToken::option_at(&self.table, self.table.prev_token(self.number))?)
     }
 
-    // The token itself, found in the way of a node's first token.
-    pub(super) fn first_token(&self) -> Result<Option<SyntaxToken>, AllocError>
-        ensures { IfOk result (λ found. found ≡ first_token self.now) }
+    // The token itself, which is the first and the last of its tokens.
+    pub(super) fn own_token(&self) -> Result<Option<SyntaxToken>, AllocError>
+        ensures first { IfOk result (λ found. found ≡ first_token self.now) }
+        ensures last { IfOk result (λ found. found ≡ last_token self.now) }
     {
-        SyntaxToken::found(&self.table, self.table.first_token(self.number))
-    }
-
-    // The token itself, found in the way of a node's last token.
-    pub(super) fn last_token(&self) -> Result<Option<SyntaxToken>, AllocError>
-        ensures { IfOk result (λ found. found ≡ last_token self.now) }
-    {
-        SyntaxToken::found(&self.table, self.table.last_token(self.number))
+        let token = SyntaxToken::at(&self.table, self.number)?;
+        Ok(Some(token))
     }
 
     /// The nodes above the token: its parent, and so on up to the root.
-    /// An item is `Err(Fault::Memory)` where the tree cannot be shared once more; then the iterator ends.
     pub fn ancestors(&self) -> Ancestors
         ensures ok { IfOk result (λ list. list ≡ parent_ancestors self.now) }
         ensures err { IfErr result (λ e. e ≡ Fault.Memory) }
     {
-        Ancestors::new(Climb::new(&self.table, self.table.parent(self.number)))
+        Ancestors::new(&self.table, Climb::new(self.table.parent(self.number)))
     }
 
     /// The token, and then its siblings in a direction, nearest first.
-    /// An item is `Err(Fault::Memory)` where the tree cannot be shared once more; then the iterator ends.
     pub fn siblings_with_tokens(&self, direction: Direction) -> SiblingsWithTokens
         ensures ok { IfOk result (λ list. list ≡ siblings_with_tokens direction self.now) }
         ensures err { IfErr result (λ e. e ≡ Fault.Memory) }
     {
-        SiblingsWithTokens::new(Row::siblings(&self.table, self.number, direction))
+        SiblingsWithTokens::new(
+            &self.table,
+            Row::siblings(&self.table, self.number, direction),
+        )
     }
 }
 

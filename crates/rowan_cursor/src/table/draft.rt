@@ -18,6 +18,9 @@ const MIN_FIRST_BYTES: usize = 16;
 // And at most: for 27 MB of memory.
 const MAX_FIRST_BYTES: usize = 1 << 21;
 
+// How many entries a table has at most: so many numbers of 32 bits stand for one.
+const MAX_ENTRIES: usize = u32::MAX as usize;
+
 // For how many nodes that wait a table has room at first, while it is filled.
 const FIRST_WAITING: usize = 64;
 
@@ -33,11 +36,13 @@ pub(super) struct Waiting<'a> {
 // Beside a table its nodes wait while it is filled, so they have to be small.
 const _: () = prove!(size_of::<Waiting<'_>>() == 16);
 
-/// A table that is still to be filled. The nodes that have entries and no places stand in a list and wait, and the last of them is
-/// the next. A node's block is read once, when its turn comes: then it gets its place in the table's list of nodes, which its entry
-/// is told, and its children get entries, behind all others. Those of them that are nodes wait with the first one last, so each subtree
-/// is gone through as a whole before what stands behind it: nodes get their places, and their children entries, in the order of the
-/// text, in which a walk reads them. Those that wait are siblings of the nodes on one path.
+/// A table that is still to be filled. The nodes that have entries and no places stand in a list
+/// and wait, and the last of them is the next. A node's block is read once, when its turn comes:
+/// then it gets its place in the table's list of nodes, which its entry names, and its children
+/// get entries, behind all others. Those of them that are nodes wait with the first one last, so
+/// each subtree is gone through as a whole before what stands behind it: nodes get their places,
+/// and their children entries, in the order of the text, in which a walk reads them. Those that
+/// wait are siblings of the nodes on one path.
 #[derive(Drop)]
 pub(super) struct Draft<'a> {
     entries: Vec<Entry>,
@@ -49,8 +54,11 @@ impl<'a> Draft<'a> {
     ghost use Rattle.std.specs.Prelude.{◌≡◌, ◌+◌, ◌<◌, IfOk, OnOk, IfSome, IsNone, length};
     ghost use Rattle.std.specs.List.Sorted.{IsPermutation};
     ghost use Rattle.rowan_green.specs.Term.{node_children};
-    ghost use Rattle.rowan_cursor.specs.DraftView.{IsFilled, IsFilledWith, HasTheirs, IsTaken, IsDone, IsNextIndex, AddsChild, HasRoom, IsKept, TakesPlace, draft_root, draft_root_with, size_left, size_left_with};
-    ghost use Rattle.rowan_cursor.specs.TableView.{root_of};
+    ghost use Rattle.rowan_cursor.specs.DraftView.{IsFilled, IsFilledWith, HasTheirs, IsTaken};
+    ghost use Rattle.rowan_cursor.specs.DraftView.{IsDone, IsNextIndex, AddsChild, HasRoom, IsKept};
+    ghost use Rattle.rowan_cursor.specs.DraftView.{TakesPlace, draft_root, draft_root_with};
+    ghost use Rattle.rowan_cursor.specs.DraftView.{size_left, size_left_with};
+    ghost use Rattle.rowan_cursor.specs.TableView.{root_of, entry_limit};
 
     /// The entry of the root alone.
     pub(super) fn new(alloc: Global, root: &'a GreenNode) -> Result<Draft<'a>, AllocError>
@@ -60,7 +68,8 @@ impl<'a> Draft<'a> {
     {
         let bytes = first_bytes(root.text_len());
         let mut draft = Draft {
-            // Three nodes and tokens in four bytes, and one of them a node, are more than most trees have.
+            // Three nodes and tokens in four bytes, and one of them a node, are more than most
+            // trees have.
             entries: Vec::with_capacity(alloc, bytes - bytes / 4)?,
             nodes: Nodes::with_capacity(alloc, bytes / 4)?,
             waiting: Vec::with_capacity(alloc, FIRST_WAITING)?,
@@ -87,7 +96,8 @@ impl<'a> Draft<'a> {
         self.waiting.pop()
     }
 
-    // Makes room for so many nodes and tokens more, of which all may be nodes. Where there is enough room, this calls nothing.
+    // Makes room for so many nodes and tokens more, of which all may be nodes. Where there is
+    // enough room, this calls nothing.
     fn reserve(&mut self, additional: usize) -> Result<(), AllocError>
         ensures kept { IsKept self.old self.new }
         ensures room { OnOk result (HasRoom self.new additional) }
@@ -101,7 +111,8 @@ impl<'a> Draft<'a> {
         Ok(())
     }
 
-    /// Gives the node that was the next its place, and its children their entries. Refused, too, where there are no more numbers.
+    /// Gives the node that was the next its place, and its children their entries. Refused, too,
+    /// where there are no more numbers.
     pub(super) fn push_children(&mut self, parent: &Waiting<'a>) -> Result<(), AllocError>
         requires draft { IsFilledWith self.old parent.now }
         requires children { HasTheirs self.old }
@@ -115,7 +126,7 @@ impl<'a> Draft<'a> {
         let Some(end) = first_child.checked_add(count) else {
             return Err(AllocError);
         };
-        if end > u32::MAX as usize {
+        if end > MAX_ENTRIES {
             return Err(AllocError);
         }
         self.reserve(count)?;
@@ -130,7 +141,8 @@ impl<'a> Draft<'a> {
         Ok(())
     }
 
-    // Turns those round that wait from a place in their list on, so that the first of them is the next.
+    // Turns those round that wait from a place in their list on, so that the first of them is the
+    // next.
     fn turn_round(&mut self, place: usize)
         requires { place ≤ length self.old.waiting.items }
         ensures waiting { IsPermutation self.old.waiting.items self.new.waiting.items }
@@ -140,13 +152,14 @@ impl<'a> Draft<'a> {
         self.waiting[place..].reverse();
     }
 
-    // Adds the entry of the child at an index of a node, for which there is room. The child's number is the next.
+    // Adds the entry of the child at an index of a node, for which there is room. The child's
+    // number is the next.
     #[inline(always)]
     fn push_child(&mut self, parent: &Waiting<'a>, index: usize)
         requires draft { IsFilled self.old }
         requires place { IsNextIndex self.old parent.now index }
         requires index { index < length (node_children parent.now.node.now) }
-        requires number { length self.old.entries.items < 4294967295 }
+        requires number { length self.old.entries.items < entry_limit }
         requires room { HasRoom self.old 1 }
         ensures added { AddsChild self.old self.new parent.now.node.now index }
         ensures room { TakesPlace self.old self.new }
@@ -195,7 +208,8 @@ impl<'a> Draft<'a> {
     }
 }
 
-// One more owner of a node, or, where the count of its owners is full, one of a node with the same children, which has a count of its own.
+// One more owner of a node, or, where the count of its owners is full, one of a node with the same
+// children, which has a count of its own.
 #[inline(always)]
 fn owner_of(node: &GreenNode) -> Result<GreenNode, AllocError>
     ensures { IfOk result (λ owner. owner ≡ node.now) }
@@ -216,8 +230,9 @@ fn twin_of(node: &GreenNode) -> Result<GreenNode, AllocError>
     }
 }
 
-// For how many bytes of text a table asks for room at first: for all of a text, so that its lists need not grow. They do where
-// the text has more nodes and tokens than there is room for, or more bytes.
+// For how many bytes of text a table asks for room at first: for all of a text, so that its lists
+// need not grow. They do where the text has more nodes and tokens than there is room for, or more
+// bytes.
 fn first_bytes(text_len: TextSize) -> usize
     ensures { 16 ≤ result }
 {

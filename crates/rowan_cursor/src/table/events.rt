@@ -1,7 +1,8 @@
 //! From event to event of a walk: an element is entered before what is below it, and left after.
 ghost use Rattle.std.specs.Prelude.{◌≡◌, ◌∷◌, true, Some};
 ghost use Rattle.rowan_green.specs.WalkEvent.{event_value};
-ghost use Rattle.rowan_cursor.specs.Events.{NextStays, LeavesNoToken, behind_path, event_of, remaining_events};
+ghost use Rattle.rowan_cursor.specs.Events.{NextStays, LeavesNoToken, behind_path, event_of};
+ghost use Rattle.rowan_cursor.specs.Events.{remaining_events};
 ghost use Rattle.rowan_cursor.specs.TablePass.{StandsInside};
 ghost use Rattle.rowan_cursor.specs.TableView.{root_of, path_at, stands_for_node};
 

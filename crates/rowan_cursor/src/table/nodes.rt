@@ -1,5 +1,6 @@
 //! The nodes of a table.
-ghost use Rattle.std.specs.Prelude.{◌≡◌, ◌<◌, ◌++◌, ◌∷◌, [], length, slice_get, Some, IfOk, OnOk, OnErr};
+ghost use Rattle.std.specs.Prelude.{◌≡◌, ◌<◌, ◌++◌, ◌∷◌, [], length, slice_get, Some, IfOk, OnOk};
+ghost use Rattle.std.specs.Prelude.{OnErr};
 ghost use Rattle.std.specs.Vec.{vec_len, vec_capacity};
 ghost use Rattle.rowan_cursor.specs.Nodes.{Inner, inner};
 
@@ -7,8 +8,8 @@ use rowan_green::green::GreenNode;
 use std::alloc::{AllocError, Global};
 use std::marker::Model;
 
-/// The nodes of a tree, each with the number of its first child. These stand in two lists, and so take 12 bytes for each node, where
-/// one list of both would take 16.
+/// The nodes of a tree, each with the number of its first child. These stand in two lists, and so
+/// take 12 bytes for each node, where one list of both would take 16.
 #[derive(Drop)]
 pub(super) struct Nodes {
     greens: Vec<GreenNode>,
@@ -50,7 +51,8 @@ impl Nodes {
     /// A node, by its number among them.
     pub(super) fn green(&self, node: usize) -> &GreenNode
         requires { node < length self.now }
-        ensures { (found : Inner) → slice_get self.now node ≡ Some found → result.now ≡ found.green }
+        ensures { (found : Inner) → slice_get self.now node ≡ Some found
+            → result.now ≡ found.green }
     {
         &self.greens[node]
     }
@@ -58,7 +60,8 @@ impl Nodes {
     /// The number of its first child.
     pub(super) fn first_child(&self, node: usize) -> usize
         requires { node < length self.now }
-        ensures { (found : Inner) → slice_get self.now node ≡ Some found → result ≡ found.first_child }
+        ensures { (found : Inner) → slice_get self.now node ≡ Some found
+            → result ≡ found.first_child }
     {
         self.first_children[node] as usize
     }
@@ -95,8 +98,9 @@ fn reserve_one<T>(list: &mut Vec<T>) -> Result<(), AllocError>
     Ok(())
 }
 
-/// Gives back what a list has left over, where it fills less than half of its room. Else the room stays: a block that got smaller
-/// would make the allocator take the one of the next table from the system again, page by page.
+/// Gives back what a list has left over, where it fills less than half of its room. Else the room
+/// stays: a block that got smaller would make the allocator take the one of the next table from the
+/// system again, page by page.
 pub(super) fn give_back<T>(list: &mut Vec<T>)
     ensures { list.new.items ≡ list.old.items }
 {

@@ -7,7 +7,8 @@ ghost use Rattle.rowan_green.specs.TokenAtOffset.{tokens_of};
 ghost use Rattle.rowan_cursor.specs.Chunks.{SkipsTo};
 ghost use Rattle.rowan_cursor.specs.Cursor.{text_range};
 ghost use Rattle.rowan_cursor.specs.Moves.{child_count};
-ghost use Rattle.rowan_cursor.specs.Search.{IsRangeChild, IsOnlyRangeChild, CountsSearch, Covers, IsChildBefore, IsLeafOver, touching};
+ghost use Rattle.rowan_cursor.specs.Search.{IsRangeChild, IsOnlyRangeChild, CountsSearch, Covers};
+ghost use Rattle.rowan_cursor.specs.Search.{IsChildBefore, IsLeafOver, touching};
 
 use super::Table;
 use rowan_green::steps::Steps;
@@ -22,7 +23,8 @@ struct Place {
 }
 
 impl Table {
-    ghost use Rattle.rowan_cursor.specs.TableView.{root_of, path_at, cursor_of, IsWithin, IsTokenIn, IsPlace, IsChildUpTo};
+    ghost use Rattle.rowan_cursor.specs.TableView.{root_of, path_at, cursor_of, IsWithin};
+    ghost use Rattle.rowan_cursor.specs.TableView.{IsTokenIn, IsPlace, IsChildUpTo};
 
     fn place(&self, number: usize) -> Place
         requires { IsWithin self.now number }
@@ -55,8 +57,8 @@ impl Table {
         Some(child.number)
     }
 
-    // Where the text of a child lies: up to where the next child's begins, and the last's up to where the parent's ends. The
-    // children's numbers go up to `stop`.
+    // Where the text of a child lies: up to where the next child's begins, and the last's up to
+    // where the parent's ends. The children's numbers go up to `stop`.
     fn child_range(&self, child: usize, stop: usize, end: TextSize) -> TextRange
         requires { IsChildUpTo self.now stop end child }
         ensures { result ≡ text_range (cursor_of self.now child) }
@@ -68,8 +70,8 @@ impl Table {
         TextRange::new(start, self.start(child + 1))
     }
 
-    // The only child that can be the one at a range; none, if there are no children. By halves: it reads entries alone, which
-    // stand side by side. Counts the comparisons.
+    // The only child that can be the one at a range; none, if there are no children. By halves: it
+    // reads entries alone, which stand side by side. Counts the comparisons.
     #[inline(always)]
     fn only_child_at(&self, parent: &Place, range: TextRange, steps: &mut Steps) -> Option<Place>
         requires place { IsPlace self.now parent.now }
@@ -81,7 +83,8 @@ impl Table {
         ensures none { IsNone result
             → child_count (root_of self.now) (path_at self.now parent.now.number) ≡ 0 }
         ensures later { IfSome result (λ c. parent.now.number < c.number) }
-        ensures counts { let children = child_count (root_of self.now) (path_at self.now parent.now.number) in
+        ensures counts { let here = path_at self.now parent.now.number in
+            let children = child_count (root_of self.now) here in
             CountsSearch children (IsSome result) steps.old steps.new }
     {
         let children = self.child_numbers(parent.number);
@@ -109,8 +112,9 @@ impl Table {
         Some(Place { number, range })
     }
 
-    // The child at a range of the root's text. Counts the comparisons. Inlined, so that a search that goes down the tree makes no
-    // call for each node, and where nobody reads the count there is none.
+    // The child at a range of the root's text. Counts the comparisons. Inlined, so that a search
+    // that goes down the tree makes no call for each node, and where nobody reads the count there
+    // is none.
     #[inline(always)]
     fn child_in(&self, parent: &Place, range: TextRange, steps: &mut Steps) -> Option<Place>
         requires { IsPlace self.now parent.now }
@@ -121,7 +125,8 @@ impl Table {
         ensures none { let here = path_at self.now parent.now.number in
             IsNone result → (q : Path) → ¬ IsRangeChild (root_of self.now) range here q }
         ensures later { IfSome result (λ c. parent.now.number < c.number) }
-        ensures counts { let children = child_count (root_of self.now) (path_at self.now parent.now.number) in
+        ensures counts { let here = path_at self.now parent.now.number in
+            let children = child_count (root_of self.now) here in
             CountsSearch children (IsSome result) steps.old steps.new }
     {
         if range.start() < parent.range.start() {
@@ -160,7 +165,8 @@ impl Table {
         covering
     }
 
-    // The last child that starts before an offset of the root's text, or the first child, if none does. By halves.
+    // The last child that starts before an offset of the root's text, or the first child, if none
+    // does. By halves.
     fn child_before(&self, number: usize, offset: TextSize) -> Option<usize>
         requires { IsWithin self.now number }
         ensures child { let here = path_at self.now number in
@@ -187,7 +193,8 @@ impl Table {
         Some(child)
     }
 
-    /// An element at or below that at `top`: of the tokens there, all those before it end before an offset of the root's text.
+    /// An element at or below that at `top`: of the tokens there, all those before it end before an
+    /// offset of the root's text.
     pub(crate) fn skip_to(&self, top: usize, offset: TextSize) -> usize
         requires { IsWithin self.now top }
         ensures { SkipsTo self.now offset top result }
@@ -212,8 +219,8 @@ impl Table {
         self.covering(top, over).number
     }
 
-    // The tokens that have the byte before an offset of the root's text and the byte behind it, at or below a place that has
-    // both bytes. The searches part at the element that covers both.
+    // The tokens that have the byte before an offset of the root's text and the byte behind it, at
+    // or below a place that has both bytes. The searches part at the element that covers both.
     fn leaves_beside(&self, top: &Place, offset: TextSize) -> (usize, usize)
         // the place has both bytes
         requires place { IsPlace self.now top.now }
@@ -233,8 +240,8 @@ impl Table {
         (self.leaf_over(&both, before), self.leaf_over(&both, offset))
     }
 
-    /// The tokens at or below an entry that touch an offset of the root's text. The offset lies in the entry's text or at an end
-    /// of it.
+    /// The tokens at or below an entry that touch an offset of the root's text. The offset lies in
+    /// the entry's text or at an end of it.
     pub(crate) fn token_at_offset(&self, number: usize, offset: TextSize) -> TokenAtOffset<usize>
         requires number { IsWithin self.now number }
         requires offset { Holds (text_range (cursor_of self.now number)) offset }

@@ -1,4 +1,5 @@
-//! Where a builder's cache comes from and where it goes: it is lent to the builder, or the builder has its own.
+//! Where a builder's cache comes from and where it goes: it is lent to the builder, or the builder
+//! has its own.
 ghost use Rattle.std.specs.Prelude.{◌≡◌};
 
 use crate::node_cache::NodeCache;
@@ -24,9 +25,11 @@ impl CacheHome for NodeCache {
 }
 
 /// The home of a cache that is the builder's own: nothing is left of it.
-pub type OwnCache = [NoHome; 0];
+pub type OwnedCache = [NoHome; 0];
 
-/// No value of this type is made. An array without elements of it stands anywhere, and so needs no memory.
+/// No value of this type is made. An array without elements of it stands anywhere, and so needs no
+/// memory.
+#[doc(hidden)]
 #[derive(Drop)]
 pub struct NoHome;
 
@@ -36,8 +39,9 @@ impl CacheHome for [NoHome; 0] {
     fn leave(&mut self, _cache: NodeCache) {}
 }
 
-/// What has a cache by value. `GreenNodeBuilder` takes it as a type parameter with one instance, since only so a contract
-/// can say what its drop leaves.
+/// What has a cache by value. `GreenNodeBuilder` takes it as a type parameter with one instance,
+/// since only so a contract can say what its drop leaves.
+#[doc(hidden)]
 pub trait HoldsCache: Drop {
     ghost use Rattle.rowan_green.specs.Cache.{CacheValue};
 

@@ -4,30 +4,34 @@ ghost use Rattle.rowan_green.specs.declared.utility_types.NodeOrToken.TheVariant
 ghost use Rattle.rowan_green.specs.Builder.{new_builder, adds, opens, FinishesNode, WrapsAt};
 ghost use Rattle.rowan_green.specs.Fits.{byte_limit};
 ghost use Rattle.rowan_green.specs.Weave.{place_of_innermost};
-ghost use Rattle.rowan_green.specs.Word.{WhyNoToken, HasNoneOpen, WhyNotClosed, HasCount, IsPast, IsBeforeOpening, WhyNotWrapped, IsFinished, WhyUnfinished, word_text};
+ghost use Rattle.rowan_green.specs.Word.{WhyNoToken, HasNoneOpen, WhyNotClosed, HasCount, IsPast};
+ghost use Rattle.rowan_green.specs.Word.{IsBeforeOpening, WhyNotWrapped, IsFinished, WhyUnfinished};
+ghost use Rattle.rowan_green.specs.Word.{word_text};
 ghost use Rattle.rowan_green.specs.Term.{node_text};
 
 use crate::builder::Checkpoint;
 use crate::builder::loan::HoldsCache;
 use crate::fault::Fault;
-use crate::green::{GreenChild, GreenNode, SyntaxKind};
-use crate::node_cache::{NodeCache, Waiting};
+use crate::green::{GreenChild, GreenNode, MAX_TEXT_LEN, SyntaxKind};
+use crate::node_cache::{FinishedElements, NodeCache};
 use crate::utility_types::NodeOrToken;
 use std::alloc::{AllocError, Global};
 use std::marker::Model;
 
-// A node that is not finished: its kind, and the number of elements that were finished before it.
+// Where a node was opened that is not finished: its kind, and the number of elements that were
+// finished before it.
 #[derive(Clone, Copy)]
-struct OpenNode {
+struct Opening {
     kind: SyntaxKind,
     first_child: usize,
 }
 
 /// A builder that has its cache by value. `GreenNodeBuilder` makes its calls.
+#[doc(hidden)]
 #[derive(Drop)]
 pub struct OwningBuilder {
-    parents: Vec<OpenNode>,
-    finished: Waiting,
+    parents: Vec<Opening>,
+    finished: FinishedElements,
     cache: NodeCache,
 }
 
@@ -68,7 +72,7 @@ impl OwningBuilder {
     {
         OwningBuilder {
             parents: Vec::new(alloc),
-            finished: Waiting::new(alloc),
+            finished: FinishedElements::new(alloc),
             cache,
         }
     }
@@ -80,7 +84,7 @@ impl OwningBuilder {
         ensures too_long { byte_limit < length text.now → result ≡ Err Fault.TextTooLong }
         ensures unchanged { OnErr result (self.new ≡ self.old) }
     {
-        if text.len() > u32::MAX as usize {
+        if text.len() > MAX_TEXT_LEN {
             return Err(Fault::TextTooLong);
         }
         self.finished.reserve()?;
@@ -94,7 +98,7 @@ impl OwningBuilder {
         ensures unchanged { OnErr result (self.new ≡ self.old) }
     {
         let first_child = self.finished.len();
-        open(&mut self.parents, OpenNode { kind, first_child })?;
+        open(&mut self.parents, Opening { kind, first_child })?;
         Ok(())
     }
 
@@ -146,7 +150,7 @@ impl OwningBuilder {
         if place < innermost_place(self.parents.as_slice()) {
             return Err(Fault::CheckpointBefore);
         }
-        let node = OpenNode {
+        let node = Opening {
             kind,
             first_child: place,
         };
@@ -199,10 +203,10 @@ impl OwningBuilder {
     }
 }
 
-// Opens a node inside those that are open. A tree has many nodes, so the list is asked for room where it has none, and is not where it
-// has.
+// Opens a node inside those that are open. A tree has many nodes, so the list is asked for room
+// where it has none, and is not where it has.
 #[inline(always)]
-fn open(parents: &mut Vec<OpenNode>, node: OpenNode) -> Result<(), AllocError>
+fn open(parents: &mut Vec<Opening>, node: Opening) -> Result<(), AllocError>
     ensures items { OnOk result (parents.new.items ≡ parents.old.items ++ node ∷ []) }
     ensures unchanged { OnErr result (parents.new.items ≡ parents.old.items) }
 {
@@ -214,7 +218,7 @@ fn open(parents: &mut Vec<OpenNode>, node: OpenNode) -> Result<(), AllocError>
 }
 
 // The place of the innermost open node, or 0.
-fn innermost_place(parents: &[OpenNode]) -> usize
+fn innermost_place(parents: &[Opening]) -> usize
     ensures { result ≡ place_of_innermost 0 parents.now }
 {
     match parents.last() {

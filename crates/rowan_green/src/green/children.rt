@@ -8,8 +8,8 @@ use std::fmt;
 use std::iter::FusedIterator;
 use std::marker::Model;
 
-/// The children of a node that are left, from both ends. An item is `Err(Fault::Memory)` where a child cannot be shared once
-/// more, and then nothing is left.
+/// The children of a node that are left, from both ends. An item is `Err(Fault::Memory)` where a
+/// child cannot be shared once more, and then nothing is left.
 #[derive(Drop)]
 pub struct Children<'a> {
     rest: &'a [GreenChild],

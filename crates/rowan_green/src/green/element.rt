@@ -12,7 +12,8 @@ use std::alloc::AllocError;
 /// A green node or token. It is made from either by `From`.
 pub type GreenElement = NodeOrToken<GreenNode, GreenToken>;
 
-/// A green node or token that is lent. `to_owned` shares it, and is the only call whose answer may be an `Err`.
+/// A green node or token that is lent. `to_owned` shares it, and is the only call whose answer may
+/// be an `Err`.
 pub type GreenElementRef<'a> = NodeOrToken<&'a GreenNode, &'a GreenToken>;
 
 impl GreenElement {
@@ -74,7 +75,8 @@ impl<'a> GreenElementRef<'a> {
         }
     }
 
-    /// The node or token itself, which is shared. Refused with `Memory` where it cannot be shared once more.
+    /// The node or token itself, which is shared. Refused with `Memory` where it cannot be shared
+    /// once more.
     pub fn to_owned(self) -> Result<GreenElement, Fault>
         ensures ok { IfOk result (λ element. element ≡ pointee self.entry) }
         ensures err { IfErr result (λ e. e ≡ Fault.Memory) }

@@ -10,8 +10,8 @@ use crate::steps::Steps;
 use crate::text::{TextRange, TextSize};
 use std::cmp::Ordering;
 
-// A search reads the list of children alone: a child ends where the next one begins, and the last where the text ends. What a
-// child refers to lies elsewhere in memory, and would be waited for.
+// A search reads the list of children alone: a child ends where the next one begins, and the last
+// where the text ends. What a child refers to lies elsewhere in memory, and would be waited for.
 impl GreenChild {
     // Where the child at an index lies in its node's text.
     pub(super) fn rel_range(children: &[GreenChild], text_len: TextSize, index: usize) -> TextRange
@@ -28,7 +28,8 @@ impl GreenChild {
         TextRange::new(start, end)
     }
 
-    // How the child at an index lies to a range: before it, over some of it, or behind it. A search compares by this alone.
+    // How the child at an index lies to a range: before it, over some of it, or behind it. A search
+    // compares by this alone.
     fn compare(
         children: &[GreenChild],
         text_len: TextSize,
@@ -57,8 +58,8 @@ impl GreenChild {
         GreenChild::rel_range(children, text_len, index).ordering(range)
     }
 
-    // The place of a child that lies over some of the range. Where there is none, it is that of the last child before the
-    // range, or else the first place.
+    // The place of a child that lies over some of the range. Where there is none, it is that of the
+    // last child before the range, or else the first place.
     pub(super) fn search(
         children: &[GreenChild],
         text_len: TextSize,

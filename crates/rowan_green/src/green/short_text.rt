@@ -6,7 +6,8 @@ use std::str;
 // The longest text that takes no memory of its own: most words, names and blanks of a source.
 const SHORT_LEN: usize = 19;
 
-// A text of a few bytes, which lie in the value itself. Its length takes one byte, so that a token's kind and text fit in 24.
+// A text of a few bytes, which lie in the value itself. Its length takes one byte, so that a
+// token's kind and text fit in 24.
 #[derive(Drop)]
 pub(super) struct ShortText {
     len: u8,

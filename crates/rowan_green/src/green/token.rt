@@ -3,8 +3,8 @@ ghost use Rattle.rowan_green.specs.Fits.{byte_limit, FitsToken};
 ghost use Rattle.rowan_green.specs.Term.{token_of, token_len};
 
 use crate::fault::Fault;
-use crate::green::SyntaxKind;
 use crate::green::token_data::TokenData;
+use crate::green::{MAX_TEXT_LEN, SyntaxKind};
 use crate::text::TextSize;
 use std::alloc::{AllocError, Global};
 use std::fmt;
@@ -12,8 +12,8 @@ use std::hash::{Hash, Hasher};
 use std::marker::Model;
 use std::rc::Rc;
 
-/// A leaf of a tree: a kind and a text in UTF-8, which may be empty. A clone shares the text, and is an `Err` where the token
-/// cannot be shared once more, since the count of its owners is full.
+/// A leaf of a tree: a kind and a text in UTF-8, which may be empty. A clone shares the text, and
+/// is an `Err` where the token cannot be shared once more, since the count of its owners is full.
 #[derive(Drop)]
 pub struct GreenToken {
     data: Rc<TokenData>,
@@ -36,14 +36,15 @@ impl Model for GreenToken {
 }
 
 impl GreenToken {
-    /// The token of a kind and a text. Refused with `TextTooLong` past 4,294,967,295 bytes, and else only for want of memory.
+    /// The token of a kind and a text. Refused with `TextTooLong` past 4,294,967,295 bytes, and
+    /// else only for want of memory.
     pub fn new(alloc: Global, kind: SyntaxKind, text: &str) -> Result<GreenToken, Fault>
         ensures ok { IfOk result (λ t. t ≡ token_of kind.0 text.now) }
         ensures err { IfErr result (λ e. e ≢ Fault.Memory → e ≡ Fault.TextTooLong) }
         ensures too_long { byte_limit < length text.now → result ≡ Err Fault.TextTooLong }
         ensures fits { result ≡ Err Fault.TextTooLong → byte_limit < length text.now }
     {
-        if text.len() > u32::MAX as usize {
+        if text.len() > MAX_TEXT_LEN {
             return Err(Fault::TextTooLong);
         }
         let data = Rc::new(alloc, TokenData::new(alloc, kind, text)?)?;

@@ -1,6 +1,7 @@
 //! The newest token of each text of one byte, by its number in the cache.
 ghost use Rattle.std.specs.Prelude.{◌≡◌, ◌<◌, [], ◌∷◌, IfSome};
 ghost use Rattle.rowan_green.specs.Bytes.{IsNumberOf, ComesFrom, ComesFromOrIs};
+ghost use Rattle.rowan_green.specs.Link.{link_limit};
 
 use crate::link::Link;
 use std::alloc::{AllocError, Global};
@@ -8,8 +9,9 @@ use std::alloc::{AllocError, Global};
 // How many values a byte has.
 const BYTES: usize = 256;
 
-// Of each byte, the number of the newest token that has it as its whole text. Most tokens of a source are marks and blanks of
-// one byte: these are found without a hash, and their texts are not compared.
+// Of each byte, the number of the newest token that has it as its whole text. Most tokens of a
+// source are marks and blanks of one byte: these are found without a hash, and their texts are not
+// compared.
 #[derive(Drop)]
 pub(super) struct ByteTokens {
     // No places before the first such token comes.
@@ -50,7 +52,7 @@ impl ByteTokens {
 
     // Sets the number for a text, if that is one byte and there is room for it.
     pub(super) fn set(&mut self, text: &str, number: u32)
-        requires { number < 4294967295 }
+        requires { number < link_limit }
         ensures { ComesFromOrIs text.now number self.old.newest.items self.new.newest.items }
     {
         let Some(byte) = only_byte(text) else {

@@ -1,21 +1,27 @@
 //! Places by their hashes: the places whose hashes have one bucket are a chain, the newest first.
-ghost use Rattle.std.specs.Prelude.{◌≡◌, ◌+◌, ◌<◌, List, ℕ, [], ◌++◌, ◌∷◌, length, map, replicate, Option, None, Some, IfOk, OnOk, OnErr};
+ghost use Rattle.std.specs.Prelude.{◌≡◌, ◌+◌, ◌<◌, List, ℕ, [], ◌++◌, ◌∷◌, length, map, replicate};
+ghost use Rattle.std.specs.Prelude.{Option, None, Some, IfOk, OnOk, OnErr};
 ghost use Rattle.std.specs.List.{slice_get};
-ghost use Rattle.rowan_green.specs.Chains.{bucket, hashes_of, older_of, IsNewest, IsOnChain, AreLinked};
+ghost use Rattle.rowan_green.specs.Chains.{bucket, hashes_of, older_of, IsNewest, IsOnChain};
+ghost use Rattle.rowan_green.specs.Chains.{AreLinked};
+ghost use Rattle.rowan_green.specs.Link.{link_limit};
 
 use crate::link::Link;
 use std::alloc::{AllocError, Global};
 use std::marker::Model;
 
-// The greatest number of places. Each has a number of 32 bits, of which the greatest stands for none.
+// The greatest number of places. Each has a number of 32 bits, of which the greatest stands for
+// none.
 const MAX_PLACES: usize = u32::MAX as usize;
 
-// The number of buckets that the first place takes. It is doubled as the places grow, so it is a power of two.
+// The number of buckets that the first place takes. It is doubled as the places grow, so it is a
+// power of two.
 const FIRST_BUCKETS: usize = 16;
 
-// A place: its hash, and the newest of the older places in its bucket. A walk along a chain needs both of each, so they lie side by side.
+// A place: its hash, and the newest of the older places in its bucket. A walk along a chain needs
+// both of each, so they lie side by side.
 #[derive(Clone, Copy)]
-pub(crate) struct Place {
+pub(crate) struct ChainLink {
     pub(crate) hash: u32,
     pub(crate) older: Link,
 }
@@ -23,7 +29,7 @@ pub(crate) struct Place {
 #[derive(Drop)]
 pub(super) struct Chains {
     alloc: Global,
-    places: Vec<Place>,
+    places: Vec<ChainLink>,
     // The newest place of each bucket. There are no fewer buckets than places.
     newest: Vec<Link>,
 }
@@ -38,7 +44,10 @@ impl Model for Chains {
 
     ghost use Rattle.rowan_green.specs.Chains.{hashes_of, older_of, AreChains};
 
-    ghost view = { λ c. record { hashes = hashes_of c.places.items; count = length c.newest.items } };
+    ghost view = { λ c. record {
+      hashes = hashes_of c.places.items;
+      count = length c.newest.items;
+    } };
 
     ghost invariant = { λ c.
         AreChains (hashes_of c.places.items) c.newest.items (older_of c.places.items) };
@@ -80,7 +89,7 @@ impl Chains {
     pub(super) fn push(&mut self, hash: u32) -> Result<u32, AllocError>
         ensures ok { OnOk result (self.new.hashes ≡ self.old.hashes ++ hash ∷ []) }
         ensures place { IfOk result (λ n. n ≡ length self.old.hashes) }
-        ensures small { IfOk result (λ n. n < 4294967295) }
+        ensures small { IfOk result (λ n. n < link_limit) }
         ensures unchanged { OnErr result (self.new.hashes ≡ self.old.hashes) }
     {
         let place = self.places.len();
@@ -92,9 +101,10 @@ impl Chains {
         Ok(place as u32)
     }
 
-    // Sees that there is a bucket for one more place. Where there is none, makes more of them and links all places anew.
+    // Sees that there is a bucket for one more place. Where there is none, makes more of them and
+    // links all places anew.
     fn make_room(&mut self) -> Result<(), AllocError>
-        requires { length self.old.hashes < 4294967295 }
+        requires { length self.old.hashes < link_limit }
         ensures hashes { self.new.hashes ≡ self.old.hashes }
         ensures room { OnOk result (length self.old.hashes < self.new.count) }
     {
@@ -114,9 +124,10 @@ impl Chains {
     }
 }
 
-// How many buckets there are for so many places and more: a power of two wherever the number of places is one.
+// How many buckets there are for so many places and more: a power of two wherever the number of
+// places is one.
 fn buckets_for(places: usize) -> usize
-    requires { places < 4294967295 }
+    requires { places < link_limit }
     ensures { places < result }
 {
     if places == 0 {
@@ -135,12 +146,18 @@ fn no_places(alloc: Global, count: usize) -> Result<Vec<Link>, AllocError>
 }
 
 // Adds a place with this hash to its chain. A refused call changes neither list.
-fn add_place(newest: &mut Vec<Link>, places: &mut Vec<Place>, hash: u32) -> Result<(), AllocError>
+fn add_place(
+    newest: &mut Vec<Link>,
+    places: &mut Vec<ChainLink>,
+    hash: u32,
+) -> Result<(), AllocError>
     requires some { 0 < length newest.old.items }
-    requires small { length places.old.items < 4294967295 }
-    ensures ok { OnOk result (AreLinked (hashes_of places.old.items) newest.old.items (older_of places.old.items)
+    requires small { length places.old.items < link_limit }
+    ensures ok { OnOk result
+        (AreLinked (hashes_of places.old.items) newest.old.items (older_of places.old.items)
         → AreLinked (hashes_of places.new.items) newest.new.items (older_of places.new.items)) }
-    ensures hashes { OnOk result (hashes_of places.new.items ≡ hashes_of places.old.items ++ hash ∷ []) }
+    ensures hashes { OnOk result
+        (hashes_of places.new.items ≡ hashes_of places.old.items ++ hash ∷ []) }
     ensures len { length newest.new.items ≡ length newest.old.items }
     ensures newest { OnErr result (newest.new.items ≡ newest.old.items) }
     ensures places { OnErr result (places.new.items ≡ places.old.items) }
@@ -148,15 +165,16 @@ fn add_place(newest: &mut Vec<Link>, places: &mut Vec<Place>, hash: u32) -> Resu
     let number = places.len() as u32;
     let bucket = bucket(hash, newest.len());
     let older = newest[bucket];
-    places.push(Place { hash, older })?;
+    places.push(ChainLink { hash, older })?;
     newest[bucket] = Link::to(number);
     Ok(())
 }
 
 // The first place with this hash on the chain that goes on here.
-fn place_with(hash: u32, places: &[Place], next: Link) -> Option<u32>
+fn place_with(hash: u32, places: &[ChainLink], next: Link) -> Option<u32>
     requires { IsOnChain (hashes_of places.now) (older_of places.now) next }
-    ensures { (newest : List (Option ℕ)) (bound : ℕ) → AreLinked (hashes_of places.now) newest (older_of places.now)
+    ensures { (newest : List (Option ℕ)) (bound : ℕ)
+        → AreLinked (hashes_of places.now) newest (older_of places.now)
         → let count = length newest in
         IsNewest (map (bucket count) (hashes_of places.now)) bound (bucket count hash) next
         → IsNewest (hashes_of places.now) bound hash result }

@@ -1,5 +1,7 @@
-//! The values that a cache keeps, in the order in which it was first asked for them, and how their numbers are found.
-ghost use Rattle.std.specs.Prelude.{◌≡◌, ◌+◌, ◌<◌, ◌≤◌, List, [], ◌++◌, ◌∷◌, length, IfOk, OnOk, OnErr, IfSome, IsNone, Some, false};
+//! The values that a cache keeps, in the order in which it was first asked for them, and how their
+//! numbers are found.
+ghost use Rattle.std.specs.Prelude.{◌≡◌, ◌+◌, ◌<◌, ◌≤◌, List, [], ◌++◌, ◌∷◌, length, IfOk, OnOk};
+ghost use Rattle.std.specs.Prelude.{OnErr, IfSome, IsNone, Some, false};
 ghost use Rattle.std.specs.List.{slice_get};
 ghost use Rattle.rowan_green.specs.declared.utility_types.NodeOrToken.TheVariants.{Node, Token};
 ghost use Rattle.rowan_green.specs.Lent.{pointee};
@@ -7,7 +9,10 @@ ghost use Rattle.rowan_green.specs.Term.{Term, token_of, node_of};
 ghost use Rattle.rowan_green.specs.Same.{same_term};
 ghost use Rattle.rowan_green.specs.Cache.{is_among};
 ghost use Rattle.rowan_green.specs.Path.{term_children};
-ghost use Rattle.rowan_green.specs.Tables.{with_kind, token_hash, node_hash, key_hash, kept_of, kept_term, first_number, kept_parent, with_parent, is_node_by, StandAt, KeepsLimits};
+ghost use Rattle.rowan_green.specs.Tables.{with_kind, token_hash, node_hash, key_hash, kept_of};
+ghost use Rattle.rowan_green.specs.Tables.{kept_term, first_number, kept_parent, with_parent};
+ghost use Rattle.rowan_green.specs.Tables.{is_node_by, StandAt, KeepsLimits};
+ghost use Rattle.rowan_green.specs.Link.{link_limit};
 
 use crate::green::{GreenElement, GreenElementRef, GreenNode, GreenToken, SyntaxKind};
 use crate::link::Link;
@@ -18,8 +23,8 @@ use std::hash::{FoldHasher, Hasher};
 use std::marker::Model;
 use std::mem;
 
-// A value that a cache keeps: a token and the number of the newest node over it alone, or a node and where the numbers of its
-// children begin in the table's list of these.
+// A value that a cache keeps: a token and the number of the newest node over it alone, or a node
+// and where the numbers of its children begin in the table's list of these.
 #[derive(Drop)]
 enum Kept {
     Token { parent: Link, token: GreenToken },
@@ -29,11 +34,13 @@ enum Kept {
 // A cache has many values, so each takes little memory.
 const _: () = prove!(mem::size_of::<Kept>() == 16);
 
-// Values, no two of which are equal. The place of a value is its number. The children of a node that is kept are kept too.
+// Values, no two of which are equal. The place of a value is its number. The children of a node
+// that is kept are kept too.
 #[derive(Drop)]
 pub(super) struct ValueTable {
     values: Vec<Kept>,
-    // The numbers of the children of each node that is kept, those of one node after those of another.
+    // The numbers of the children of each node that is kept, those of one node after those of
+    // another.
     child_numbers: Vec<u32>,
     // The places of the values by their hashes.
     chains: Chains,
@@ -121,8 +128,8 @@ impl ValueTable {
         None
     }
 
-    // The number of the newest node over the token with a number alone, if the node has this kind. Most nodes over one token are found
-    // so, without a hash.
+    // The number of the newest node over the token with a number alone, if the node has this kind.
+    // Most nodes over one token are found so, without a hash.
     pub(super) fn parent_number(&self, kind: SyntaxKind, child: u32) -> Option<u32>
         ensures { (ts : List Term) → StandAt self.now (child ∷ []) ts
             → IfSome result (λ n. slice_get self.now n ≡ Some (Node (node_of kind.0 ts))) }
@@ -136,8 +143,8 @@ impl ValueTable {
         None
     }
 
-    // Keeps a value from now on: a new one, with its hash and the numbers of its children. A refused call leaves the table as
-    // it was.
+    // Keeps a value from now on: a new one, with its hash and the numbers of its children. A
+    // refused call leaves the table as it was.
     pub(super) fn keep(
         &mut self,
         hash: u32,
@@ -150,7 +157,7 @@ impl ValueTable {
         requires hash { hash ≡ key_hash element numbers.now }
         ensures ok { OnOk result (self.new ≡ self.old ++ element ∷ []) }
         ensures number { IfOk result (λ n. n ≡ length self.old) }
-        ensures small { IfOk result (λ n. n < 4294967295) }
+        ensures small { IfOk result (λ n. n < link_limit) }
         ensures unchanged { OnErr result (self.new ≡ self.old) }
     {
         let Ok(first_child) = u32::try_from(self.child_numbers.len()) else {
@@ -193,7 +200,7 @@ impl Kept {
 
     // A token's newest parent is the node with a number from now on.
     fn set_parent(&mut self, number: u32)
-        requires { number < 4294967295 }
+        requires { number < link_limit }
         ensures { self.new ≡ with_parent number self.old }
     {
         match self {

@@ -1,4 +1,5 @@
-//! Wrappers of the nodes of s-expressions.
+//! Wrappers of the nodes of s-expressions. A call that looks at other nodes is refused as a move of
+//! a [`SyntaxNode`] is.
 use crate::sexp::lang::{Lang, SyntaxKind};
 use rowan::SyntaxNode;
 use rowan::ast::{AstChildren, AstNode, support};
@@ -93,8 +94,7 @@ impl Root {
     ghost use Rattle.rowan_green.specs.declared.fault.Fault.TheVariants.{Memory};
     ghost use Rattle.rowan_cursor.specs.Moves.{children};
 
-    /// The expressions of the text, in order: the child nodes that are atoms or lists. An item is `Err(Fault::Memory)` where the
-    /// tree cannot be shared once more; then the iterator ends.
+    /// The expressions of the text, in order: the child nodes that are atoms or lists.
     pub fn sexps(&self) -> AstChildren<Sexp>
         ensures ok { IfOk result (λ nodes. nodes ≡ children self.now) }
         ensures err { IfErr result (λ e. e ≡ Memory) }
@@ -111,8 +111,7 @@ impl List {
     ghost use Rattle.rowan_tool.specs.Casts.{is_list};
     ghost use Rattle.rowan_tool.specs.Sexp.{kind_of};
 
-    /// The expressions of the list, in order: the child nodes that are atoms or lists. An item is `Err(Fault::Memory)` where the
-    /// tree cannot be shared once more; then the iterator ends.
+    /// The expressions of the list, in order: the child nodes that are atoms or lists.
     pub fn sexps(&self) -> AstChildren<Sexp>
         ensures ok { IfOk result (λ nodes. nodes ≡ children self.now) }
         ensures list { casts_at kind_of is_list self.now ≡ true }

@@ -2,8 +2,8 @@
 ghost use Rattle.std.specs.Prelude.{◌≡◌, ◌↔◌, ◌<◌, ◌+◌, ◌^◌, IsTrue, [], ◌∷◌};
 ghost use Rattle.rowan_tool.specs.Grammar.{count_of, IsBalanced};
 
-/// Whether a text is that of one list: it begins with `(`, and the number of `(` less that of `)` becomes 0 at its last byte and
-/// nowhere before. Takes no memory.
+/// Whether a text is that of one list: it begins with `(`, and the number of `(` less that of `)`
+/// becomes 0 at its last byte and nowhere before. Takes no memory.
 pub fn is_balanced(text: &str) -> bool
     ensures { IsTrue result ↔ IsBalanced text.now }
 {

@@ -1,7 +1,8 @@
 //! The evaluation of s-expressions.
 ghost use Rattle.std.specs.Prelude.{◌≡◌, IfOk, IfErr};
 ghost use Rattle.std.specs.Option.{option_map};
-ghost use Rattle.rowan_tool.specs.Eval.{number_in, operator_in, result_of, atom_text_at, operator_at, value_at};
+ghost use Rattle.rowan_tool.specs.Eval.{number_in, operator_in, result_of, atom_text_at};
+ghost use Rattle.rowan_tool.specs.Eval.{operator_at, value_at};
 ghost use Rattle.rowan_tool.specs.Operation.{IsOperationOf};
 ghost use Rattle.rowan_tool.specs.Wrappers.{node_in};
 
@@ -59,8 +60,8 @@ pub(super) struct Operation {
 }
 
 impl Sexp {
-    /// The number that the expression reads, as [`Atom::eval`] and [`List::eval`] say, or `None` where it reads none. Refused only
-    /// for want of memory, where the tree cannot be shared once more.
+    /// The number that the expression reads, as [`Atom::eval`] and [`List::eval`] say, or `None`
+    /// where it reads none.
     #[cycle(eval)]
     pub fn eval(&self) -> Result<Option<i64>, Fault>
         ensures ok { IfOk result (λ value. value ≡ value_at (node_in self.now)) }
@@ -74,8 +75,8 @@ impl Sexp {
 }
 
 impl Atom {
-    /// The number that the atom's word writes: a sign or none, and then ASCII digits alone. `None` where it writes none, or one
-    /// past 64 bits with a sign.
+    /// The number that the atom's word writes: a sign or none, and then ASCII digits alone. `None`
+    /// where it writes none, or one past 64 bits with a sign.
     pub fn eval(&self) -> Result<Option<i64>, Fault>
         ensures ok { IfOk result (λ value. value ≡ value_at self.now) }
         ensures err { IfErr result (λ e. e ≡ Fault.Memory) }
@@ -95,13 +96,14 @@ fn number_in(text: &str) -> Option<i64>
 }
 
 impl List {
-    /// What the list's operator gives for its two numbers. The first expression is an atom with the operator, `+`, `-`, `*` or
-    /// `/`, and the second and third read the numbers, which may be lists again; further ones are not looked at. `None` where
-    /// one of these is missing or reads no number, where the divisor is 0, and where the result is past 64 bits with a sign. A
-    /// quotient is cut towards zero. Refused only for want of memory, where the tree cannot be shared once more.
+    /// What the list's operator gives for its two numbers. The first expression is an atom with the
+    /// operator, `+`, `-`, `*` or `/`, and the second and third read the numbers, which may be
+    /// lists again; further ones are not looked at. `None` where one of these is missing or reads
+    /// no number, where the divisor is 0, and where the result is past 64 bits with a sign. A
+    /// quotient is cut towards zero.
     ///
-    /// It calls itself for the lists in the second and third place: two calls deep for each level at which lists are nested
-    /// there. So the stack bounds how deep they may be.
+    /// It calls itself for the lists in the second and third place: two calls deep for each level
+    /// at which lists are nested there. So the stack bounds how deep they may be.
     #[cycle(eval)]
     pub fn eval(&self) -> Result<Option<i64>, Fault>
         ensures ok { IfOk result (λ value. value ≡ value_at self.now) }
@@ -119,7 +121,8 @@ impl List {
         Ok(operation.operator.apply(left, right))
     }
 
-    /// What the list computes, if its first three expressions are there and the first is an operator.
+    /// What the list computes, if its first three expressions are there and the first is an
+    /// operator.
     fn operation(&self) -> Result<Option<Operation>, Fault>
         ensures ok { IfOk result (IsOperationOf self.now) }
         ensures err { IfErr result (λ e. e ≡ Fault.Memory) }

@@ -28,16 +28,16 @@ pub fn tokens_have_one_tree()
         → m ≡ n }
 {}
 
-/// A balanced text is that of one closed list, which stands alone in the root of its tree; and a text that is that of one list is
-/// balanced.
+/// A balanced text is that of one closed list, which stands alone in the root of its tree; and a
+/// text that is that of one list is balanced.
 pub fn balanced_text_is_one_list()
     ensures one { (text : List ℕ) → IsUtf8 text → IsBalanced text
         → (list : NodeTerm) × IsOneList text list }
     ensures balanced { (text : List ℕ) (list : NodeTerm) → IsOneList text list → IsBalanced text }
 {}
 
-/// Where a node below the root of a text's tree becomes the list that another text is, the tree is that of the text with the other
-/// one in the node's range.
+/// Where a node below the root of a text's tree becomes the list that another text is, the tree is
+/// that of the text with the other one in the node's range.
 pub fn one_list_in_place_is_parsed()
     ensures { (text new : List ℕ) (tree list old n : NodeTerm) (i : ℕ) (p : Path)
         → IsParse text tree → IsOneList new list

@@ -10,7 +10,8 @@ use rowan::{Fault, GreenNode, SyntaxNode};
 use std::alloc::Global;
 use std::marker::Model;
 
-/// The tree of a text, as `parse` makes it. Of its calls only `syntax` and `root` can be refused, for want of memory.
+/// The tree of a text, as `parse` makes it. Of its calls only `syntax` and `root` can be refused,
+/// for want of memory.
 #[derive(Drop)]
 pub struct Parse {
     green: GreenNode,

@@ -1,5 +1,6 @@
 //! The parser of s-expressions: no text is refused for its form, and no byte of it is lost.
-ghost use Rattle.std.specs.Prelude.{◌≡◌, ◌≢◌, ℕ, ◌+◌, ◌<◌, ◌≤◌, [], ◌∷◌, ◌++◌, length, replicate, IfOk, IfErr, OnOk, OnErr};
+ghost use Rattle.std.specs.Prelude.{◌≡◌, ◌≢◌, ℕ, ◌+◌, ◌<◌, ◌≤◌, [], ◌∷◌, ◌++◌, length, replicate};
+ghost use Rattle.std.specs.Prelude.{IfOk, IfErr, OnOk, OnErr};
 ghost use Rattle.rowan_green.specs.Cache.{first_seen};
 ghost use Rattle.rowan_green.specs.Fits.{byte_limit};
 ghost use Rattle.rowan_green.specs.Loan.{word_of, value_of, loan_of, text_so_far};
@@ -8,7 +9,8 @@ ghost use Rattle.rowan_green.specs.declared.utility_types.NodeOrToken.TheVariant
 ghost use Rattle.rowan_green.specs.Term.{NodeTerm, node_text, token_of};
 ghost use Rattle.rowan_green.specs.Word.{Open, Leaf, Close, node_word};
 ghost use Rattle.rowan_tool.specs.Grammar.{IsParse};
-ghost use Rattle.rowan_tool.specs.Parsing.{IsInRoot, IsTree, symbols_of, open_after, Begins, InternsFirst};
+ghost use Rattle.rowan_tool.specs.Parsing.{IsInRoot, IsTree, symbols_of, open_after, Begins};
+ghost use Rattle.rowan_tool.specs.Parsing.{InternsFirst};
 ghost use Rattle.rowan_tool.specs.Sexp.{IsTextOf, number_of};
 
 use crate::sexp::lang::SyntaxKind;
@@ -17,14 +19,15 @@ use crate::sexp::parsed::Parse;
 use rowan::{Fault, GreenNodeBuilder, NodeCache};
 use std::alloc::Global;
 
-/// Parses a text. The tree holds each byte of it: a list that is never closed runs to the end of the text, and a parenthesis
-/// that closes no list stands in a node of its own. Refused with `TextTooLong` for a text of more than 4,294,967,295 bytes,
-/// before anything else, and else only for want of memory.
+/// Parses a text. The tree holds each byte of it: a list that is never closed runs to the end of
+/// the text, and a parenthesis that closes no list stands in a node of its own. Refused with
+/// `TextTooLong` for a text of more than 4,294,967,295 bytes, before anything else, and else only
+/// for want of memory.
 ///
 /// ```rust
 /// let parse = sexp::parse(alloc, "(+ 1 2")?;
-/// println!(rt; "{}", parse.green())?;                             // (+ 1 2
-/// println!(rt; "{}", parse.syntax(alloc)?.debug_tree(alloc)?)?;    // ROOT@0..6, and the lines below it
+/// println!(rt; "{}", parse.green())?;                           // (+ 1 2
+/// println!(rt; "{}", parse.syntax(alloc)?.debug_tree(alloc)?)?; // ROOT@0..6, and what is below
 /// ```
 pub fn parse(alloc: Global, text: &str) -> Result<Parse, Fault>
     ensures tree { IfOk result (IsParse text.now) }
@@ -37,9 +40,10 @@ pub fn parse(alloc: Global, text: &str) -> Result<Parse, Fault>
     parse_with(alloc, text, &mut cache)
 }
 
-/// Parses a text as `parse` does, with a cache that is lent to the builder: what stands in the cache is shared, and what the
-/// tree has of tokens and of small nodes is in the cache afterwards. A parse that is refused for want of memory leaves the first
-/// ones of these there, up to where it was refused; one of a text past the limit leaves the cache as it was.
+/// Parses a text as `parse` does, with a cache that is lent to the builder: what stands in the
+/// cache is shared, and what the tree has of tokens and of small nodes is in the cache afterwards.
+/// A parse that is refused for want of memory leaves the first ones of these there, up to where it
+/// was refused; one of a text past the limit leaves the cache as it was.
 pub fn parse_with(alloc: Global, text: &str, cache: &mut NodeCache) -> Result<Parse, Fault>
     ensures tree { IfOk result (IsParse text.now) }
     ensures text { IfOk result (λ p. node_text p ≡ text.now) }

@@ -8,7 +8,9 @@ ghost use Rattle.rowan_green.specs.Term.{NodeTerm, node_text};
 ghost use Rattle.rowan_cursor.specs.Cursor.{text_range};
 ghost use Rattle.rowan_tool.specs.Ancestors.{path_below, AreAncestors, IsReparseAt, WhyNoReparseAt};
 ghost use Rattle.rowan_tool.specs.Grammar.{IsParse, IsOneList};
-ghost use Rattle.rowan_tool.specs.Reparse.{IsReparse, WhyNoReparse, WhyNoList, IsListAt, is_list_at, HasNoList, edits_of, text_after, AreEdits, WhyNoEdits};
+ghost use Rattle.rowan_tool.specs.Reparse.{IsReparse, WhyNoReparse, WhyNoList, IsListAt};
+ghost use Rattle.rowan_tool.specs.Reparse.{is_list_at, HasNoList, edits_of, text_after, AreEdits};
+ghost use Rattle.rowan_tool.specs.Reparse.{WhyNoEdits};
 
 use crate::sexp::ast::List;
 use crate::sexp::balance::is_balanced;
@@ -18,12 +20,15 @@ use rowan::ast::AstNode;
 use rowan::{Fault, GreenNode, Language, NodeOrToken, Steps, TextRange, TextSize};
 use std::alloc::Global;
 
-/// The root of the tree in which a list is parsed anew: in its place stands the list that the new text is, and all else is the
-/// tree that it was, shared with the old one, which stays as it is. `Err(Fault::NotOneList)` where the new text is not one
-/// balanced list, which is looked at before all else, by a scan that takes no memory; `Err(Fault::TextTooLong)` where the new
-/// text, or a node of the new tree, would have more than 4,294,967,295 bytes; `Err(Fault::Memory)` for want of memory.
+/// The root of the tree in which a list is parsed anew: in its place stands the list that the new
+/// text is, and all else is the tree that it was, shared with the old one, which stays as it is.
+/// `Err(Fault::NotOneList)` where the new text is not one balanced list, which is looked at before
+/// all else, by a scan that takes no memory; `Err(Fault::TextTooLong)` where the new text, or a
+/// node of the new tree, would have more than 4,294,967,295 bytes; `Err(Fault::Memory)` for want of
+/// memory.
 ///
-/// Of the old tree only the nodes above the list are made anew, one for each; no text of it is read.
+/// Of the old tree only the nodes above the list are made anew, one for each; no text of it is
+/// read.
 pub fn reparse_list(alloc: Global, list: &List, new_text: &str) -> Result<GreenNode, Fault>
     ensures ok { IfOk result (IsReparse list.now new_text.now) }
     ensures text { let place = text_range list.now in IfOk result (λ n. node_text n
@@ -58,10 +63,11 @@ fn one_list(alloc: Global, text: &str) -> Result<GreenNode, Fault>
     Ok(list.clone()?)
 }
 
-/// Parses a text, and makes the edits in order, each in the tree that the one before it left: the list at the range is parsed
-/// anew from the string. Ranges count bytes of the text as it is then. The first edit that is refused ends it:
-/// `Err(Fault::NotFound)` where no list of the tree has the range, `Err(Fault::NotOneList)` where there is one, but the string is
-/// not one balanced list, and `Err(Fault::TextTooLong)` where the text would have more than 4,294,967,295 bytes, as where the
+/// Parses a text, and makes the edits in order, each in the tree that the one before it left: the
+/// list at the range is parsed anew from the string. Ranges count bytes of the text as it is then.
+/// The first edit that is refused ends it: `Err(Fault::NotFound)` where no list of the tree has the
+/// range, `Err(Fault::NotOneList)` where there is one, but the string is not one balanced list, and
+/// `Err(Fault::TextTooLong)` where the text would have more than 4,294,967,295 bytes, as where the
 /// first text has. `Err(Fault::Memory)` for want of memory.
 ///
 /// ```rust
@@ -90,8 +96,8 @@ pub fn reparse_all(
     Ok(green)
 }
 
-/// The root of the tree in which the list at a range is parsed anew. It reads the nodes on the way to the list alone, and makes
-/// one anew for each of them.
+/// The root of the tree in which the list at a range is parsed anew. It reads the nodes on the way
+/// to the list alone, and makes one anew for each of them.
 fn reparse_at(
     alloc: Global,
     green: &GreenNode,
@@ -113,8 +119,8 @@ struct Ancestor<'a> {
     index: usize,
 }
 
-/// The nodes above the list with a range in a tree of a text, from the root on. `Err(Fault::NotFound)` where there is no such
-/// list.
+/// The nodes above the list with a range in a tree of a text, from the root on.
+/// `Err(Fault::NotFound)` where there is no such list.
 fn list_at<'a>(
     alloc: Global,
     green: &'a GreenNode,
@@ -137,7 +143,7 @@ fn list_at<'a>(
             return Err(Fault::NotFound);
         };
         ancestors.push(Ancestor { node, index })?;
-        within = counted_from(start, within);
+        within = range_from(start, within);
         node = child;
     }
     Ok(ancestors)
@@ -152,7 +158,7 @@ fn is_list_at(node: &GreenNode, range: TextRange) -> bool
 }
 
 /// A range, counted from an offset that is not behind its start.
-fn counted_from(offset: TextSize, range: TextRange) -> TextRange
+fn range_from(offset: TextSize, range: TextRange) -> TextRange
     requires { offset ≤ range.start }
     ensures start { offset + result.start ≡ range.start }
     ensures end { offset + result.end ≡ range.end }
@@ -163,8 +169,8 @@ fn counted_from(offset: TextSize, range: TextRange) -> TextRange
     TextRange::new(start, end)
 }
 
-/// The root of a tree with another list in place of the one below these nodes: from the innermost of them up, one new node for
-/// each.
+/// The root of a tree with another list in place of the one below these nodes: from the innermost
+/// of them up, one new node for each.
 fn with_list(mut ancestors: Vec<Ancestor<'_>>, list: GreenNode) -> Result<GreenNode, Fault>
     requires { FitsNode list }
     ensures root { IfOk result (λ n. (root : NodeTerm) → AreAncestors root ancestors.entry.items

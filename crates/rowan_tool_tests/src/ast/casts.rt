@@ -135,7 +135,7 @@ fn pointers_to_wrappers_are_those_to_their_nodes(rt: HostRuntime) -> Result<(), 
 }
 
 /// The place of the wrapper to which a pointer leads.
-fn found(pointer: &AstPtr<EvenNode>, root: &Node) -> Result<usize, Fault> {
+fn index_of_target(pointer: &AstPtr<EvenNode>, root: &Node) -> Result<usize, Fault> {
     let wrapper = pointer.to_node(root)?;
     Ok(wrapper.syntax().index())
 }
@@ -151,7 +151,7 @@ fn pointers_lead_to_wrappers(rt: HostRuntime) -> Result<(), Fail> {
         (&child, Err(Fault::NotFound)),
         (&other, Err(Fault::NotFound)),
     ] {
-        assert!(rt; found(&pointer, root) == answer);
+        assert!(rt; index_of_target(&pointer, root) == answer);
     }
     Ok(())
 }

@@ -22,6 +22,9 @@ const NESTED: [Part; 7] = [Open(1), Open(3), Open(8), Leaf(2, "a"), Close, Close
 /// Two nodes of even raw kinds, one in the other.
 const DOUBLED: [Part; 7] = [Open(1), Open(2), Open(4), Leaf(7, "a"), Close, Close, Close];
 
+/// A node of an even raw kind, alone in a root of another even raw kind.
+const IN_TWO: [Part; 5] = [Open(2), Open(4), Leaf(7, "a"), Close, Close];
+
 /// The pointer to the node of an even kind in `FOUR`.
 fn pointer(alloc: Global) -> Result<SyntaxNodePtr<Numbers>, Fault> {
     let four = child_of(&root_of(alloc, &FOUR)?)?;
@@ -29,7 +32,7 @@ fn pointer(alloc: Global) -> Result<SyntaxNodePtr<Numbers>, Fault> {
 }
 
 /// The raw kind of the node to which that pointer leads in the tree of these parts.
-fn found(alloc: Global, parts: &[Part]) -> Result<u16, Fault> {
+fn raw_kind_of_target(alloc: Global, parts: &[Part]) -> Result<u16, Fault> {
     let root = root_of(alloc, parts)?;
     let found = pointer(alloc)?.to_node(&root)?;
     Ok(found.green().kind().0)
@@ -44,7 +47,7 @@ fn raw_kinds_of_one_meaning_are_found(rt: HostRuntime) {
         (NESTED.as_slice(), Ok(8)),
         (DOUBLED.as_slice(), Ok(2)),
     ] {
-        assert!(rt; found(rt.alloc(), parts) == answer);
+        assert!(rt; raw_kind_of_target(rt.alloc(), parts) == answer);
     }
 }
 
@@ -66,6 +69,16 @@ fn only_children_cost_a_comparison_each(rt: HostRuntime) -> Result<(), Fail> {
         let root = root_of(rt.alloc(), parts)?;
         assert!(rt; steps_from(rt.alloc(), &root)? == steps);
     }
+    Ok(())
+}
+
+#[test]
+fn the_pointer_of_an_inner_node_leads_to_the_root(rt: HostRuntime) -> Result<(), Fail> {
+    let root = root_of(rt.alloc(), &IN_TWO)?;
+    let inner = child_of(&root)?;
+    assert!(rt; SyntaxNodePtr::new(&inner) == pointer(rt.alloc())?);
+    assert!(rt; raw_kind_of_target(rt.alloc(), &IN_TWO) == Ok(2));
+    assert!(rt; steps_from(rt.alloc(), &root)? == (true, 0, 1));
     Ok(())
 }
 

@@ -10,23 +10,23 @@ use std::test::Fail;
 const DOUBLED: [Part; 5] = [Open(2), Open(4), Leaf(7, "a"), Close, Close];
 
 /// The root of that tree.
-fn doubled(alloc: Global) -> Result<Node, Fault> {
+fn root(alloc: Global) -> Result<Node, Fault> {
     Node::new_root(alloc, tree(alloc, &DOUBLED)?)
 }
 
 /// The inner node.
 fn inner(alloc: Global) -> Result<Node, Fault> {
-    doubled(alloc)?.first_child()?.ok_or(Fault::NotFound)
+    root(alloc)?.first_child()?.ok_or(Fault::NotFound)
 }
 
 /// The one token.
 fn token(alloc: Global) -> Result<Token, Fault> {
-    doubled(alloc)?.first_token()?.ok_or(Fault::NotFound)
+    root(alloc)?.first_token()?.ok_or(Fault::NotFound)
 }
 
 #[test]
 fn two_raw_kinds_print_as_one(rt: HostRuntime) -> Result<(), Fail> {
-    let root = doubled(rt.alloc())?;
+    let root = root(rt.alloc())?;
     let lines = "EVEN@0..1\n  EVEN@0..1\n    ODD@0..1 \"a\"\n";
     assert!(rt; root.debug_tree(rt.alloc())?.as_str() == lines);
     Ok(())
@@ -57,7 +57,7 @@ fn replacements_are_of_equal_raw_kind(rt: HostRuntime) {
 
 #[test]
 fn typed_cursors_are_compared(rt: HostRuntime) -> Result<(), Fail> {
-    let root = doubled(rt.alloc())?;
+    let root = root(rt.alloc())?;
     assert!(rt; root.clone()? == root);
     assert!(rt; Element::from(token(rt.alloc())?) != Element::from(root));
     Ok(())

@@ -36,7 +36,7 @@ fn walks_are_the_raw_ones(rt: HostRuntime) -> Result<(), Fail> {
 }
 
 /// What is left of a walk once the subtree of its second event is skipped.
-fn skipped(root: &Node) -> Result<PreorderWithTokens<Numbers>, Fault> {
+fn walk_with_skip(root: &Node) -> Result<PreorderWithTokens<Numbers>, Fault> {
     let mut walk = root.preorder_with_tokens();
     let _ = walk.next();
     let _ = walk.next();
@@ -45,7 +45,7 @@ fn skipped(root: &Node) -> Result<PreorderWithTokens<Numbers>, Fault> {
 }
 
 /// The same of a raw walk.
-fn raw_skipped(root: &cursor::SyntaxNode) -> cursor::PreorderWithTokens {
+fn raw_walk_with_skip(root: &cursor::SyntaxNode) -> cursor::PreorderWithTokens {
     let mut walk = root.preorder_with_tokens();
     let _ = walk.next();
     let _ = walk.next();
@@ -58,7 +58,7 @@ fn skips_are_the_raw_ones(rt: HostRuntime) -> Result<(), Fail> {
     let mut answers = Answers::new();
     let raw = root_of(rt.alloc())?;
     let typed = Node::from(raw.clone()?);
-    for (typed, raw) in skipped(&typed)?.zip(raw_skipped(&raw)) {
+    for (typed, raw) in walk_with_skip(&typed)?.zip(raw_walk_with_skip(&raw)) {
         answers.add(is_event(typed?, raw?));
     }
     assert!(rt; answers.are_all_same(16));

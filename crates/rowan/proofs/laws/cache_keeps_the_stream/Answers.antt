@@ -13,6 +13,7 @@ returns-clause-first c = λ old new calls outcomes run own.
 
 pub returns-clause-from_empty : goal.returns-clause-from_empty
 returns-clause-from_empty c = λ old new calls outcomes run empty.
-    let own : first_seen old.cache.limit old.cache.seen ≡ old.cache.seen = subst (λ seen. first_seen old.cache.limit seen ≡ seen) (sym empty) refl in
+    let own : first_seen old.cache.limit old.cache.seen ≡ old.cache.seen =
+    subst (λ seen. first_seen old.cache.limit seen ≡ seen) (sym empty) refl in
     ap (λ k. k.seen) (run.interns ∙ intern_all-first_seen old.cache (stream run.words) own)
     ∙ ap (λ seen. first_seen old.cache.limit (seen ++ stream run.words)) empty

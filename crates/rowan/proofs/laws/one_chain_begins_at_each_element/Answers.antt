@@ -10,4 +10,5 @@ pub returns-clause-one : goal.returns-clause-one
 returns-clause-one c = chain-one
 
 pub returns-clause-visits : goal.returns-clause-visits
-returns-clause-visits c means root span chain d = visited-depth (is_meant means span root) root span chain d
+returns-clause-visits c means root span chain d = visited-depth (is_meant means span root) root span
+    chain d

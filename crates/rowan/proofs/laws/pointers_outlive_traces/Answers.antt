@@ -7,4 +7,5 @@ returns-clause-carried g c = λ e steps reports q n trace apart at some.
 
 pub returns-clause-leads : goal.returns-clause-leads
 returns-clause-leads g c = λ e steps reports q n first last found trace apart at some begins ends.
-    turns-lead g.L.Language.meaning g.L.Kind.PartialEq.eq g.met.L.Kind.Eq.laws.refl e steps reports q n first last found trace.in_turn apart at some begins ends
+    turns-lead g.L.Language.meaning g.L.Kind.PartialEq.eq g.met.L.Kind.Eq.laws.refl e steps reports
+    q n first last found trace.in_turn apart at some begins ends

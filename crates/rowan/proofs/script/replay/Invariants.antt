@@ -6,7 +6,8 @@ use Rattle.rowan.proofs.script.replay.Given as goal
 
 abbrev pub invariant-loop-call : goal.invariant-loop-call
 invariant-loop-call g l = record {
-  run : Run (value_of l.initial.builder) (take l.call-index l.calls) l.outcomes.items (value_of l.builder);
+  run : Run (value_of l.initial.builder) (take l.call-index l.calls) l.outcomes.items
+      (value_of l.builder);
   loan : loan_of l.builder ≡ loan_of l.initial.builder;
   marks : l.marks.items ≡ with_marks [] l.outcomes.items;
   outcomes_room : length l.calls ≤ vec_capacity l.outcomes;

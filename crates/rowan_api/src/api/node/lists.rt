@@ -1,6 +1,7 @@
 //! What stands above, below and beside a node, one after the other.
 ghost use Rattle.std.specs.Prelude.{◌≡◌, IfOk, IfErr};
-ghost use Rattle.rowan_cursor.specs.Moves.{ancestors, children, children_with_tokens, siblings, siblings_with_tokens};
+ghost use Rattle.rowan_cursor.specs.Moves.{ancestors, children, children_with_tokens, siblings};
+ghost use Rattle.rowan_cursor.specs.Moves.{siblings_with_tokens};
 
 use super::SyntaxNode;
 use crate::api::typed_elements::TypedElements;
@@ -13,7 +14,6 @@ use rowan_green::utility_types::Direction;
 
 impl<L> SyntaxNode<L> {
     /// The node and the nodes above it, up to the root.
-    /// An item is `Err(Fault::Memory)` where the tree cannot be shared once more; then the iterator ends.
     pub fn ancestors(&self) -> Ancestors<L>
         ensures ok { IfOk result (λ list. list ≡ ancestors self.now) }
         ensures err { IfErr result (λ e. e ≡ Fault.Memory) }
@@ -22,7 +22,6 @@ impl<L> SyntaxNode<L> {
     }
 
     /// The children that are nodes.
-    /// An item is `Err(Fault::Memory)` where the tree cannot be shared once more; then the iterator ends.
     pub fn children(&self) -> SyntaxNodeChildren<L>
         ensures ok { IfOk result (λ list. list ≡ children self.now) }
         ensures err { IfErr result (λ e. e ≡ Fault.Memory) }
@@ -31,7 +30,6 @@ impl<L> SyntaxNode<L> {
     }
 
     /// The children.
-    /// An item is `Err(Fault::Memory)` where the tree cannot be shared once more; then the iterator ends.
     pub fn children_with_tokens(&self) -> SyntaxElementChildren<L>
         ensures ok { IfOk result (λ list. list ≡ children_with_tokens self.now) }
         ensures err { IfErr result (λ e. e ≡ Fault.Memory) }
@@ -39,8 +37,8 @@ impl<L> SyntaxNode<L> {
         TypedElements::new(self.raw.children_with_tokens())
     }
 
-    /// The node, and then its siblings in a direction that are nodes, nearest first. A root has none.
-    /// An item is `Err(Fault::Memory)` where the tree cannot be shared once more; then the iterator ends.
+    /// The node, and then its siblings in a direction that are nodes, nearest first. A root has
+    /// none.
     pub fn siblings(&self, direction: Direction) -> Siblings<L>
         ensures ok { IfOk result (λ list. list ≡ siblings direction self.now) }
         ensures err { IfErr result (λ e. e ≡ Fault.Memory) }
@@ -49,7 +47,6 @@ impl<L> SyntaxNode<L> {
     }
 
     /// The node, and then its siblings in a direction, nearest first. A root has none.
-    /// An item is `Err(Fault::Memory)` where the tree cannot be shared once more; then the iterator ends.
     pub fn siblings_with_tokens(&self, direction: Direction) -> SiblingsWithTokens<L>
         ensures ok { IfOk result (λ list. list ≡ siblings_with_tokens direction self.now) }
         ensures err { IfErr result (λ e. e ≡ Fault.Memory) }

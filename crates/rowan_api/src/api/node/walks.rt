@@ -1,6 +1,7 @@
 //! Walks from a node.
 ghost use Rattle.std.specs.Prelude.{◌≡◌, IfOk, IfErr};
-ghost use Rattle.rowan_cursor.specs.Preorder.{preorder, preorder_with_tokens, descendants, descendants_with_tokens};
+ghost use Rattle.rowan_cursor.specs.Preorder.{preorder, preorder_with_tokens, descendants};
+ghost use Rattle.rowan_cursor.specs.Preorder.{descendants_with_tokens};
 
 use super::SyntaxNode;
 use crate::api::typed_elements::TypedElements;
@@ -9,8 +10,8 @@ use crate::api::{Descendants, DescendantsWithTokens, Preorder, PreorderWithToken
 use rowan_green::fault::Fault;
 
 impl<L> SyntaxNode<L> {
-    /// A walk through the node and the nodes below it: each is entered before those below it, and left after.
-    /// An item is `Err(Fault::Memory)` where the tree cannot be shared once more; then the iterator ends.
+    /// A walk through the node and the nodes below it: each is entered before those below it, and
+    /// left after.
     pub fn preorder(&self) -> Preorder<L>
         ensures ok { IfOk result (λ list. list ≡ preorder self.now) }
         ensures err { IfErr result (λ e. e ≡ Fault.Memory) }
@@ -18,8 +19,8 @@ impl<L> SyntaxNode<L> {
         Preorder::new(self.raw.preorder())
     }
 
-    /// A walk through the node and all that is below it: each element is entered before what is below it, and left after.
-    /// An item is `Err(Fault::Memory)` where the tree cannot be shared once more; then the iterator ends.
+    /// A walk through the node and all that is below it: each element is entered before what is
+    /// below it, and left after.
     pub fn preorder_with_tokens(&self) -> PreorderWithTokens<L>
         ensures ok { IfOk result (λ list. list ≡ preorder_with_tokens self.now) }
         ensures err { IfErr result (λ e. e ≡ Fault.Memory) }
@@ -28,7 +29,6 @@ impl<L> SyntaxNode<L> {
     }
 
     /// The node and the nodes below it, each before those below it.
-    /// An item is `Err(Fault::Memory)` where the tree cannot be shared once more; then the iterator ends.
     pub fn descendants(&self) -> Descendants<L>
         ensures ok { IfOk result (λ list. list ≡ descendants self.now) }
         ensures err { IfErr result (λ e. e ≡ Fault.Memory) }
@@ -37,7 +37,6 @@ impl<L> SyntaxNode<L> {
     }
 
     /// The node and all that is below it, each element before what is below it.
-    /// An item is `Err(Fault::Memory)` where the tree cannot be shared once more; then the iterator ends.
     pub fn descendants_with_tokens(&self) -> DescendantsWithTokens<L>
         ensures ok { IfOk result (λ list. list ≡ descendants_with_tokens self.now) }
         ensures err { IfErr result (λ e. e ≡ Fault.Memory) }

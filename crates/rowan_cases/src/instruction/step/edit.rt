@@ -33,8 +33,8 @@ impl Edit {
         }))
     }
 
-    /// The node after the edit. `None` where it has no such places; only a replacement may name a place past its children, and
-    /// then changes nothing.
+    /// The node after the edit. `None` where it has no such places; only a replacement may name a
+    /// place past its children, and then changes nothing.
     pub fn make(&self, node: &GreenNode) -> Result<Option<GreenNode>, Fault> {
         let count = node.children().len();
         let edited = match self {

@@ -20,7 +20,8 @@ pub enum PointerStep {
     Cast(u32, Wrapper),
 }
 
-/// How a pointer is carried: from one slot to another one, over an edit that puts `new_len` bytes in place of a range.
+/// How a pointer is carried: from one slot to another one, over an edit that puts `new_len` bytes
+/// in place of a range.
 #[derive(Clone, Copy)]
 pub struct Carrying {
     pub from: u32,

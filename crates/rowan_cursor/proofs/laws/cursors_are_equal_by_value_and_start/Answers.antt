@@ -12,5 +12,6 @@ returns c = λ a b.
       (λ h.
           let p = and_parts (start_of a == start_of b) (same_if_some (term_at a) (term_at b)) h in
           (starts.0 p.0, terms.0 p.1)),
-      (λ p. and_from (start_of a == start_of b) (same_if_some (term_at a) (term_at b)) (starts.1 p.0) (terms.1 p.1)),
+      (λ p. and_from (start_of a == start_of b) (same_if_some (term_at a) (term_at b))
+          (starts.1 p.0) (terms.1 p.1)),
     )

@@ -7,9 +7,13 @@ use Rattle.rowan_cursor.proofs.laws.nothing_smaller_covers_a_range.Goals as goal
 
 pub returns-clause-has : goal.returns-clause-has
 returns-clause-has c = λ a span t e there within s.
-    let is : HasSpan a.root span a.path s.path = covers-has_span a.root span a.path s.path t there within s.true in
-    subst (λ (x : Cursor). LiesIn span (text_range x)) (sym (place_of-stands a.root (Covers a.root span a.path) e s)) is.lies
+    let is : HasSpan a.root span a.path s.path =
+    covers-has_span a.root span a.path s.path t there within s.true in
+    subst (λ (x : Cursor). LiesIn span (text_range x))
+    (sym (place_of-stands a.root (Covers a.root span a.path) e s)) is.lies
 
 pub returns-clause-last : goal.returns-clause-last
 returns-clause-last c = λ a span e s.
-    subst (λ (x : Cursor). FindsChild span x None) (sym (place_of-stands a.root (Covers a.root span a.path) e s)) (covers-ends a.root span a.path s.path s.true)
+    subst (λ (x : Cursor). FindsChild span x None)
+    (sym (place_of-stands a.root (Covers a.root span a.path) e s))
+    (covers-ends a.root span a.path s.path s.true)

@@ -15,10 +15,10 @@ use rowan_green::text::{TextRange, TextSize};
 use rowan_green::utility_types::TokenAtOffset;
 
 impl SyntaxNode {
-    /// The child at a range of the root's text, in bytes: the child that has all bytes of the range. An empty range is a place
-    /// between bytes. The child there is the one with bytes on both sides of it, else the last one that ends there, else the
-    /// first one, if it begins there. `None` where no child has the whole range. Refused only for want of memory, where the tree
-    /// cannot be shared once more.
+    /// The child at a range of the root's text, in bytes: the child that has all bytes of the
+    /// range. An empty range is a place between bytes. The child there is the one with bytes on
+    /// both sides of it, else the last one that ends there, else the first one, if it begins there.
+    /// `None` where no child has the whole range. Refused as a move is.
     pub fn child_or_token_at_range(&self, range: TextRange) -> Result<Option<SyntaxElement>, Fault>
         ensures ok { IfOk result (FindsChild range self.now) }
         ensures err { IfErr result (λ e. e ≡ Fault.Memory) }
@@ -27,8 +27,9 @@ impl SyntaxNode {
         self.child_or_token_at_range_counted(range, &mut steps)
     }
 
-    /// Answers as `child_or_token_at_range` does, is refused as that is, and counts how many children were compared with the
-    /// range: at most as many as the number of all children has binary digits, and one at least where a child is found.
+    /// Answers as `child_or_token_at_range` does, is refused as that is, and counts how many
+    /// children were compared with the range: at most as many as the number of all children has
+    /// binary digits, and one at least where a child is found.
     pub fn child_or_token_at_range_counted(
         &self,
         range: TextRange,
@@ -47,12 +48,13 @@ impl SyntaxNode {
         ensures visits { steps.new.visits ≡ steps.old.visits }
     {
         let child = self.table.child_at_range(self.number, range, steps);
-        Ok(element::found(&self.table, child)?)
+        Ok(element::option_at(&self.table, child)?)
     }
 
-    /// The element that covers a range of the root's text, in bytes: from this node on, the search goes down from child to child
-    /// at the range, as `child_or_token_at_range` finds it, and the last one covers it. The range lies in the node's, as
-    /// `contains_range` tests. Refused only for want of memory, where the tree cannot be shared once more.
+    /// The element that covers a range of the root's text, in bytes: from this node on, the search
+    /// goes down from child to child at the range, as `child_or_token_at_range` finds it, and the
+    /// last one covers it. The range lies in the node's, as `contains_range` tests. Refused as a
+    /// move is.
     pub fn covering_element(&self, range: TextRange) -> Result<SyntaxElement, Fault>
         requires { LiesIn range (text_range self.now) }
         ensures ok { IfOk result (IsCovering range self.now) }
@@ -62,10 +64,11 @@ impl SyntaxNode {
         Ok(element::at(&self.table, covering)?)
     }
 
-    /// The tokens of this node that touch an offset of the root's text, in bytes: those with bytes that begin there, end there,
-    /// or have the offset between their bytes. That is one token, or two neighbours where the offset lies between them; `None`
-    /// only of an empty node. The offset lies in the node's range or is an end of it, as `contains_inclusive` tests. Refused
-    /// only for want of memory, where the tree cannot be shared once or twice more.
+    /// The tokens of this node that touch an offset of the root's text, in bytes: those with bytes
+    /// that begin there, end there, or have the offset between their bytes. That is one token, or
+    /// two neighbours where the offset lies between them; `None` only of an empty node. The offset
+    /// lies in the node's range or is an end of it, as `contains_inclusive` tests. Refused as a
+    /// move is.
     pub fn token_at_offset(&self, offset: TextSize) -> Result<TokenAtOffset<SyntaxToken>, Fault>
         requires { Holds (text_range self.now) offset }
         ensures ok { IfOk result (λ tokens. tokens_of tokens ≡ tokens_at offset self.now) }

@@ -1,4 +1,5 @@
-use Rattle.rowan_green.proofs.CacheLemmas.{first_seen-Contains, first_seen-once, first_seen-continues, first_seen-push}
+use Rattle.rowan_green.proofs.CacheLemmas.{first_seen-Contains, first_seen-once}
+use Rattle.rowan_green.proofs.CacheLemmas.{first_seen-continues, first_seen-push}
 use Rattle.rowan_green.proofs.laws.cache_keeps_first_seen.Goals as goal
 
 pub returns-clause-members : goal.returns-clause-members

@@ -1,4 +1,5 @@
-use Rattle.rowan_green.proofs.PutLemmas.{subterm-put_below, subterm-put_above, subterm-put_ancestor, put-join}
+use Rattle.rowan_green.proofs.PutLemmas.{subterm-put_below, subterm-put_above, subterm-put_ancestor}
+use Rattle.rowan_green.proofs.PutLemmas.{put-join}
 use Rattle.rowan_green.proofs.laws.replacement_is_seen_above_and_below.Goals as goal
 
 pub returns-clause-below : goal.returns-clause-below

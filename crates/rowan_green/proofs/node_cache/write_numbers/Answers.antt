@@ -10,6 +10,10 @@ pub returns-clause-kept : goal.returns-clause-kept
 returns-clause-kept c =
     let os = c.args.children.now in
     let ns = c.loop-child.numbers.items in
-    let whole : os ≡ map (λ n. Some n) ns = sym (take_all c.loop-child.child-index os c.loop-child-test.false) ∙ c.loop-child.invariant in
-    let all : list_all (λ n. is_some n) os ≡ true = ap (list_all (λ n. is_some n)) whole ∙ all_have_numbers ns in
-    sym (and_from (nat_le (length os) c.args.limit) (list_all (λ n. is_some n) os) (le-leb (length os) c.args.limit c.if-children-limit.false) all)
+    let whole : os ≡ map (λ n. Some n) ns =
+    sym (take_all c.loop-child.child-index os c.loop-child-test.false)
+    ∙ c.loop-child.invariant in
+    let all : list_all (λ n. is_some n) os ≡ true =
+    ap (list_all (λ n. is_some n)) whole ∙ all_have_numbers ns in
+    sym (and_from (nat_le (length os) c.args.limit) (list_all (λ n. is_some n) os)
+    (le-leb (length os) c.args.limit c.if-children-limit.false) all)

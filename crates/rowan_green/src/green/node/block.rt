@@ -1,23 +1,27 @@
-//! The block of a node that is being made, whose children go straight into the memory that the node will have, and how a block is
-//! dropped.
-ghost use Rattle.std.specs.Prelude.{◌≡◌, ◌<◌, ◌≤◌, [], ◌∷◌, ◌++◌, length, take, max, OnOk, OnErr, IfOk, IfSome, IsNone};
+//! The block of a node that is being made, whose children go straight into the memory that the node
+//! will have, and how a block is dropped.
+ghost use Rattle.std.specs.Prelude.{◌≡◌, ◌<◌, ◌≤◌, [], ◌∷◌, ◌++◌, length, take, max, OnOk, OnErr};
+ghost use Rattle.std.specs.Prelude.{IfOk, IfSome, IsNone};
 ghost use Rattle.std.specs.Vec.{vec_len, vec_capacity};
-ghost use Rattle.rowan_headed.specs.Shape.{IsOpen, IsHeaded, head_of, items_of, room_of};
+ghost use Rattle.rowan_green.specs.NodeBlock.{front_words, child_words};
+ghost use Rattle.rowan_thin_rc.specs.Shape.{IsOpen, IsHeaded, head_of, items_of, room_of};
 
-use super::{GreenChild, GreenNodeHead};
-use rowan_counted::Counted;
-use rowan_headed::front::{Front, Open};
+use super::{CHILD_WORDS, FRONT_WORDS, GreenChild, GreenNodeHead};
+use crate::green::MAX_CHILDREN;
+use rowan_thin_rc::{Open, ThinRc};
 use std::alloc::{AllocError, AllocFailed, Global};
 use std::mem::ManuallyDrop;
 
-/// The children of a node that has no head yet, those that wait for their nodes, or those that the last owner of a node left.
+/// The children of a node that has no head yet, those that wait for their nodes, or those that the
+/// last owner of a node left.
 pub(crate) struct ChildBlock {
     pub(crate) block: Open<GreenNodeHead, GreenChild, Global>,
-    pub(crate) ghost shape: { IsOpen 2 2 block },
+    pub(crate) ghost shape: { IsOpen front_words child_words block },
 }
 
-// A loop over a list of the blocks that are still to be dropped, so that a deep tree does not run out of stack. A block whose nodes
-// all have other owners asks for no memory. It stands apart, so that a node's drop stays small where it is inlined.
+// A loop over a list of the blocks that are still to be dropped, so that a deep tree does not run
+// out of stack. A block whose nodes all have other owners asks for no memory. It stands apart, so
+// that a node's drop stays small where it is inlined.
 impl Drop for ChildBlock {
     #[cycle(drop)]
     #[inline(never)]
@@ -34,7 +38,8 @@ impl ChildBlock {
     ghost use Rattle.std.specs.Prelude.{◌+◌};
     ghost use Rattle.rowan_green.specs.Sizes.{children_size, kept_size};
 
-    // Drops the block with its children. Where that was the last owner of a node, the node's own block goes to the end of the list.
+    // Drops the block with its children. Where that was the last owner of a node, the node's own
+    // block is put at the end of the list.
     #[cycle(drop)]
     fn drop_into(self, rest: &mut Vec<ManuallyDrop<ChildBlock>>)
         ensures { kept_size rest.new.items
@@ -51,10 +56,10 @@ impl ChildBlock {
                 GreenChild::Token { token, .. } => drop(token),
             }
         }
-        block.free(2, 2);
+        block.free(FRONT_WORDS, CHILD_WORDS);
     }
 
-    // Puts the block to the end of the list, or drops it where the memory for that is refused.
+    // Puts the block at the end of the list, or drops it where the memory for that is refused.
     #[cycle(drop)]
     fn put_off(self, rest: &mut Vec<ManuallyDrop<ChildBlock>>)
         ensures { kept_size rest.new.items
@@ -78,7 +83,7 @@ impl ChildBlock {
         ensures items { IfOk result (λ b. b.block.list.items ≡ []) }
         ensures room { IfOk result (λ b. vec_len b.block.list < vec_capacity b.block.list) }
     {
-        match Open::with_capacity(alloc, room, 2, 2) {
+        match Open::with_capacity(alloc, room, FRONT_WORDS, CHILD_WORDS) {
             Some(block) => Ok(ChildBlock { block }),
             None => Err(AllocError),
         }
@@ -153,35 +158,37 @@ impl ChildBlock {
         Ok(())
     }
 
-    // Makes room for as many children again. It stands apart, so that what `reserve` inlines stays small.
+    // Makes room for as many children again. It stands apart, so that what `reserve` inlines stays
+    // small.
     #[inline(never)]
     fn grow(&mut self) -> Result<(), AllocError>
         ensures items { self.new.block.list.items ≡ self.old.block.list.items }
         ensures room { let list = self.new.block.list in
             OnOk result (vec_len list < vec_capacity list) }
     {
-        if self.len() >= u32::MAX as usize {
+        if self.len() >= MAX_CHILDREN {
             return Err(AllocError);
         }
         let room = self.len().max(2) * 2;
-        self.block.resize(room.min(u32::MAX as usize), 2, 2)
+        self.block
+            .resize(room.min(MAX_CHILDREN), FRONT_WORDS, CHILD_WORDS)
     }
 
-    // The first owner of the block, with a head before the children. The block is made as large as they are, and that may be
-    // refused.
+    // The first owner of the block, with a head before the children. The block is made as large as
+    // they are, and that may be refused.
     pub(super) fn close(
         mut self,
         head: GreenNodeHead,
-    ) -> Result<Counted<Front<GreenNodeHead, GreenChild, Global>>, AllocError>
-        ensures shape { IfOk result (IsHeaded 2 2) }
+    ) -> Result<ThinRc<GreenNodeHead, GreenChild, Global>, AllocError>
+        ensures shape { IfOk result (IsHeaded front_words child_words) }
         ensures parts { IfOk result (λ c. (head_of c ≡ head)
             × (items_of c ≡ self.block.list.items)) }
     {
         let room = self.len().max(1);
         if self.block.list.capacity() != room {
-            self.block.resize(room, 2, 2)?;
+            self.block.resize(room, FRONT_WORDS, CHILD_WORDS)?;
         }
         let ChildBlock { block } = self;
-        Ok(block.close(head, 2, 2))
+        Ok(block.close(head, FRONT_WORDS, CHILD_WORDS))
     }
 }

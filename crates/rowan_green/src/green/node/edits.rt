@@ -1,7 +1,10 @@
-//! Edits: nodes like another one but for some children. The children that stay are shared, and nothing is copied of their text.
-ghost use Rattle.std.specs.Prelude.{◌≡◌, ◌≢◌, ◌<◌, ◌≤◌, ◌++◌, length, take, drop, map, IfOk, IfErr, OnOk};
+//! Edits: nodes like another one but for some children. The children that stay are shared, and
+//! nothing is copied of their text.
+ghost use Rattle.std.specs.Prelude.{◌≡◌, ◌≢◌, ◌<◌, ◌≤◌, ◌++◌, length, take, drop, map, IfOk, IfErr};
+ghost use Rattle.std.specs.Prelude.{OnOk};
 ghost use Rattle.std.specs.Iterator.{IsFiniteIterable};
-ghost use Rattle.rowan_green.specs.Edits.{replaced, inserted, removed, spliced, spliced_so_far, IsEditOf};
+ghost use Rattle.rowan_green.specs.Edits.{replaced, inserted, removed, spliced, spliced_so_far};
+ghost use Rattle.rowan_green.specs.Edits.{IsEditOf};
 ghost use Rattle.rowan_green.specs.Fits.{FitsNode, AreWithin, PassesLimit, WhyNoNode};
 ghost use Rattle.rowan_green.specs.Runs.{IteratesAll, IteratesSome};
 ghost use Rattle.rowan_green.specs.Term.{node_children};
@@ -29,9 +32,9 @@ impl NodeDraft {
 }
 
 impl GreenNode {
-    /// The node with another child in place of the one at an index. Past the last child it is an equal node, and the new
-    /// child is dropped. Refused with `TextTooLong` where its text would have more than 4,294,967,295 bytes, and else only for
-    /// want of memory.
+    /// The node with another child in place of the one at an index. Past the last child it is an
+    /// equal node, and the new child is dropped. Refused with `TextTooLong` where its text would
+    /// have more than 4,294,967,295 bytes, and else only for want of memory.
     pub fn replace_child(&self, index: usize, new_child: GreenElement) -> Result<GreenNode, Fault>
         ensures ok { IfOk result (IsEditOf self.now (λ ts. replaced ts index new_child)) }
         ensures fits { IfOk result FitsNode }
@@ -46,7 +49,8 @@ impl GreenNode {
         self.finish_after(draft, index + 1)
     }
 
-    /// The node with one more child, before the one at an index or at the end. It is refused as `GreenNode::new` is.
+    /// The node with one more child, before the one at an index or at the end. It is refused as
+    /// `GreenNode::new` is.
     pub fn insert_child(&self, index: usize, new_child: GreenElement) -> Result<GreenNode, Fault>
         requires { index ≤ length (node_children self.now) }
         ensures ok { IfOk result (IsEditOf self.now (λ ts. inserted ts index new_child)) }
@@ -68,8 +72,9 @@ impl GreenNode {
         self.finish_after(draft, index + 1)
     }
 
-    /// The node with the children that an iterator gives in place of those of a range. The first child at which a limit is passed
-    /// decides how it is refused, as for `GreenNode::new`; the children behind the range count once the iterator has ended.
+    /// The node with the children that an iterator gives in place of those of a range. The first
+    /// child at which a limit is passed decides how it is refused, as for `GreenNode::new`; the
+    /// children behind the range count once the iterator has ended.
     pub fn splice_children<I: IntoIterator<Item = GreenElement>>(
         &self,
         range: Range<usize>,

@@ -1,17 +1,20 @@
 //! Nodes over the elements that a builder has finished.
-ghost use Rattle.std.specs.Prelude.{◌≡◌, ◌<◌, ◌≤◌, length, map, take, drop, IfOk, IfErr, OnOk, OnErr, vec_len};
+ghost use Rattle.std.specs.Prelude.{◌≡◌, ◌<◌, ◌≤◌, length, map, take, drop, IfOk, IfErr, OnOk};
+ghost use Rattle.std.specs.Prelude.{OnErr, vec_len};
 ghost use Rattle.rowan_green.specs.Fits.{AreWithin, PassesLimit, WhyNoNode};
 ghost use Rattle.rowan_green.specs.Term.{node_of};
 ghost use Rattle.rowan_green.specs.View.{child_term, child_offset, AreSound};
 ghost use Rattle.rowan_green.specs.Waiting.{HasSpare};
-ghost use Rattle.rowan_headed.specs.Shape.{IsInPlace};
+ghost use Rattle.rowan_thin_rc.specs.Shape.{IsInPlace};
 
 use crate::fault::Fault;
-use crate::green::SyntaxKind;
 use crate::green::node::block::ChildBlock;
-use crate::green::node::{GreenChild, GreenNode, GreenNodeHead, NodeDraft};
+use crate::green::node::{
+    CHILD_WORDS, FRONT_WORDS, GreenChild, GreenNode, GreenNodeHead, NodeDraft,
+};
+use crate::green::{MAX_CHILDREN, SyntaxKind};
 use crate::text::TextSize;
-use rowan_headed::front::Front;
+use rowan_thin_rc::HeaderSlice;
 use std::alloc::Global;
 use std_alloc::vec::Lodged;
 
@@ -31,8 +34,8 @@ impl GreenNode {
         Ok(draft.finish(kind)?)
     }
 
-    // The node of a kind and the elements in a block from a place on, which move into it as one run of memory. A refused call
-    // leaves them in the block.
+    // The node of a kind and the elements in a block from a place on, which move into it as one run
+    // of memory. A refused call leaves them in the block.
     pub(crate) fn from_last(
         alloc: Global,
         kind: SyntaxKind,
@@ -50,7 +53,8 @@ impl GreenNode {
             IfErr result (WhyNoNode (drop first ts)) }
 
         // What is left in the block.
-        ensures rest { let terms = map child_term in OnOk result (terms elements.new.block.list.items
+        ensures rest { let terms = map child_term in
+            OnOk result (terms elements.new.block.list.items
             ≡ take first (terms elements.old.block.list.items)) }
         ensures unchanged { let terms = map child_term in OnErr result
             (terms elements.new.block.list.items ≡ terms elements.old.block.list.items) }
@@ -58,7 +62,8 @@ impl GreenNode {
     {
         let text_len = GreenChild::place(&mut elements.block.list, first)?;
         let head = GreenNodeHead { kind, text_len };
-        match Front::from_last(alloc, head, &mut elements.block.list, first, 2, 2) {
+        let list = &mut elements.block.list;
+        match HeaderSlice::from_last(alloc, head, list, first, FRONT_WORDS, CHILD_WORDS) {
             Ok(data) => Ok(GreenNode { data }),
             Err(_head) => Err(Fault::Memory),
         }
@@ -66,7 +71,8 @@ impl GreenNode {
 }
 
 impl GreenChild {
-    // Gives each child of a list from a place on its offset, and says how long their text is, or which limit they pass.
+    // Gives each child of a list from a place on its offset, and says how long their text is, or
+    // which limit they pass.
     fn place(children: &mut Vec<GreenChild, Lodged>, first: usize) -> Result<TextSize, Fault>
         requires { first ≤ length children.old.items }
         ensures ok { IfOk result (λ len. AreSound len (drop first children.new.items)) }
@@ -78,7 +84,7 @@ impl GreenChild {
         let mut text_len = TextSize::from(0);
         for index in first..children.len() {
             let len = u32::from(children[index].as_ref().text_len());
-            if index - first >= u32::MAX as usize {
+            if index - first >= MAX_CHILDREN {
                 return Err(Fault::TooManyChildren);
             }
             let Some(end) = u32::from(text_len).checked_add(len) else {

@@ -11,8 +11,10 @@ loop-sexp-preserved-in_ok-push_value_line c =
     let rest = c.loop-sexp.sexp-iterator in
     let after = c.next.new.self in
     let lines = string_bytes c.loop-sexp.lines in
-    let came = subst (λ r. YieldsWrappers is_sexp_at node_in rest (Some r) after) c.in_ok-sexp.was c.in-Some.ensures.steps in
-    lines-next c.args.root.now rest after c.in_ok-sexp.field-0 lines (string_bytes c.push_value_line.new.lines) c.loop-sexp.invariant came
+    let came = subst (λ r. YieldsWrappers is_sexp_at node_in rest (Some r) after) c.in_ok-sexp.was
+    c.in-Some.ensures.steps in
+    lines-next c.args.root.now rest after c.in_ok-sexp.field-0 lines
+    (string_bytes c.push_value_line.new.lines) c.loop-sexp.invariant came
     (c.in_ok-push_value_line.ensures ∙ ap (λ v. lines ++ value_line v) c.in_ok-eval.ensures.ok)
 
 pub loop-sexp-preserved : goal.loop-sexp-preserved
@@ -20,10 +22,13 @@ loop-sexp-preserved c =
     let rest = c.loop-sexp.sexp-iterator in
     let after = c.next.new.self in
     let lines = string_bytes c.loop-sexp.lines in
-    let came = subst (λ r. YieldsWrappers is_sexp_at node_in rest (Some r) after) c.in_ok-sexp.was c.in-Some.ensures.steps in
-    lines-next c.args.root.now rest after c.in_ok-sexp.field-0 lines (string_bytes c.push_value_line.new.lines) c.loop-sexp.invariant came
+    let came = subst (λ r. YieldsWrappers is_sexp_at node_in rest (Some r) after) c.in_ok-sexp.was
+    c.in-Some.ensures.steps in
+    lines-next c.args.root.now rest after c.in_ok-sexp.field-0 lines
+    (string_bytes c.push_value_line.new.lines) c.loop-sexp.invariant came
     (c.in_ok-push_value_line.ensures ∙ ap (λ v. lines ++ value_line v) c.in_ok-eval.ensures.ok)
 
 pub returns-clause-ok : goal.returns-clause-ok
 returns-clause-ok c =
-    lines-end c.args.root.now c.loop-sexp.sexp-iterator c.next.new.self (string_bytes c.loop-sexp.lines) c.loop-sexp.invariant c.in-None.ensures.steps
+    lines-end c.args.root.now c.loop-sexp.sexp-iterator c.next.new.self
+    (string_bytes c.loop-sexp.lines) c.loop-sexp.invariant c.in-None.ensures.steps

@@ -8,4 +8,5 @@ abbrev pub invariant-loop-element : goal.invariant-loop-element
 invariant-loop-element g l =
     (goal.iterator-loop-element g).can_next l.elements
     × (goal.iterator-loop-element g).is_finite l.elements
-    × SearchesIn (is_token_of (means_kind g.L.Language.meaning g.L.Kind.PartialEq.eq l.kind)) (children_with_tokens l.parent) l.elements
+    × SearchesIn (is_token_of (means_kind g.L.Language.meaning g.L.Kind.PartialEq.eq l.kind))
+    (children_with_tokens l.parent) l.elements

@@ -9,7 +9,8 @@ loop-place-preserved c =
     let start = c.args.node.now in let ps = c.args.path.now in let k = c.loop-place.place-index in
     ap (element_below start) (take_more ps k 0 c.loop-place-test.true)
     ∙ child-there start c.in-Node.parent (take k ps) (get_or ps k 0) (Some c.in-Some.child)
-    (c.loop-place.invariant ∙ ap (λ e. Some e) c.in-Node.is) (sym c.in-Some.is ∙ c.in_ok-child.ensures.ok)
+    (c.loop-place.invariant ∙ ap (λ e. Some e) c.in-Node.is) (sym c.in-Some.is
+    ∙ c.in_ok-child.ensures.ok)
 
 -- a place below a token
 pub returns-in_default-clause-ok : goal.returns-in_default-clause-ok
@@ -26,4 +27,5 @@ returns-in_default-2-clause-ok c =
     sym (ap (element_below start) (place-split ps k 0 c.loop-place-test.true)
     ∙ none-below start (take k ps) (get_or ps k 0) (drop (suc k) ps)
     (child-there start c.in-Node.parent (take k ps) (get_or ps k 0) _
-    (c.loop-place.invariant ∙ ap (λ e. Some e) c.in-Node.is) (sym c.in_default-2.is ∙ c.in_ok-child.ensures.ok)))
+    (c.loop-place.invariant ∙ ap (λ e. Some e) c.in-Node.is) (sym c.in_default-2.is
+    ∙ c.in_ok-child.ensures.ok)))

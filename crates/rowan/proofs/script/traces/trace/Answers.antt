@@ -9,8 +9,13 @@ loop-step-preserved c =
     let here = c.loop-step.reports.items in
     let more = c.push_reserved.new.self.items in
     record {
-      trace = Trace-more c.args.steps.now c.loop-step.step-index here more start c.loop-step.here c.step-item.result c.make_step-report.result c.loop-step-test.true c.step-item.is c.push_reserved.ensures.items c.loop-step.invariant.here c.loop-step.invariant.trace c.make_step-report.ensures.report;
-      here = last_element-more here more start c.loop-step.here c.make_step-report.new.here c.make_step-report.result c.push_reserved.ensures.items c.loop-step.invariant.here c.make_step-report.ensures.led;
+      trace = Trace-more c.args.steps.now c.loop-step.step-index here more start c.loop-step.here
+          c.step-item.result c.make_step-report.result c.loop-step-test.true c.step-item.is
+          c.push_reserved.ensures.items c.loop-step.invariant.here c.loop-step.invariant.trace
+          c.make_step-report.ensures.report;
+      here = last_element-more here more start c.loop-step.here c.make_step-report.new.here
+          c.make_step-report.result c.push_reserved.ensures.items c.loop-step.invariant.here
+          c.make_step-report.ensures.led;
       room = omega arith;
       len = omega arith;
     }

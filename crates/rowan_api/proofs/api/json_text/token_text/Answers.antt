@@ -1,15 +1,17 @@
 use Rattle.std.proofs.Common.{◌++◌, ◌∙◌, ap}
-use Rattle.rowan_api.specs.Printed.{called, token_object, tree_json}
+use Rattle.rowan_api.specs.Printed.{raw_name, token_object, tree_json}
 use Rattle.rowan_api.specs.Spelled.{value_tokens}
 use Rattle.rowan_api.proofs.SpelledLemmas.{print-value, token-there}
 use Rattle.rowan_api.proofs.api.json_text.token_text.Goals as goal
 
 pub returns : goal.returns
 returns g c =
-    let name = called g.L.Language.name g.L.Language.meaning in
+    let name = raw_name g.L.Language.name g.L.Language.meaning in
     let cursor = c.args.token.now in
     let token = c.green.result.now in
     let tokens = value_tokens (token_object (name token.kind) c.text_range.result token.text) in
     c.text_of.ensures
     ∙ print-value (tree_json name cursor) c.write_token.new.out.tokens
-    (c.in_ok-write_token.ensures.1 ∙ ap (λ ts. ts ++ tokens) c.new-out.ensures.tokens ∙ ap value_tokens (token-there name cursor token c.text_range.result c.green.ensures c.text_range.ensures))
+    (c.in_ok-write_token.ensures.1 ∙ ap (λ ts. ts ++ tokens) c.new-out.ensures.tokens
+    ∙ ap value_tokens (token-there name cursor token c.text_range.result c.green.ensures
+    c.text_range.ensures))

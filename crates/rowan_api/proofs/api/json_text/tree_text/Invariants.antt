@@ -1,7 +1,7 @@
 use Rattle.std.proofs.Common.{◌≡◌, ◌++◌, []}
 use Rattle.std.specs.List.{AllByRecursion}
 use Rattle.rowan_api.specs.Opened.{open_size, IsWithin}
-use Rattle.rowan_api.specs.Printed.{called, node_json}
+use Rattle.rowan_api.specs.Printed.{raw_name, node_json}
 use Rattle.rowan_api.specs.Spelled.{value_tokens, open_tokens}
 use Rattle.rowan_api.proofs.api.json_text.tree_text.Given as goal
 
@@ -9,8 +9,10 @@ abbrev pub invariant-loop-parent : goal.invariant-loop-parent
 invariant-loop-parent g l = record {
   within : AllByRecursion IsWithin l.opened.items;
   before : l.out.before ≡ [];
-  tokens : l.out.tokens ++ open_tokens (called g.L.Language.name g.L.Language.meaning) l.opened.items
-      ≡ value_tokens (node_json (called g.L.Language.name g.L.Language.meaning) l.fn.range.start l.root);
+  tokens : l.out.tokens ++ open_tokens
+      (raw_name g.L.Language.name g.L.Language.meaning) l.opened.items
+      ≡ value_tokens (node_json (raw_name g.L.Language.name g.L.Language.meaning) l.fn.range.start
+      l.root);
 }
 
 abbrev pub decreases-loop-parent : goal.decreases-loop-parent

@@ -1,25 +1,30 @@
 use Rattle.std.proofs.Common.{arith, ◌∙◌}
 use Rattle.serde_json.specs.Data.{null}
 use Rattle.serde_json.specs.View.{view}
-use Rattle.rowan_api.specs.Printed.{called}
+use Rattle.rowan_api.specs.Printed.{raw_name}
 use Rattle.rowan_api.specs.Unfinished.{values_of}
 use Rattle.rowan_api.proofs.JsonLemmas.{makes-first, makes-all, empty-length, last-mapped}
 use Rattle.rowan_api.proofs.api.json_value.node_json.Goals as goal
 
 pub loop-event-init : goal.loop-event-init
 loop-event-init g c =
-    let name = called g.L.Language.name g.L.Language.meaning in (
+    let name = raw_name g.L.Language.name g.L.Language.meaning in (
       tt,
       tt,
-      makes-first name c.args.node.now c.into_iter-event-iterator.result (values_of c.new-draft.result) c.new-draft.ensures.inner c.new-draft.ensures.outer
-          (rw c.into_iter-event-iterator.ensures.into_iter_gives c.preorder_with_tokens-event-items.ensures.ok),
+      makes-first name c.args.node.now c.into_iter-event-iterator.result
+          (values_of c.new-draft.result) c.new-draft.ensures.inner c.new-draft.ensures.outer
+          (rw c.into_iter-event-iterator.ensures.into_iter_gives
+          c.preorder_with_tokens-event-items.ensures.ok),
     )
 
 pub returns : goal.returns
 returns g c =
-    let name = called g.L.Language.name g.L.Language.meaning in
+    let name = raw_name g.L.Language.name g.L.Language.meaning in
     let draft = c.loop-event.draft in
-    last-mapped view draft.inner.items c.pop.new.self.items c.pop.result c.unwrap_or_default.result null c.pop.ensures.items
-    (λ none. let gone = rw none at c.pop.ensures.cases in empty-length draft.inner.items (omega (arith, gone.0, draft.inner.ok.0)))
+    last-mapped view draft.inner.items c.pop.new.self.items c.pop.result c.unwrap_or_default.result
+    null c.pop.ensures.items
+    (λ none. let gone = rw none at c.pop.ensures.cases in empty-length draft.inner.items
+    (omega (arith, gone.0, draft.inner.ok.0)))
     c.unwrap_or_default.ensures
-    ∙ makes-all name c.args.node.now c.loop-event.event-iterator c.next.new.self (values_of draft) c.loop-event.invariant.2 c.in-None.ensures.steps
+    ∙ makes-all name c.args.node.now c.loop-event.event-iterator c.next.new.self
+    (values_of draft) c.loop-event.invariant.2 c.in-None.ensures.steps

@@ -1,4 +1,4 @@
-use Rattle.rowan_api.specs.Printed.{called}
+use Rattle.rowan_api.specs.Printed.{raw_name}
 use Rattle.rowan_api.specs.Unfinished.{values_of}
 use Rattle.rowan_api.proofs.JsonLemmas.{Makes}
 use Rattle.rowan_api.proofs.api.json_value.node_json.Given as goal
@@ -7,4 +7,5 @@ abbrev pub invariant-loop-event : goal.invariant-loop-event
 invariant-loop-event g l =
     (goal.iterator-loop-event g).can_next l.event-iterator
     × (goal.iterator-loop-event g).is_finite l.event-iterator
-    × Makes (called g.L.Language.name g.L.Language.meaning) l.node (values_of l.draft) l.event-iterator
+    × Makes (raw_name g.L.Language.name g.L.Language.meaning) l.node
+    (values_of l.draft) l.event-iterator

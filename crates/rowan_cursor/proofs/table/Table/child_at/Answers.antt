@@ -10,7 +10,8 @@ returns-then-index-children c =
     let es = entries_of c.args.self.now in
     let row = c.child_numbers-children.result in
     record {
-      path = sym (row-past (entry_path es) row.start (row.end - row.start) c.args.index c.if-index-children.true)
+      path = sym (row-past (entry_path es) row.start (row.end - row.start) c.args.index
+          c.if-index-children.true)
           ∙ ap (λ ps. slice_get ps c.args.index) c.child_numbers-children.ensures.row.row;
       within = tt;
     }
@@ -20,7 +21,13 @@ returns c =
     let es = entries_of c.args.self.now in
     let row = c.child_numbers-children.result in
     record {
-      path = sym (row-get (entry_path es) row.start (row.end - row.start) c.args.index c.if-index-children.false)
+      path = sym (row-get (entry_path es) row.start (row.end - row.start) c.args.index
+          c.if-index-children.false)
           ∙ ap (λ ps. slice_get ps c.args.index) c.child_numbers-children.ensures.row.row;
-      within = omega (arith, c.child_numbers-children.ensures.row.within, c.child_numbers-children.ensures.row.order, c.if-index-children.false);
+      within = omega (
+        arith,
+        c.child_numbers-children.ensures.row.within,
+        c.child_numbers-children.ensures.row.order,
+        c.if-index-children.false,
+      );
     }

@@ -6,4 +6,5 @@ use Rattle.rowan_cursor.proofs.table.Table.child_at_range.Goals as goal
 pub returns-in_err-child-clause-none : goal.returns-in_err-child-clause-none
 returns-in_err-child-clause-none c = λ none q h.
     let t = c.args.self.now in
-    c.in_err-child.ensures.none refl q (subst (λ n. IsRangeChild (root_of t) c.args.range (path_at t n) q) (sym c.place.ensures.number) h)
+    c.in_err-child.ensures.none refl q (subst
+    (λ n. IsRangeChild (root_of t) c.args.range (path_at t n) q) (sym c.place.ensures.number) h)

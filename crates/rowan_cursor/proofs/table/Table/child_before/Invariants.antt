@@ -6,7 +6,8 @@ use Rattle.rowan_cursor.specs.Moves.{child_count}
 use Rattle.rowan_cursor.specs.TableView.{root_of, path_at, cursor_of}
 use Rattle.rowan_cursor.proofs.table.Table.child_before.Given as goal
 
--- the child that is left of these starts before the offset, if it is not the first of all, and no child behind them does
+-- the child that is left of these starts before the offset, if it is not the first of all, and no
+-- child behind them does
 abbrev pub invariant-loop-child : goal.invariant-loop-child
 invariant-loop-child l =
     let table = l.self in
@@ -17,7 +18,8 @@ invariant-loop-child l =
       order : l.child < l.end;
       to : l.end ≤ l.initial.end;
       before : first < l.child → start_of (cursor_of table l.child) < l.offset;
-      behind : (j : ℕ) → l.end - first ≤ j → j < child_count (root_of table) p → l.offset ≤ offset (Node (root_of table)) (p ++ j ∷ []);
+      behind : (j : ℕ) → l.end - first ≤ j → j < child_count (root_of table) p
+          → l.offset ≤ offset (Node (root_of table)) (p ++ j ∷ []);
     }
 
 abbrev pub decreases-loop-child : goal.decreases-loop-child

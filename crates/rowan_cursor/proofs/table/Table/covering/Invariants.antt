@@ -9,7 +9,8 @@ abbrev pub invariant-loop-child : goal.invariant-loop-child
 invariant-loop-child l =
     let s = l.self in
     IsPlace s l.covering
-    × ((q : Path) → Covers (root_of s) l.range (path_at s l.covering.number) q → Covers (root_of s) l.range (path_at s l.initial.covering.number) q)
+    × ((q : Path) → Covers (root_of s) l.range (path_at s l.covering.number) q
+    → Covers (root_of s) l.range (path_at s l.initial.covering.number) q)
 
 abbrev pub decreases-loop-child : goal.decreases-loop-child
 decreases-loop-child l = length (entries_of l.self) - l.covering.number

@@ -12,7 +12,8 @@ returns-in-Some c =
     let n = c.args.number in
     let e = slice_get-some es n c.requires.within in
     let below = (is_entry es s.complete n e.0 e.1).below (token_behind s n c.requires) in
-    c.start.ensures ∙ end_at_next (root_node es) (entry_path es n) (entry_path es e.0.parent) (entry_path es c.in-Some.next) (entry_index es n e.0) below.path c.in-Some.ensures.path
+    c.start.ensures ∙ end_at_next (root_node es) (entry_path es n) (entry_path es e.0.parent)
+    (entry_path es c.in-Some.next) (entry_index es n e.0) below.path c.in-Some.ensures.path
 
 pub end_of_node-requires : goal.end_of_node-requires
 end_of_node-requires c =
@@ -34,4 +35,5 @@ returns c =
     let e = facts_of s.nodes c.entry.result.now in
     let below = c.entry.ensures.below (token_behind s n c.requires) in
     let t = content-some _ (green_of e) c.entry.ensures.green in
-    c.end_of_node.ensures ∙ end_at_last (root_node es) (entry_path es n) (entry_path es e.parent) (entry_index es n e) t.0 below.path t.1 c.in_default.ensures.path
+    c.end_of_node.ensures ∙ end_at_last (root_node es) (entry_path es n) (entry_path es e.parent)
+    (entry_index es n e) t.0 below.path t.1 c.in_default.ensures.path

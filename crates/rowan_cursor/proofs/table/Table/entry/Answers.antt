@@ -11,6 +11,8 @@ pub returns : goal.returns
 returns c =
     let s = c.args.self.now in
     let e = c.index.result.now in
-    let within : c.args.number < length s.entries.items = omega (arith, c.requires, length-map s.entries.items (facts_of s.nodes)) in
+    let within : c.args.number < length s.entries.items =
+    omega (arith, c.requires, length-map s.entries.items (facts_of s.nodes)) in
     let at = slice_get_read s.entries.items _ c.args.number e refl within c.index.ensures in
-    is_entry (entries_of s) s.complete c.args.number (facts_of s.nodes e) (facts_at s.nodes s.entries.items c.args.number e at)
+    is_entry (entries_of s) s.complete c.args.number (facts_of s.nodes e)
+    (facts_at s.nodes s.entries.items c.args.number e at)

@@ -8,6 +8,7 @@ use Rattle.rowan_cursor.specs.TableView.{entries_of}
 pub returns : goal.returns
 returns c =
     record {
-      path = sym (ap first_at (first_split (entry_path (entries_of c.args.self.now)) c.args.row.start c.args.row.end (omega (arith, c.requires.order, c.if-row.false))));
+      path = sym (ap first_at (first_split (entry_path (entries_of c.args.self.now))
+          c.args.row.start c.args.row.end (omega (arith, c.requires.order, c.if-row.false))));
       within = omega (arith, c.requires.order, c.requires.within, c.if-row.false);
     }

@@ -9,4 +9,5 @@ pub loop-number-preserved : goal.loop-number-preserved
 loop-number-preserved c =
     let es = entries_of c.args.self.now in
     c.loop-number.invariant
-    ∙ missed_first (is_node_at (root_node es)) (entry_path es) c.loop-number.number c.args.row.end (omega (arith, c.loop-number-test.true)) (sym c.is_node.ensures ∙ c.if-is_node.false)
+    ∙ missed_first (is_node_at (root_node es)) (entry_path es) c.loop-number.number c.args.row.end
+    (omega (arith, c.loop-number-test.true)) (sym c.is_node.ensures ∙ c.if-is_node.false)

@@ -8,5 +8,6 @@ abbrev pub invariant-loop-number : goal.invariant-loop-number
 invariant-loop-number l =
     let es = entries_of l.self in
     let end = l.fn.row.end in
-    first_node_at (root_node es) (map (entry_path es) (numbers l.fn.row.start (end - l.fn.row.start)))
+    first_node_at (root_node es) (map (entry_path es)
+    (numbers l.fn.row.start (end - l.fn.row.start)))
     ≡ first_node_at (root_node es) (map (entry_path es) (numbers l.number (end - l.number)))

@@ -9,7 +9,11 @@ overflow_sub-result c =
     let s = c.args.self.now in
     let e = facts_of s.nodes c.entry.result.now in
     let a = above_of (entries_of s) s.complete c.args.number e c.entry.ensures.at (omega arith) in
-    omega (arith, (c.child_numbers-siblings.ensures.bounds a.0 a.1.above).0, (s.complete.parents c.args.number e a.0 c.entry.ensures.at (omega arith) a.1.above).place)
+    omega (
+      arith,
+      (c.child_numbers-siblings.ensures.bounds a.0 a.1.above).0,
+      (s.complete.parents c.args.number e a.0 c.entry.ensures.at (omega arith) a.1.above).place,
+    )
 
 pub returns : goal.returns
 returns c =

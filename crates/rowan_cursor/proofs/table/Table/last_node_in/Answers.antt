@@ -10,7 +10,9 @@ returns-then-is_node c =
     let es = entries_of c.args.self.now in
     record {
       path = sym (c.loop-number.invariant
-          ∙ found_last (is_node_at (root_node es)) (entry_path es) c.args.row.start c.loop-number.number (c.loop-number.number - 1) (omega (arith, c.loop-number-test.true)) (omega (arith, c.loop-number-test.true)) (sym c.is_node.ensures ∙ c.if-is_node.true));
+          ∙ found_last (is_node_at (root_node es)) (entry_path es) c.args.row.start
+          c.loop-number.number (c.loop-number.number - 1) (omega (arith, c.loop-number-test.true))
+          (omega (arith, c.loop-number-test.true)) (sym c.is_node.ensures ∙ c.if-is_node.true));
       node = record {
         within = omega (arith, c.requires.within, c.loop-number-test.true);
         is = sym c.is_node.ensures ∙ c.if-is_node.true;
@@ -21,4 +23,6 @@ pub loop-number-preserved : goal.loop-number-preserved
 loop-number-preserved c =
     let es = entries_of c.args.self.now in
     c.loop-number.invariant
-    ∙ missed_last (is_node_at (root_node es)) (entry_path es) c.args.row.start c.loop-number.number (c.loop-number.number - 1) (omega (arith, c.loop-number-test.true)) (omega (arith, c.loop-number-test.true)) (sym c.is_node.ensures ∙ c.if-is_node.false)
+    ∙ missed_last (is_node_at (root_node es)) (entry_path es) c.args.row.start c.loop-number.number
+    (c.loop-number.number - 1) (omega (arith, c.loop-number-test.true))
+    (omega (arith, c.loop-number-test.true)) (sym c.is_node.ensures ∙ c.if-is_node.false)

@@ -8,5 +8,7 @@ abbrev pub invariant-loop-number : goal.invariant-loop-number
 invariant-loop-number l =
     let es = entries_of l.self in
     let start = l.fn.row.start in
-    first_node_at (root_node es) (reverse (map (entry_path es) (numbers start (l.fn.row.end - start))))
-    ≡ first_node_at (root_node es) (reverse (map (entry_path es) (numbers start (l.number - start))))
+    first_node_at (root_node es) (reverse (map (entry_path es)
+    (numbers start (l.fn.row.end - start))))
+    ≡ first_node_at (root_node es) (reverse (map (entry_path es)
+    (numbers start (l.number - start))))

@@ -16,6 +16,7 @@ pub returns : goal.returns
 returns c =
     let es = entries_of c.args.self.now in
     record {
-      path = c.token_back_from.ensures.path ∙ last_leaf-pass (root_node es) (entry_path es c.args.number);
+      path = c.token_back_from.ensures.path ∙ last_leaf-pass (root_node es)
+          (entry_path es c.args.number);
       token = c.token_back_from.ensures.token;
     }

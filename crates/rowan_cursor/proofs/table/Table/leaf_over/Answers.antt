@@ -19,10 +19,15 @@ returns-clause-leaf c =
     let p = path_at s c.args.top.now.number in
     let q = path_at s c.covering.result.number in
     let there = stands_at (entries_of s) s.complete c.args.top.now.number c.requires.place.within in
-    let one : c.at-over.result ≡ byte_at byte = c.at-over.ensures ∙ ap (λ n. record { start = byte; end = byte + n }) c.from.ensures in
-    let covers : Covers root (byte_at byte) p q = subst (λ (r : Span). Covers root r p q) one c.covering.ensures.covers in
+    let one : c.at-over.result ≡ byte_at byte = c.at-over.ensures
+    ∙ ap (λ n. record { start = byte; end = byte + n }) c.from.ensures in
+    let covers : Covers root (byte_at byte) p q =
+    subst (λ (r : Span). Covers root r p q) one c.covering.ensures.covers in
     let lies = c.requires.place.lies in
-    covers-byte root byte p q there.0 there.1 (omega (arith, c.requires.from, ap (λ (r : Span). r.start) lies), omega (arith, c.requires.to, ap (λ (r : Span). r.end) lies)) covers
+    covers-byte root byte p q there.0 there.1 (
+      omega (arith, c.requires.from, ap (λ (r : Span). r.start) lies),
+      omega (arith, c.requires.to, ap (λ (r : Span). r.end) lies),
+    ) covers
 
 pub returns-clause-token : goal.returns-clause-token
 returns-clause-token c =

@@ -10,4 +10,4 @@ invariant-loop-walk l =
 
 -- the texts that are left
 abbrev pub decreases-loop-walk : goal.decreases-loop-walk
-decreases-loop-walk l = length (remaining_texts l.self l.walk.node l.walk.next)
+decreases-loop-walk l = length (remaining_texts l.self l.walk.slice.node l.walk.next)

@@ -24,4 +24,5 @@ returns-in-None-clause-left c =
     let top = path_at table c.args.top in
     let there = stands_at (entries_of table) table.complete c.args.number c.requires.place.within in
     token-left (root_of table) top here there.0 there.1 c.requires.token c.requires.place.inside
-    ∙ ap (λ qs. here ∷ qs) (nothing_inside top (since_child leaf_list (Some (Node (root_of table))) here 0) c.in-None.ensures.end)
+    ∙ ap (λ qs. here ∷ qs) (nothing_inside top
+    (since_child leaf_list (Some (Node (root_of table))) here 0) c.in-None.ensures.end)

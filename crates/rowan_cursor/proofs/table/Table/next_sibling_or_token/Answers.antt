@@ -13,7 +13,13 @@ returns-then-number-len c =
     let s = c.args.self.now in
     let e = slice_get-some (entries_of s) c.args.number c.requires in
     record {
-      path = next_past (entries_of s) s.complete c.args.number e.0 e.1 (omega arith) (omega (arith, c.if-number-len.true, c.len-len.ensures, length-map s.entries.items (facts_of s.nodes)));
+      path = next_past (entries_of s) s.complete c.args.number e.0 e.1 (omega arith)
+          (omega (
+            arith,
+            c.if-number-len.true,
+            c.len-len.ensures,
+            length-map s.entries.items (facts_of s.nodes),
+          ));
       within = tt;
     }
 
@@ -24,9 +30,16 @@ returns-then-index-entry c =
     let e = facts_of s.nodes c.entry.result.now in
     let d = facts_of s.nodes c.index.result.now in
     let next = facts_at s.nodes s.entries.items (c.args.number + 1) c.index.result.now
-    (slice_get_read s.entries.items _ (c.args.number + 1) c.index.result.now refl (omega (arith, within_list s c.args.number c.requires, c.len-len.ensures, c.if-number-len.false)) c.index.ensures) in
+    (slice_get_read s.entries.items _ (c.args.number + 1) c.index.result.now refl
+    (omega (
+      arith,
+      within_list s c.args.number c.requires,
+      c.len-len.ensures,
+      c.if-number-len.false,
+    )) c.index.ensures) in
     record {
-      path = next_apart es s.complete c.args.number e d c.entry.ensures.at (omega arith) next c.if-index-entry.true;
+      path = next_apart es s.complete c.args.number e d c.entry.ensures.at (omega arith) next
+          c.if-index-entry.true;
       within = tt;
     }
 
@@ -37,8 +50,21 @@ returns c =
     let e = facts_of s.nodes c.entry.result.now in
     let d = facts_of s.nodes c.index.result.now in
     let next = facts_at s.nodes s.entries.items (c.args.number + 1) c.index.result.now
-    (slice_get_read s.entries.items _ (c.args.number + 1) c.index.result.now refl (omega (arith, within_list s c.args.number c.requires, c.len-len.ensures, c.if-number-len.false)) c.index.ensures) in
+    (slice_get_read s.entries.items _ (c.args.number + 1) c.index.result.now refl
+    (omega (
+      arith,
+      within_list s c.args.number c.requires,
+      c.len-len.ensures,
+      c.if-number-len.false,
+    )) c.index.ensures) in
     record {
-      path = next_beside es s.complete c.args.number e d c.entry.ensures.at (omega arith) next c.if-index-entry.false;
-      within = omega (arith, c.requires, c.len-len.ensures, c.if-number-len.false, length-map s.entries.items (facts_of s.nodes));
+      path = next_beside es s.complete c.args.number e d c.entry.ensures.at (omega arith) next
+          c.if-index-entry.false;
+      within = omega (
+        arith,
+        c.requires,
+        c.len-len.ensures,
+        c.if-number-len.false,
+        length-map s.entries.items (facts_of s.nodes),
+      );
     }

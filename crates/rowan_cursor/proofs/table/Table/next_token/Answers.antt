@@ -9,7 +9,9 @@ pub returns-in-Some : goal.returns-in-Some
 returns-in-Some c =
     let es = entries_of c.args.self.now in
     record {
-      path = c.token_from.ensures.found.path ∙ ap (first_inside []) (c.in-Some.ensures.next.same leaf_list) ∙ next_leaf-pass (root_node es) (entry_path es c.args.number);
+      path = c.token_from.ensures.found.path ∙ ap (first_inside [])
+          (c.in-Some.ensures.next.same leaf_list)
+          ∙ next_leaf-pass (root_node es) (entry_path es c.args.number);
       token = c.token_from.ensures.found.token;
     }
 
@@ -17,6 +19,7 @@ pub returns-in-None : goal.returns-in-None
 returns-in-None c =
     let es = entries_of c.args.self.now in
     record {
-      path = sym c.in-None.ensures.end ∙ next_leaf-pass (root_node es) (entry_path es c.args.number);
+      path = sym c.in-None.ensures.end ∙ next_leaf-pass (root_node es)
+          (entry_path es c.args.number);
       token = tt;
     }

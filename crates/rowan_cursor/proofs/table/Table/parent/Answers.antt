@@ -13,7 +13,8 @@ returns-clause-found c =
     let e = facts_of s.nodes c.entry.result.now in
     let below = c.entry.ensures.below (omega arith) in
     record {
-      path = sym (ap parent_path below.path ∙ parent_path-child (entry_path es e.parent) (entry_index es c.args.number e));
+      path = sym (ap parent_path below.path ∙ parent_path-child (entry_path es e.parent)
+          (entry_index es c.args.number e));
       node = record {
         within = omega (arith, below.earlier, c.requires);
         is = node_above es s.complete c.args.number e c.entry.ensures.at (omega arith);

@@ -22,9 +22,11 @@ returns-then-index-entry c =
     let e = facts_of s.nodes c.entry.result.now in
     let d = facts_of s.nodes c.index.result.now in
     let before = facts_at s.nodes s.entries.items (c.args.number - 1) c.index.result.now
-    (slice_get_read s.entries.items _ (c.args.number - 1) c.index.result.now refl (omega (arith, within_list s c.args.number c.requires)) c.index.ensures) in
+    (slice_get_read s.entries.items _ (c.args.number - 1) c.index.result.now refl
+    (omega (arith, within_list s c.args.number c.requires)) c.index.ensures) in
     record {
-      path = prev_apart es s.complete c.args.number e d c.entry.ensures.at (omega arith) before c.if-index-entry.true;
+      path = prev_apart es s.complete c.args.number e d c.entry.ensures.at (omega arith) before
+          c.if-index-entry.true;
       within = tt;
     }
 
@@ -35,8 +37,10 @@ returns c =
     let e = facts_of s.nodes c.entry.result.now in
     let d = facts_of s.nodes c.index.result.now in
     let before = facts_at s.nodes s.entries.items (c.args.number - 1) c.index.result.now
-    (slice_get_read s.entries.items _ (c.args.number - 1) c.index.result.now refl (omega (arith, within_list s c.args.number c.requires)) c.index.ensures) in
+    (slice_get_read s.entries.items _ (c.args.number - 1) c.index.result.now refl
+    (omega (arith, within_list s c.args.number c.requires)) c.index.ensures) in
     record {
-      path = prev_beside es s.complete c.args.number e d c.entry.ensures.at (omega arith) before c.if-index-entry.false;
+      path = prev_beside es s.complete c.args.number e d c.entry.ensures.at (omega arith) before
+          c.if-index-entry.false;
       within = omega (arith, c.requires);
     }

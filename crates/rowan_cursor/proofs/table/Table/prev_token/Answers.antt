@@ -10,7 +10,9 @@ returns-in-Some c =
     let es = entries_of c.args.self.now in
     let there = stands_at es c.args.self.now.complete c.args.number c.requires in
     record {
-      path = c.token_back_from.ensures.path ∙ ap (last_inside []) (c.in-Some.ensures.back.same leaf_list) ∙ prev_leaf-pass (root_node es) (entry_path es c.args.number) there.0 there.1;
+      path = c.token_back_from.ensures.path ∙ ap (last_inside [])
+          (c.in-Some.ensures.back.same leaf_list)
+          ∙ prev_leaf-pass (root_node es) (entry_path es c.args.number) there.0 there.1;
       token = c.token_back_from.ensures.token;
     }
 
@@ -19,6 +21,7 @@ returns-in-None c =
     let es = entries_of c.args.self.now in
     let there = stands_at es c.args.self.now.complete c.args.number c.requires in
     record {
-      path = sym c.in-None.ensures.end ∙ prev_leaf-pass (root_node es) (entry_path es c.args.number) there.0 there.1;
+      path = sym c.in-None.ensures.end ∙ prev_leaf-pass (root_node es) (entry_path es c.args.number)
+          there.0 there.1;
       token = tt;
     }

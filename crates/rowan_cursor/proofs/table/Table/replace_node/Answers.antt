@@ -25,7 +25,9 @@ returns-in_err-green-clause-err c =
     let p = err_from_is_err_and c.from_residual.result c.from_residual.ensures.1 in
     rw (p.1, p.2) (λ not_memory. (
       c.in_err-green.ensures.text not_memory,
-      subst (λ t. ¬ Fits t) c.loop-parent.invariant.1 (unfit-above root here above c.index.result n (Node green) fault place (c.in_err-green.ensures.err not_memory)),
+      subst (λ t. ¬ Fits t) c.loop-parent.invariant.1
+          (unfit-above root here above c.index.result n (Node green) fault place
+          (c.in_err-green.ensures.err not_memory)),
     ))
 
 pub loop-parent-preserved : goal.loop-parent-preserved
@@ -42,7 +44,8 @@ loop-parent-preserved c =
       node = c.node.ensures;
     } in (
       c.in-Some.ensures.found.node,
-      put-above root here above c.index.result n c.in_ok-green.green (Node green) place c.in_ok-green.ensures.ok.0 ∙ c.loop-parent.invariant.1,
+      put-above root here above c.index.result n c.in_ok-green.green (Node green) place
+          c.in_ok-green.ensures.ok.0 ∙ c.loop-parent.invariant.1,
       c.in_ok-green.ensures.fits,
     )
 
@@ -50,4 +53,5 @@ pub returns-clause-root : goal.returns-clause-root
 returns-clause-root c =
     let s = c.args.self.now in
     let top = no_parent (path_at s c.loop-parent.current) c.in_default.ensures.found.path in
-    sym (ap (λ p. put (Node (root_of s)) p (Node c.loop-parent.green)) top) ∙ c.loop-parent.invariant.1
+    sym (ap (λ p. put (Node (root_of s)) p (Node c.loop-parent.green)) top)
+    ∙ c.loop-parent.invariant.1

@@ -16,7 +16,8 @@ node-requires c =
     let behind = token_behind s c.args.number c.requires in
     record {
       within = omega (arith, (c.entry.ensures.below behind).earlier, c.requires.within);
-      is = node_above (entries_of s) s.complete c.args.number (facts_of s.nodes c.entry.result.now) c.entry.ensures.at behind;
+      is = node_above (entries_of s) s.complete c.args.number (facts_of s.nodes c.entry.result.now)
+          c.entry.ensures.at behind;
     }
 
 pub returns-in_err-green-clause-err : goal.returns-in_err-green-clause-err
@@ -24,11 +25,14 @@ returns-in_err-green-clause-err c =
     let s = c.args.self.now in
     let e = c.entry.result.now in
     let n = c.node.result.now in
-    let place = token-place s c.args.number c.index.result e n c.requires c.entry.ensures c.index.ensures c.node.ensures in
+    let place = token-place s c.args.number c.index.result e n c.requires c.entry.ensures
+    c.index.ensures c.node.ensures in
     let p = err_from_is_err_and c.from_residual.result c.from_residual.ensures.1 in
     rw (p.1, p.2) (λ not_memory. (
       c.in_err-green.ensures.text not_memory,
-      unfit-above (root_of s) (path_at s c.args.number) (path_at s e.parent) c.index.result n (Token c.args.replacement) c.in_err-green.field-0.0 place (c.in_err-green.ensures.err not_memory),
+      unfit-above (root_of s) (path_at s c.args.number) (path_at s e.parent) c.index.result n
+          (Token c.args.replacement) c.in_err-green.field-0.0 place
+          (c.in_err-green.ensures.err not_memory),
     ))
 
 pub returns-clause-root : goal.returns-clause-root
@@ -36,8 +40,10 @@ returns-clause-root c =
     let s = c.args.self.now in
     let e = c.entry.result.now in
     let n = c.node.result.now in
-    let place = token-place s c.args.number c.index.result e n c.requires c.entry.ensures c.index.ensures c.node.ensures in
-    let same = put-above (root_of s) (path_at s c.args.number) (path_at s e.parent) c.index.result n c.in_ok-green.green (Token c.args.replacement) place c.in_ok-green.ensures.ok.0 in
+    let place = token-place s c.args.number c.index.result e n c.requires c.entry.ensures
+    c.index.ensures c.node.ensures in
+    let same = put-above (root_of s) (path_at s c.args.number) (path_at s e.parent) c.index.result n
+    c.in_ok-green.green (Token c.args.replacement) place c.in_ok-green.ensures.ok.0 in
     subst (λ t. IfOk c.replace_node.result (λ m. Node m ≡ t)) same c.replace_node.ensures.root
 
 pub returns-clause-err : goal.returns-clause-err
@@ -45,6 +51,9 @@ returns-clause-err c =
     let s = c.args.self.now in
     let e = c.entry.result.now in
     let n = c.node.result.now in
-    let place = token-place s c.args.number c.index.result e n c.requires c.entry.ensures c.index.ensures c.node.ensures in
-    let same = put-above (root_of s) (path_at s c.args.number) (path_at s e.parent) c.index.result n c.in_ok-green.green (Token c.args.replacement) place c.in_ok-green.ensures.ok.0 in
-    subst (λ t. IfErr c.replace_node.result (λ f. f ≢ Memory → (f ≡ TextTooLong) × ¬ Fits t)) same c.replace_node.ensures.err
+    let place = token-place s c.args.number c.index.result e n c.requires c.entry.ensures
+    c.index.ensures c.node.ensures in
+    let same = put-above (root_of s) (path_at s c.args.number) (path_at s e.parent) c.index.result n
+    c.in_ok-green.green (Token c.args.replacement) place c.in_ok-green.ensures.ok.0 in
+    subst (λ t. IfErr c.replace_node.result (λ f. f ≢ Memory → (f ≡ TextTooLong) × ¬ Fits t)) same
+    c.replace_node.ensures.err

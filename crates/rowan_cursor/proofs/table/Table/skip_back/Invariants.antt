@@ -12,7 +12,8 @@ invariant-loop-current l =
     let es = entries_of l.self in
     (l.current < length es)
     × (begins (entry_path es l.top) (entry_path es l.current) ≡ true)
-    × ((g : Lists) → before g (Some (Node (root_node es))) (entry_path es l.current) ≡ before g (Some (Node (root_node es))) (entry_path es l.number))
+    × ((g : Lists) → before g (Some (Node (root_node es))) (entry_path es l.current)
+    ≡ before g (Some (Node (root_node es))) (entry_path es l.number))
 
 abbrev pub decreases-loop-current : goal.decreases-loop-current
 decreases-loop-current l = l.current

@@ -6,4 +6,5 @@ loop-child-init c = skip_nothing c.args.self.now c.args.offset c.args.top c.requ
 
 pub loop-child-preserved : goal.loop-child-preserved
 loop-child-preserved c =
-    skip_child c.args.self.now c.args.offset c.args.top c.loop-child.number c.in-Some.child c.loop-child.invariant c.in-Some.ensures.within c.in-Some.ensures.child
+    skip_child c.args.self.now c.args.offset c.args.top c.loop-child.number c.in-Some.child
+    c.loop-child.invariant c.in-Some.ensures.within c.in-Some.ensures.child

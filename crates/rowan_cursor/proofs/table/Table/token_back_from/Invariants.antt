@@ -12,8 +12,10 @@ invariant-loop-number l =
     let es = entries_of l.self in
     (l.number < length es)
     × (begins (entry_path es l.top) (entry_path es l.number) ≡ true)
-    × (last_inside (entry_path es l.top) (until leaf_list (Some (Node (root_node es))) (entry_path es l.number))
-    ≡ last_inside (entry_path es l.top) (until leaf_list (Some (Node (root_node es))) (entry_path es l.start)))
+    × (last_inside (entry_path es l.top) (until leaf_list (Some (Node (root_node es)))
+    (entry_path es l.number))
+    ≡ last_inside (entry_path es l.top) (until leaf_list (Some (Node (root_node es)))
+    (entry_path es l.start)))
 
 -- the elements that are left
 abbrev pub decreases-loop-number : goal.decreases-loop-number

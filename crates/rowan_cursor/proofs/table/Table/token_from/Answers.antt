@@ -14,27 +14,39 @@ pub loop-number-smaller : goal.loop-number-smaller
 loop-number-smaller c =
     let es = entries_of c.args.self.now in
     let here = entry_path es c.loop-number.number in
-    let node : is_node_at (root_node es) here ≡ true = sym c.is_node.ensures ∙ c.loop-number-test.true in
-    omega (arith, since-fewer (root_node es) here node, ap length (c.in-Some.ensures.next.same element_list))
+    let node : is_node_at (root_node es) here ≡ true = sym c.is_node.ensures
+    ∙ c.loop-number-test.true in
+    omega (
+      arith,
+      since-fewer (root_node es) here node,
+      ap length (c.in-Some.ensures.next.same element_list),
+    )
 
 pub loop-number-preserved : goal.loop-number-preserved
 loop-number-preserved c =
     let es = entries_of c.args.self.now in
     let here = entry_path es c.loop-number.number in
-    let node : is_node_at (root_node es) here ≡ true = sym c.is_node.ensures ∙ c.loop-number-test.true in (
+    let node : is_node_at (root_node es) here ≡ true = sym c.is_node.ensures
+    ∙ c.loop-number-test.true in (
       c.in-Some.ensures.found.within,
       c.in-Some.ensures.found.inside,
-      ap (first_inside (entry_path es c.args.top)) (c.in-Some.ensures.next.same leaf_list ∙ sym (since-node (root_node es) here node)) ∙ c.loop-number.invariant.2,
-      ap (filter (begins (entry_path es c.args.top))) (c.in-Some.ensures.next.same leaf_list ∙ sym (since-node (root_node es) here node)) ∙ c.loop-number.invariant.3,
+      ap (first_inside (entry_path es c.args.top))
+          (c.in-Some.ensures.next.same leaf_list ∙ sym (since-node (root_node es) here node))
+          ∙ c.loop-number.invariant.2,
+      ap (filter (begins (entry_path es c.args.top)))
+          (c.in-Some.ensures.next.same leaf_list ∙ sym (since-node (root_node es) here node))
+          ∙ c.loop-number.invariant.3,
     )
 
 pub returns-in-None-clause-found : goal.returns-in-None-clause-found
 returns-in-None-clause-found c =
     let es = entries_of c.args.self.now in
     let here = entry_path es c.loop-number.number in
-    let node : is_node_at (root_node es) here ≡ true = sym c.is_node.ensures ∙ c.loop-number-test.true in
+    let node : is_node_at (root_node es) here ≡ true = sym c.is_node.ensures
+    ∙ c.loop-number-test.true in
     record {
-      path = sym c.in-None.ensures.end ∙ ap (first_inside (entry_path es c.args.top)) (sym (since-node (root_node es) here node)) ∙ c.loop-number.invariant.2;
+      path = sym c.in-None.ensures.end ∙ ap (first_inside (entry_path es c.args.top))
+          (sym (since-node (root_node es) here node)) ∙ c.loop-number.invariant.2;
       token = tt;
     }
 
@@ -42,18 +54,24 @@ pub returns-in-None-clause-left : goal.returns-in-None-clause-left
 returns-in-None-clause-left c =
     let es = entries_of c.args.self.now in
     let here = entry_path es c.loop-number.number in
-    let node : is_node_at (root_node es) here ≡ true = sym c.is_node.ensures ∙ c.loop-number-test.true in
+    let node : is_node_at (root_node es) here ≡ true = sym c.is_node.ensures
+    ∙ c.loop-number-test.true in
     let top = entry_path es c.args.top in
-    sym (nothing_inside top (since_child leaf_list (Some (Node (root_node es))) here 0) c.in-None.ensures.end) ∙ ap (filter (begins top)) (sym (since-node (root_node es) here node)) ∙ c.loop-number.invariant.3
+    sym (nothing_inside top (since_child leaf_list (Some (Node (root_node es))) here 0)
+    c.in-None.ensures.end) ∙ ap (filter (begins top)) (sym (since-node (root_node es) here node))
+    ∙ c.loop-number.invariant.3
 
 pub returns-clause-found : goal.returns-clause-found
 returns-clause-found c =
     let es = entries_of c.args.self.now in
     let here = entry_path es c.loop-number.number in
-    let there = stands_at es c.args.self.now.complete c.loop-number.number c.loop-number.invariant.0 in
-    let token : is_node_at (root_node es) here ≡ false = sym c.is_node.ensures ∙ c.loop-number-test.false in
+    let there = stands_at es c.args.self.now.complete c.loop-number.number
+    c.loop-number.invariant.0 in
+    let token : is_node_at (root_node es) here ≡ false = sym c.is_node.ensures
+    ∙ c.loop-number-test.false in
     record {
-      path = token-first (root_node es) (entry_path es c.args.top) here there.0 there.1 token c.loop-number.invariant.1 ∙ c.loop-number.invariant.2;
+      path = token-first (root_node es) (entry_path es c.args.top) here there.0 there.1 token
+          c.loop-number.invariant.1 ∙ c.loop-number.invariant.2;
       token = record {
         within = c.loop-number.invariant.0;
         is = token;

@@ -12,10 +12,14 @@ invariant-loop-number l =
     let es = entries_of l.self in
     (l.number < length es)
     × (begins (entry_path es l.top) (entry_path es l.number) ≡ true)
-    × (first_inside (entry_path es l.top) (since leaf_list (Some (Node (root_node es))) (entry_path es l.number))
-    ≡ first_inside (entry_path es l.top) (since leaf_list (Some (Node (root_node es))) (entry_path es l.start)))
-    × (filter (begins (entry_path es l.top)) (since leaf_list (Some (Node (root_node es))) (entry_path es l.number))
-    ≡ filter (begins (entry_path es l.top)) (since leaf_list (Some (Node (root_node es))) (entry_path es l.start)))
+    × (first_inside (entry_path es l.top) (since leaf_list (Some (Node (root_node es)))
+    (entry_path es l.number))
+    ≡ first_inside (entry_path es l.top) (since leaf_list (Some (Node (root_node es)))
+    (entry_path es l.start)))
+    × (filter (begins (entry_path es l.top)) (since leaf_list (Some (Node (root_node es)))
+    (entry_path es l.number))
+    ≡ filter (begins (entry_path es l.top)) (since leaf_list (Some (Node (root_node es)))
+    (entry_path es l.start)))
 
 -- the elements that are left
 abbrev pub decreases-loop-number : goal.decreases-loop-number

@@ -11,7 +11,10 @@ returns-in-Ok c =
     let n = c.args.node.now in
     let made = c.in-Ok.ensures.ok in
     let run = made.2.0 in
-    let none : once_item run.from ≡ None = ap once_item (made.2.1 ∙ made.1) ∙ c.empty.ensures.item in
+    let none : once_item run.from ≡ None = ap once_item (made.2.1 ∙ made.1)
+    ∙ c.empty.ensures.item in
     let given = c.empty.ensures.runs run run.seen in
-    let items : run.items ≡ [] = no_items run.items (omega (arith, given.0, run.long, ap (λ o. length (option_to_list o)) none)) in
-    made.2.3.0 ∙ ap (λ xs. node_of (node_kind n) (take 0 (node_children n) ++ xs ++ drop 0 (node_children n))) items ∙ node_of-children n
+    let items : run.items ≡ [] = no_items run.items
+    (omega (arith, given.0, run.long, ap (λ o. length (option_to_list o)) none)) in
+    made.2.3.0 ∙ ap (λ xs. node_of (node_kind n)
+    (take 0 (node_children n) ++ xs ++ drop 0 (node_children n))) items ∙ node_of-children n

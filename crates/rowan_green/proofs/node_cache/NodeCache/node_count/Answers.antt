@@ -5,4 +5,9 @@ use Rattle.rowan_green.proofs.node_cache.NodeCache.node_count.Goals as goal
 
 pub returns : goal.returns
 returns c = let s = c.self.inside in
-    omega (arith, count-length s.table, c.self.invariant.0.counted, ap (λ v. count_nodes v.seen) c.self.view_is)
+    omega (
+      arith,
+      count-length s.table,
+      c.self.invariant.0.counted,
+      ap (λ v. count_nodes v.seen) c.self.view_is,
+    )

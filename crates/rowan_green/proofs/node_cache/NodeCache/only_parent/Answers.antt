@@ -13,7 +13,12 @@ returns c = λ ts numbered.
     let cache : CacheValue = record { limit = s.limit; seen = s.table } in
     let n = c.in_ok-child.child in
     let os = c.args.children.now in
-    let only : os ≡ Some n ∷ [] = only_item os (omega (arith, c.if-children-ne1.false)) ∙ ap (λ o. o ∷ []) c.in_ok-child.was in
-    let own : AreNumbered cache ts (Some n ∷ []) = subst (λ v. AreNumbered v ts (Some n ∷ [])) (sym c.self.view_is) (subst (AreNumbered c.args.self.now ts) only numbered) in
-    subst (λ v. IfSome c.parent_number.result (λ k. slice_get v.seen k ≡ Some (Node (node_of c.args.kind.0 ts)))) c.self.view_is
+    let only : os ≡ Some n ∷ [] =
+    only_item os (omega (arith, c.if-children-ne1.false))
+    ∙ ap (λ o. o ∷ []) c.in_ok-child.was in
+    let own : AreNumbered cache ts (Some n ∷ []) =
+    subst (λ v. AreNumbered v ts (Some n ∷ [])) (sym c.self.view_is)
+    (subst (AreNumbered c.args.self.now ts) only numbered) in
+    subst (λ v. IfSome c.parent_number.result
+    (λ k. slice_get v.seen k ≡ Some (Node (node_of c.args.kind.0 ts)))) c.self.view_is
     (c.parent_number.ensures ts (StandAt-elements cache ts (Some n ∷ []) (n ∷ []) own refl))

@@ -10,5 +10,6 @@ pub returns : goal.returns
 unfolding node_hash
 returns c =
     let whole = take_all c.loop-number.number-index c.args.numbers.now c.loop-number-test.false in
-    c.with_kind.ensures ∙ ap (with_kind c.args.kind.0) (c.finish.ensures ∙ ap finish c.loop-number.invariant
+    c.with_kind.ensures ∙ ap (with_kind c.args.kind.0)
+    (c.finish.ensures ∙ ap finish c.loop-number.invariant
     ∙ ap (λ ns. finish (fold write initial (flat_map fed.u32 ns))) whole)

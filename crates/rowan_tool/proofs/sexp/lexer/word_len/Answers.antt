@@ -7,10 +7,15 @@ use Rattle.rowan_tool.proofs.SexpRuns.{stopped_from_find}
 use Rattle.rowan_tool.proofs.sexp.lexer.word_len.Goals as goal
 
 pub returns-in-Some-clause-run : goal.returns-in-Some-clause-run
-returns-in-Some-clause-run c = (c.in-Some.ensures.cases.1 is_delimiter (always_returns_same _ (λ a r. r ≡ is_delimiter a.0) _ (λ a r f' call. search rules))).0
+returns-in-Some-clause-run c = (c.in-Some.ensures.cases.1 is_delimiter
+    (always_returns_same _ (λ a r. r ≡ is_delimiter a.0) _ (λ a r f' call. search rules))).0
 
 pub returns-in-Some-clause-longest : goal.returns-in-Some-clause-longest
-returns-in-Some-clause-longest c = stopped_from_find is_delimiter _ _ _ (c.in-Some.ensures.cases.1 is_delimiter (always_returns_same _ (λ a r. r ≡ is_delimiter a.0) _ (λ a r f' call. search rules)))
+returns-in-Some-clause-longest c = stopped_from_find is_delimiter _ _ _
+    (c.in-Some.ensures.cases.1 is_delimiter
+    (always_returns_same _ (λ a r. r ≡ is_delimiter a.0) _ (λ a r f' call. search rules)))
 
 pub returns-in-None-clause-run : goal.returns-in-None-clause-run
-returns-in-None-clause-run c = subst (NoCharPasses is_delimiter) (sym (take-length c.args.text.now)) (c.in-None.ensures.cases is_delimiter (always_returns_same _ (λ a r. r ≡ is_delimiter a.0) _ (λ a r f' call. search rules)))
+returns-in-None-clause-run c = subst (NoCharPasses is_delimiter) (sym (take-length c.args.text.now))
+    (c.in-None.ensures.cases is_delimiter
+    (always_returns_same _ (λ a r. r ≡ is_delimiter a.0) _ (λ a r f' call. search rules)))

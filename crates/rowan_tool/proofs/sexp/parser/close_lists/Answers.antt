@@ -11,7 +11,10 @@ pub returns-in_err-finish_node-clause-err : goal.returns-in_err-finish_node-clau
 returns-in_err-finish_node-clause-err c =
     let p = err_from_is_err_and c.from_residual.result c.from_residual.ensures.1 in
     let now = c.loop-list.builder.inner.word in
-    rw (p.1, p.2) (IsInRoot-refuses now _ c.in_err-finish_node.field-0.0 c.loop-list.invariant.in_root (omega (arith, ap length c.loop-list.invariant.same_text, c.requires.room)) c.in_err-finish_node.ensures.err)
+    rw (p.1, p.2) (IsInRoot-refuses now _ c.in_err-finish_node.field-0.0
+    c.loop-list.invariant.in_root (omega
+    (arith, ap length c.loop-list.invariant.same_text, c.requires.room))
+    c.in_err-finish_node.ensures.err)
 
 pub loop-list-preserved : goal.loop-list-preserved
 loop-list-preserved c =
@@ -21,8 +24,10 @@ loop-list-preserved c =
     let closes = c.in_ok-finish_node.ensures.ok.closes in
     let e : n - 1 ≡ c.args.open_lists - (c.loop-list._list + 1) = omega arith in
     record {
-      in_root = subst (λ k. IsInRoot w k) e (IsInRoot-closes v w n c.loop-list.invariant.in_root (omega arith) closes);
-      word = closings_more c.args.builder.now.inner.word v w c.loop-list._list c.loop-list.invariant.word closes.closed;
+      in_root = subst (λ k. IsInRoot w k) e
+          (IsInRoot-closes v w n c.loop-list.invariant.in_root (omega arith) closes);
+      word = closings_more c.args.builder.now.inner.word v w c.loop-list._list
+          c.loop-list.invariant.word closes.closed;
       same_text = c.finish_node.ensures.text ∙ c.loop-list.invariant.same_text;
       builds = BuildsOn-trans _ _ _ c.loop-list.invariant.builds c.finish_node.ensures.stream;
       same_loan = c.finish_node.ensures.loan ∙ c.loop-list.invariant.same_loan;
@@ -30,4 +35,7 @@ loop-list-preserved c =
 
 pub returns-in_err-finish_node-clause-begun : goal.returns-in_err-finish_node-clause-begun
 returns-in_err-finish_node-clause-begun c =
-    on_err_any _ (begun-closings c.args.builder.now.inner.word c.loop-list.builder.inner.word c.finish_node.new.self.inner.word c.loop-list._list c.args.open_lists (omega arith) c.loop-list.invariant.word (ap (λ b. b.word) c.in_err-finish_node.ensures.unchanged))
+    on_err_any _ (begun-closings c.args.builder.now.inner.word c.loop-list.builder.inner.word
+    c.finish_node.new.self.inner.word c.loop-list._list c.args.open_lists
+    (omega arith) c.loop-list.invariant.word
+    (ap (λ b. b.word) c.in_err-finish_node.ensures.unchanged))

@@ -10,7 +10,9 @@ use Rattle.rowan.proofs.ast.children.AstChildrenIterator.next.Given as goal
 abbrev pub invariant-loop-node : goal.invariant-loop-node
 invariant-loop-node g l =
     let casts = casts_at g.N.Language.Language.meaning g.N.AstNode.casts in
-    (o : Option (Result g.row.N.Denot Fault)) (after : Rest Cursor) → YieldsWrappers casts g.N.AstNode.node_of l.self-inside.nodes o after → YieldsWrappers casts g.N.AstNode.node_of l.fn.self o after
+    (o : Option (Result g.row.N.Denot Fault)) (after : Rest Cursor)
+    → YieldsWrappers casts g.N.AstNode.node_of l.self-inside.nodes o after
+    → YieldsWrappers casts g.N.AstNode.node_of l.fn.self o after
 
 abbrev pub decreases-loop-node : goal.decreases-loop-node
 decreases-loop-node g l = count_of l.self-inside.nodes

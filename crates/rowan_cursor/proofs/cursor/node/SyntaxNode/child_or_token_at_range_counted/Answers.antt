@@ -14,7 +14,12 @@ returns-clause-ok c =
     let n = c.self.inside.number in
     let o = c.child_at_range-child.result in
     let range = c.args.range in
-    let some = subst (λ (t : Table). IfSome o (λ k. IsRangeChild (root_of t) range (path_at t n) (path_at t k))) c.deref.ensures c.child_at_range-child.ensures.child in
-    let none = subst (λ (t : Table). IsNone o → (q : Path) → ¬ IsRangeChild (root_of t) range (path_at t n) q) c.deref.ensures c.child_at_range-child.ensures.none in
-    subst (λ (x : Cursor). FindsChild range x c.in_ok-found.field-0) c.self.view_is
-    (finds-answer s (IsRangeChild (root_of s) range (path_at s n)) o c.in_ok-found.field-0 c.in_ok-found.ensures some none)
+    let some = subst (λ (t : Table). IfSome o
+    (λ k. IsRangeChild (root_of t) range (path_at t n) (path_at t k))) c.deref.ensures
+    c.child_at_range-child.ensures.child in
+    let none = subst (λ (t : Table). IsNone o → (q : Path)
+    → ¬ IsRangeChild (root_of t) range (path_at t n) q) c.deref.ensures
+    c.child_at_range-child.ensures.none in
+    subst (λ (x : Cursor). FindsChild range x c.in_ok-option_at.field-0) c.self.view_is
+    (finds-answer s (IsRangeChild (root_of s) range (path_at s n)) o c.in_ok-option_at.field-0
+    c.in_ok-option_at.ensures some none)

@@ -10,12 +10,18 @@ pub returns-clause-rest : goal.returns-clause-rest
 returns-clause-rest c =
     let u = Token c.args.replacement in
     let at = cursor_of c.deref.result.now c.self.inside.number in
-    let here : at ≡ c.args.self.now = ap (λ t. cursor_of t c.self.inside.number) c.deref.ensures ∙ c.self.view_is in
-    IfOk-weaker c.replace_token.result (λ n. Node n ≡ with_replacement at u) (KeepsTheRest c.args.self.now u) (λ n e. keeps c.args.self.now u n c.kind-2.result.0 c.kind-2.ensures (e ∙ ap (λ d. with_replacement d u) here)) c.replace_token.ensures.root
+    let here : at ≡ c.args.self.now = ap (λ t. cursor_of t c.self.inside.number) c.deref.ensures
+    ∙ c.self.view_is in
+    IfOk-weaker c.replace_token.result (λ n. Node n ≡ with_replacement at u)
+    (KeepsTheRest c.args.self.now u) (λ n e. keeps c.args.self.now u n c.kind-2.result.0
+    c.kind-2.ensures (e ∙ ap (λ d. with_replacement d u) here)) c.replace_token.ensures.root
 
 pub returns-clause-own : goal.returns-clause-own
 returns-clause-own c = λ own.
     (let u = Token c.args.replacement in
     let at = cursor_of c.deref.result.now c.self.inside.number in
-    let here : at ≡ c.args.self.now = ap (λ t. cursor_of t c.self.inside.number) c.deref.ensures ∙ c.self.view_is in
-    IfOk-weaker c.replace_token.result (λ n. Node n ≡ with_replacement at u) (λ n. n ≡ c.args.self.now.root) (λ n e. put-own c.args.self.now u n own (e ∙ ap (λ d. with_replacement d u) here)) c.replace_token.ensures.root)
+    let here : at ≡ c.args.self.now = ap (λ t. cursor_of t c.self.inside.number) c.deref.ensures
+    ∙ c.self.view_is in
+    IfOk-weaker c.replace_token.result (λ n. Node n ≡ with_replacement at u)
+    (λ n. n ≡ c.args.self.now.root) (λ n e. put-own c.args.self.now u n own
+    (e ∙ ap (λ d. with_replacement d u) here)) c.replace_token.ensures.root)

@@ -25,7 +25,9 @@ returns-clause-draft c =
       parent = 0;
       node = c.none.result;
     } in
-    filled_as d (e ∷ []) [] (w ∷ []) (c.push_reserved-2.ensures.items ∙ ap (λ es. es ++ e ∷ []) c.in_ok-with_capacity.ensures.items)
+    filled_as d (e ∷ []) [] (w ∷ []) (c.push_reserved-2.ensures.items
+    ∙ ap (λ es. es ++ e ∷ []) c.in_ok-with_capacity.ensures.items)
     c.in_ok-with_capacity-2.ensures
     (c.push_reserved.ensures.items ∙ ap (λ ws. ws ++ w ∷ []) c.in_ok-with_capacity-3.ensures.items)
-    (filled-root e w c.from-start.ensures c.none.ensures c.from-start.ensures refl (Fits-len (Node c.args.root.now) c.text_len.ensures.fits))
+    (filled-root e w c.from-start.ensures c.none.ensures c.from-start.ensures refl
+    (Fits-len (Node c.args.root.now) c.text_len.ensures.fits))

@@ -8,7 +8,13 @@ use Rattle.rowan_cursor.proofs.table.draft.Draft.push_child.Goals as goal
 
 pub overflow_add-from : goal.overflow_add-from
 overflow_add-from c =
-    omega (arith, c.from.ensures, c.from-2.ensures, c.in-Some.ensures.some.0, start_fits c.args.self.now c.args.parent.now c.args.index c.requires.draft c.requires.place)
+    omega (
+      arith,
+      c.from.ensures,
+      c.from-2.ensures,
+      c.in-Some.ensures.some.0,
+      start_fits c.args.self.now c.args.parent.now c.args.index c.requires.draft c.requires.place,
+    )
 
 pub returns-in-Token-clause-added : goal.returns-in-Token-clause-added
 returns-in-Token-clause-added c =
@@ -18,8 +24,17 @@ returns-in-Token-clause-added c =
       nodes = d.nodes;
       waiting = d.waiting;
     } in
-    let start : c.from-start.result ≡ c.args.parent.now.start + child_start (node_children c.args.parent.now.node.now) c.args.index = omega (arith, c.from-start.ensures, c.from.ensures, c.from-2.ensures, c.in-Some.ensures.some.0) in
-    adds_token_child d new c.args.parent.now c.args.index c.requires.draft c.requires.place (pointee c.in-Some.found.1) c.in-Some.ensures.some.1 _ start refl c.none-in-Token.ensures
+    let start : c.from-start.result ≡ c.args.parent.now.start
+    + child_start (node_children c.args.parent.now.node.now) c.args.index =
+    omega (
+      arith,
+      c.from-start.ensures,
+      c.from.ensures,
+      c.from-2.ensures,
+      c.in-Some.ensures.some.0,
+    ) in
+    adds_token_child d new c.args.parent.now c.args.index c.requires.draft c.requires.place
+    (pointee c.in-Some.found.1) c.in-Some.ensures.some.1 _ start refl c.none-in-Token.ensures
     c.push_reserved-in-Token.ensures.items refl refl (ap (λ o. into_node (pointee o)) c.in-Token.is)
 
 pub returns-in-Node-clause-added : goal.returns-in-Node-clause-added
@@ -30,7 +45,18 @@ returns-in-Node-clause-added c =
       nodes = d.nodes;
       waiting = c.push_reserved.new.self;
     } in
-    let start : c.from-start.result ≡ c.args.parent.now.start + child_start (node_children c.args.parent.now.node.now) c.args.index = omega (arith, c.from-start.ensures, c.from.ensures, c.from-2.ensures, c.in-Some.ensures.some.0) in
-    let number : c.len-number.result ≡ length d.entries.items = omega (arith, c.len-number.ensures) in
-    adds_node_child d new c.args.parent.now c.args.index c.requires.draft c.requires.place (pointee c.in-Some.found.1) c.in-Some.ensures.some.1 _ start refl c.none.ensures
-    c.push_reserved-in-Node.ensures.items refl _ c.push_reserved.ensures.items (ap (λ o. into_node (pointee o)) c.in-Node.is) refl number
+    let start : c.from-start.result ≡ c.args.parent.now.start
+    + child_start (node_children c.args.parent.now.node.now) c.args.index =
+    omega (
+      arith,
+      c.from-start.ensures,
+      c.from.ensures,
+      c.from-2.ensures,
+      c.in-Some.ensures.some.0,
+    ) in
+    let number : c.len-number.result ≡ length d.entries.items =
+    omega (arith, c.len-number.ensures) in
+    adds_node_child d new c.args.parent.now c.args.index c.requires.draft c.requires.place
+    (pointee c.in-Some.found.1) c.in-Some.ensures.some.1 _ start refl c.none.ensures
+    c.push_reserved-in-Node.ensures.items refl _ c.push_reserved.ensures.items
+    (ap (λ o. into_node (pointee o)) c.in-Node.is) refl number

@@ -5,4 +5,6 @@ use Rattle.rowan_cursor.proofs.table.draft.Draft.turn_round.Goals as goal
 pub returns-clause-waiting : goal.returns-clause-waiting
 returns-clause-waiting c =
     let waiting = c.args.self.now.waiting in
-    part_turned waiting.items c.deref_mut.result.now c.reverse.new.self c.args.place waiting.len c.deref_mut.ensures.value (sym c.deref_mut.ensures.len ∙ ap length c.deref_mut.ensures.value) c.requires c.reverse.ensures.permutation
+    part_turned waiting.items c.deref_mut.result.now c.reverse.new.self c.args.place waiting.len
+    c.deref_mut.ensures.value (sym c.deref_mut.ensures.len ∙ ap length c.deref_mut.ensures.value)
+    c.requires c.reverse.ensures.permutation

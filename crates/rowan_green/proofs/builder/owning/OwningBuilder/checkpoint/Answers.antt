@@ -6,5 +6,6 @@ use Rattle.rowan_green.proofs.builder.owning.OwningBuilder.checkpoint.Goals as g
 pub returns : goal.returns
 returns c =
     let s = c.self.inside in
-    HasCount-weave s.parents.items (elements s.finished) c.args.self.now.word c.len.result (ap (λ b. b.word) c.self.view_is)
+    HasCount-weave s.parents.items (elements s.finished) c.args.self.now.word c.len.result
+    (ap (λ b. b.word) c.self.view_is)
     c.len.ensures

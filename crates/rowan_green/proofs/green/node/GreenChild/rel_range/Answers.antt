@@ -12,10 +12,20 @@ new-requires c =
     let ts = map child_term cs in
     let k = c.args.index in
     let child = c.index-children-index in
-    let start = c.rel_offset-start.ensures ∙ offset-is cs k child.result c.requires.placed child.is c.requires.place in
+    let start = c.rel_offset-start.ensures
+    ∙ offset-is cs k child.result c.requires.placed child.is c.requires.place in
     let end : c.match-get.end ≡ child_end ts k = elim c.match-get.branch [
-      | in-Some w ↦ w.end-is ∙ w.rel_offset-end.ensures ∙ offset-is cs (k + 1) w.in-Some.next.now c.requires.placed w.in-Some.ensures.lookup.1 w.in-Some.ensures.lookup.3.0
-      | in-None w ↦ w.end-is ∙ c.requires.sum ∙ sym (child_end-last ts k (omega (arith, c.requires.place, length-map cs child_term, w.in-None.ensures.lookup.3)))
+      | in-Some w ↦ w.end-is ∙ w.rel_offset-end.ensures
+          ∙ offset-is cs (k + 1) w.in-Some.next.now c.requires.placed w.in-Some.ensures.lookup.1
+          w.in-Some.ensures.lookup.3.0
+      | in-None w ↦ w.end-is ∙ c.requires.sum
+          ∙ sym (child_end-last ts k
+          (omega (
+            arith,
+            c.requires.place,
+            length-map cs child_term,
+            w.in-None.ensures.lookup.3,
+          )))
     ] in
     omega (arith, start, end, child_start-le ts k (k + 1) (omega arith))
 
@@ -25,9 +35,21 @@ returns c =
     let ts = map child_term cs in
     let k = c.args.index in
     let child = c.index-children-index in
-    let start : c.rel_offset-start.result ≡ child_start ts k = c.rel_offset-start.ensures ∙ offset-is cs k child.result c.requires.placed child.is c.requires.place in
+    let start : c.rel_offset-start.result ≡ child_start ts k =
+    c.rel_offset-start.ensures
+    ∙ offset-is cs k child.result c.requires.placed child.is c.requires.place in
     let end : c.match-get.end ≡ child_end ts k = elim c.match-get.branch [
-      | in-Some w ↦ w.end-is ∙ w.rel_offset-end.ensures ∙ offset-is cs (k + 1) w.in-Some.next.now c.requires.placed w.in-Some.ensures.lookup.1 w.in-Some.ensures.lookup.3.0
-      | in-None w ↦ w.end-is ∙ c.requires.sum ∙ sym (child_end-last ts k (omega (arith, c.requires.place, length-map cs child_term, w.in-None.ensures.lookup.3)))
+      | in-Some w ↦ w.end-is ∙ w.rel_offset-end.ensures
+          ∙ offset-is cs (k + 1) w.in-Some.next.now c.requires.placed w.in-Some.ensures.lookup.1
+          w.in-Some.ensures.lookup.3.0
+      | in-None w ↦ w.end-is ∙ c.requires.sum
+          ∙ sym (child_end-last ts k
+          (omega (
+            arith,
+            c.requires.place,
+            length-map cs child_term,
+            w.in-None.ensures.lookup.3,
+          )))
     ] in
-    c.new.ensures ∙ ap (λ n. record { start = n; end = c.match-get.end }) start ∙ ap (λ n. record { start = child_start ts k; end = n }) end
+    c.new.ensures ∙ ap (λ n. record { start = n; end = c.match-get.end }) start
+    ∙ ap (λ n. record { start = child_start ts k; end = n }) end

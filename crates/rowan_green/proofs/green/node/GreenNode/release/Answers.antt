@@ -6,5 +6,6 @@ use Rattle.rowan_green.proofs.green.node.GreenNode.release.Goals as goal
 
 pub returns : goal.returns
 returns c =
-    let same = ap (map child_term) c.in_ok-_head.ensures.2 ∙ children-view c.self.inside.data.value c.args.self c.self.view_is in
+    let same = ap (map child_term) c.in_ok-_head.ensures.2
+    ∙ children-view c.self.inside.data.value c.args.self c.self.view_is in
     omega (arith, children_size-node c.in_ok-_head.block.list.items c.args.self same)

@@ -11,10 +11,13 @@ place_with-requires c =
     let ps = s.places.items in
     let newest = s.newest.items in
     let o = c.index-first.result.now in
-    let within = subst (λ n. c.bucket.result < n) (c.len.ensures ∙ s.newest.ok.0) c.bucket.ensures.within in
-    let at : slice_get newest c.bucket.result ≡ Some o = slice_get_read newest (length newest) c.bucket.result o refl within c.index-first.ensures in
+    let within = subst (λ n. c.bucket.result < n) (c.len.ensures ∙ s.newest.ok.0)
+    c.bucket.ensures.within in
+    let at : slice_get newest c.bucket.result ≡ Some o =
+    slice_get_read newest (length newest) c.bucket.result o refl within c.index-first.ensures in
     subst (λ qs. IsOnChain (hashes_of qs) (older_of qs) o) (sym c.as_slice.ensures.value)
-    (IsOnChain-newest (hashes_of ps) newest (older_of ps) c.self.invariant.linked c.bucket.result o at)
+    (IsOnChain-newest (hashes_of ps) newest (older_of ps) c.self.invariant.linked c.bucket.result o
+    at)
 
 pub returns : goal.returns
 returns c =
@@ -24,12 +27,18 @@ returns c =
     let newest = s.newest.items in
     let o = c.index-first.result.now in
     let count : c.len.result ≡ length newest = c.len.ensures ∙ s.newest.ok.0 in
-    let here : c.bucket.result ≡ bucket (length newest) c.args.hash = c.bucket.ensures.value ∙ ap (λ n. bucket n c.args.hash) count in
+    let here : c.bucket.result ≡ bucket (length newest) c.args.hash =
+    c.bucket.ensures.value ∙ ap (λ n. bucket n c.args.hash) count in
     let within = subst (λ n. c.bucket.result < n) count c.bucket.ensures.within in
-    let at : slice_get newest c.bucket.result ≡ Some o = slice_get_read newest (length newest) c.bucket.result o refl within c.index-first.ensures in
-    let first = subst (λ b. IsNewest (map (bucket (length newest)) hashes) (length hashes) b o) here (c.self.invariant.linked.first c.bucket.result o at) in
+    let at : slice_get newest c.bucket.result ≡ Some o =
+    slice_get_read newest (length newest) c.bucket.result o refl within c.index-first.ensures in
+    let first = subst (λ b. IsNewest (map (bucket (length newest)) hashes) (length hashes) b o) here
+    (c.self.invariant.linked.first c.bucket.result o at) in
     let found = c.place_with.ensures newest (length hashes)
-    (subst (λ qs. AreLinked (hashes_of qs) newest (older_of qs)) (sym c.as_slice.ensures.value) c.self.invariant.linked)
-    (subst (λ qs. IsNewest (map (bucket (length newest)) (hashes_of qs)) (length hashes) (bucket (length newest) c.args.hash) o) (sym c.as_slice.ensures.value) first) in
+    (subst (λ qs. AreLinked (hashes_of qs) newest (older_of qs)) (sym c.as_slice.ensures.value)
+    c.self.invariant.linked)
+    (subst (λ qs. IsNewest (map (bucket (length newest)) (hashes_of qs)) (length hashes)
+    (bucket (length newest) c.args.hash) o) (sym c.as_slice.ensures.value) first) in
     subst (λ v. IsNewest v.hashes (length v.hashes) c.args.hash c.place_with.result) c.self.view_is
-    (subst (λ qs. IsNewest (hashes_of qs) (length hashes) c.args.hash c.place_with.result) c.as_slice.ensures.value found)
+    (subst (λ qs. IsNewest (hashes_of qs) (length hashes) c.args.hash c.place_with.result)
+    c.as_slice.ensures.value found)

@@ -4,7 +4,8 @@ use Rattle.rowan_green.proofs.node_cache.table.ValueTable.node_number.Given as g
 
 abbrev pub invariant-loop-next : goal.invariant-loop-next
 invariant-loop-next l =
-    IsAhead l.self-inside.values.items l.self-inside.chains.hashes l.fn.hash l.next (λ k. is_node_by l.self-inside.child_numbers.items l.kind.0 l.numbers k (kept_term k))
+    IsAhead l.self-inside.values.items l.self-inside.chains.hashes l.fn.hash l.next
+    (λ k. is_node_by l.self-inside.child_numbers.items l.kind.0 l.numbers k (kept_term k))
 
 abbrev pub decreases-loop-next : goal.decreases-loop-next
 decreases-loop-next l = left_before l.next

@@ -14,8 +14,15 @@ index-node-requires c =
     let ds = c.deref.result.now in
     let j : Kept = c.in_ok-kept.kept.now in
     let look = c.in_ok-kept.ensures.lookup in
-    let at : slice_get ks c.args.child ≡ Some j = ap (λ xs. slice_get xs c.args.child) (sym c.deref.ensures.value) ∙ slice_get_read ds (length ds) c.args.child j refl look.3.0 look.1 in
-    omega (arith, parent_within c.self.invariant c.args.child c.in_ok-number.number j at (sym c.parent.ensures ∙ c.in_ok-number.was), c.self.inside.values.ok.0)
+    let at : slice_get ks c.args.child ≡ Some j =
+    ap (λ xs. slice_get xs c.args.child) (sym c.deref.ensures.value)
+    ∙ slice_get_read ds (length ds) c.args.child j refl look.3.0 look.1 in
+    omega (
+      arith,
+      parent_within c.self.invariant c.args.child c.in_ok-number.number j at
+          (sym c.parent.ensures ∙ c.in_ok-number.was),
+      c.self.inside.values.ok.0,
+    )
 
 pub returns-then-eq : goal.returns-then-eq
 returns-then-eq c = λ ts stand.
@@ -25,10 +32,16 @@ returns-then-eq c = λ ts stand.
     let j : Kept = c.in_ok-kept.kept.now in
     let k : Kept = c.index-node.result.now in
     let look = c.in_ok-kept.ensures.lookup in
-    let at : slice_get ks c.args.child ≡ Some j = ap (λ xs. slice_get xs c.args.child) (sym c.deref.ensures.value) ∙ slice_get_read ds (length ds) c.args.child j refl look.3.0 look.1 in
+    let at : slice_get ks c.args.child ≡ Some j =
+    ap (λ xs. slice_get xs c.args.child) (sym c.deref.ensures.value)
+    ∙ slice_get_read ds (length ds) c.args.child j refl look.3.0 look.1 in
     let parent = sym c.parent.ensures ∙ c.in_ok-number.was in
-    let at_parent : slice_get ks number ≡ Some k = slice_get_read ks (length ks) number k refl (parent_within c.self.invariant c.args.child number j at parent) c.index-node.ensures in
+    let at_parent : slice_get ks number ≡ Some k =
+    slice_get_read ks (length ks) number k refl
+    (parent_within c.self.invariant c.args.child number j at parent) c.index-node.ensures in
     let same = (Decides-eqb c.kind.result.0 c.args.kind.0).0 (sym c.eq.ensures ∙ c.if-eq.true) in
-    let kind : term_kind (kept_term k) ≡ c.args.kind.0 = ap term_kind (sym c.as_ref.ensures) ∙ sym c.kind.ensures ∙ same in
+    let kind : term_kind (kept_term k) ≡ c.args.kind.0 =
+    ap term_kind (sym c.as_ref.ensures) ∙ sym c.kind.ensures ∙ same in
     ap (λ us. slice_get us number) (sym c.self.view_is)
-    ∙ parent_found c.self.invariant c.args.child number j at parent k c.args.kind.0 ts at_parent kind (subst (λ us. StandAt us (c.args.child ∷ []) ts) (sym c.self.view_is) stand)
+    ∙ parent_found c.self.invariant c.args.child number j at parent k c.args.kind.0 ts at_parent
+    kind (subst (λ us. StandAt us (c.args.child ∷ []) ts) (sym c.self.view_is) stand)

@@ -7,7 +7,8 @@ use Rattle.rowan_green.proofs.node_cache.table.ValueTable.token_number.Given as 
 
 abbrev pub invariant-loop-next : goal.invariant-loop-next
 invariant-loop-next l =
-    IsAhead l.self-inside.values.items l.self-inside.chains.hashes l.fn.hash l.next (λ k. same_term (kept_term k) (Token (token_of l.kind.0 l.text)))
+    IsAhead l.self-inside.values.items l.self-inside.chains.hashes l.fn.hash l.next
+    (λ k. same_term (kept_term k) (Token (token_of l.kind.0 l.text)))
 
 abbrev pub decreases-loop-next : goal.decreases-loop-next
 decreases-loop-next l = left_before l.next

@@ -8,10 +8,13 @@ use Rattle.rowan_tool.specs.Sexp.{kind_of}
 use Rattle.rowan_tool.proofs.sexp.parsed.Parse.root.Goals as goal
 
 -- a node of the root's kind casts
-casts : (o : Option Cursor) (n : Cursor) → option_map (λ (r : Cursor). r) o ≡ if_casts (casts_at kind_of is_root) n → kind n ≡ Some root_kind → IsSome o
+casts : (o : Option Cursor) (n : Cursor)
+    → option_map (λ (r : Cursor). r) o ≡ if_casts (casts_at kind_of is_root) n
+    → kind n ≡ Some root_kind → IsSome o
 casts (Some r) n e k = refl
 casts None n e k =
-    let casting : if_casts (casts_at kind_of is_root) n ≡ Some n = ap (λ kind. cond (option_map_or is_root (option_map kind_of kind) false) (Some n) None) k in
+    let casting : if_casts (casts_at kind_of is_root) n ≡ Some n =
+    ap (λ kind. cond (option_map_or is_root (option_map kind_of kind) false) (Some n) None) k in
     absurd cc
 
 pub unwrap-requires : goal.unwrap-requires

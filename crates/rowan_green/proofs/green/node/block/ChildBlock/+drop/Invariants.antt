@@ -1,7 +1,8 @@
 use Rattle.std.proofs.Common.{◌≤◌, ◌+◌, ◌*◌}
 use Rattle.std.specs.Vec.{vec_len}
-use Rattle.rowan_headed.specs.Shape.{IsOpen}
+use Rattle.rowan_thin_rc.specs.Shape.{IsOpen}
 use Rattle.rowan_green.specs.Sizes.{children_size, kept_size}
+use Rattle.rowan_green.specs.NodeBlock.{front_words, child_words}
 use Rattle.rowan_green.proofs.green.node.block.ChildBlock.+drop.Given as goal
 
 abbrev pub decreases-put_off : goal.decreases-put_off
@@ -21,9 +22,10 @@ decreases-drop-loop-block l = kept_size l.rest.items
 
 abbrev pub invariant-drop_into-loop-block : goal.invariant-drop_into-loop-block
 invariant-drop_into-loop-block l = record {
-  shape : IsOpen 2 2 l.block;
+  shape : IsOpen front_words child_words l.block;
   within : children_size l.block.list.items ≤ children_size l.fn.self.block.list.items;
-  smaller : kept_size l.rest.items + children_size l.block.list.items ≤ kept_size l.fn.rest.items + children_size l.fn.self.block.list.items;
+  smaller : kept_size l.rest.items + children_size l.block.list.items ≤ kept_size l.fn.rest.items
+      + children_size l.fn.self.block.list.items;
 }
 
 abbrev pub decreases-drop_into-loop-block : goal.decreases-drop_into-loop-block

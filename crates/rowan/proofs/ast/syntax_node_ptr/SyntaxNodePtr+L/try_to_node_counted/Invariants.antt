@@ -1,0 +1,23 @@
+use Rattle.std.proofs.Common.{◌≡◌, ◌≤◌, true, Option}
+use Rattle.rowan_green.specs.Steps.{Tally}
+use Rattle.rowan_cursor.specs.Cursor.{Cursor}
+use Rattle.rowan_cursor.specs.Moves.{is_node_at}
+use Rattle.rowan.specs.Pointer.{means_kind}
+use Rattle.rowan.proofs.ChainLemmas.{size_at}
+use Rattle.rowan.proofs.PointerLemmas.{Search}
+use Rattle.rowan.proofs.ast.syntax_node_ptr.SyntaxNodePtr+L.try_to_node_counted.Given as goal
+
+-- what a search from the node that is reached finds, the search from the root finds, with the steps
+-- that were made
+abbrev pub invariant-loop-self : goal.invariant-loop-self
+invariant-loop-self g l =
+    let means = means_kind g.L.Language.meaning g.L.Kind.PartialEq.eq l.self.kind in
+    (is_node_at l.node.root l.node.path ≡ true)
+    × ((found : Option Cursor) (last : Tally) → Search means l.self.range l.node.root l.node.path
+    found l.steps last
+    → Search means l.self.range l.root.root l.root.path found l.fn.steps last)
+    × (l.fn.steps.comparisons ≤ l.steps.comparisons)
+    × (l.fn.steps.visits ≤ l.steps.visits)
+
+abbrev pub decreases-loop-self : goal.decreases-loop-self
+decreases-loop-self g l = size_at l.node.root l.node.path

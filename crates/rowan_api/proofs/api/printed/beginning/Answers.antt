@@ -1,8 +1,0 @@
-use Rattle.std.proofs.Common.{◌∙◌}
-use Rattle.rowan_api.proofs.QuoteLemmas.{beginning-at}
-use Rattle.rowan_api.proofs.api.printed.beginning.Goals as goal
-
-pub returns : goal.returns
-returns c =
-    c.split_at.ensures.front
-    ∙ beginning-at c.args.text.now c.ceil_char_boundary.result (c.ceil_char_boundary.ensures.bound c.requires) c.ceil_char_boundary.ensures.boundary c.ceil_char_boundary.ensures.nearest

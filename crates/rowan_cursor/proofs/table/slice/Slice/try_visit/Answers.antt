@@ -1,0 +1,30 @@
+use Rattle.std.proofs.Common.{refl}
+use Rattle.std.specs.Prelude.{Err}
+use denote.Param.Always.{mut_next}
+use Rattle.rowan_cursor.specs.Chunks.{remaining_chunks}
+use Rattle.rowan_cursor.proofs.FoldLemmas.{visit_ok, visit_err}
+use Rattle.rowan_cursor.proofs.table.slice.Slice.try_visit.Goals as goal
+
+pub loop-chunk-preserved : goal.loop-chunk-preserved
+loop-chunk-preserved g c =
+    let table = c.args.table.now in
+    let before = remaining_chunks table c.loop-chunk.walk in
+    let later = remaining_chunks table c.next_chunk.new.walk in (
+      mut_next g.F.FnMut _ _ _ _ _ c.f.ensures refl c.loop-chunk.invariant.0,
+      c.in-Some.ensures.walk,
+      λ r last rest. c.loop-chunk.invariant.2 r last
+          (visit_ok g.F.FnMut c.loop-chunk.f c.f.new.self last tt c.in-Some.chunk before later
+          c.f.result r c.in-Some.ensures.next c.f.ensures c.in-Ok.is rest),
+    )
+
+pub returns-in-Err : goal.returns-in-Err
+returns-in-Err g c =
+    let table = c.args.table.now in
+    let before = remaining_chunks table c.loop-chunk.walk in
+    let later = remaining_chunks table c.next_chunk.new.walk in (
+      c.f.new.self,
+      c.loop-chunk.invariant.2 (Err c.in-Err.refusal) c.f.new.self
+          (visit_err g.F.FnMut c.loop-chunk.f c.f.new.self c.in-Err.refusal c.in-Some.chunk before
+          later
+          c.f.result c.in-Some.ensures.next c.f.ensures c.in-Err.is),
+    )

@@ -1,5 +1,0 @@
-pub mod Walks
-pub mod Rooms
-pub mod Lodging
-pub mod Fitting
-pub mod Keeping

@@ -1,4 +1,0 @@
-pub mod Ownership
-pub mod Recursive
-pub mod Shape
-pub mod formers

@@ -1,0 +1,6 @@
+pub mod CountSteps
+pub mod Walks
+pub mod Rooms
+pub mod Lodging
+pub mod Fitting
+pub mod Keeping

@@ -1,0 +1,43 @@
+//! A language of lists and words.
+use rowan::{Language, SyntaxKind};
+
+/// The language.
+#[derive(Clone, Copy, PartialEq, Eq, PartialOrd, Ord, Hash, Debug)]
+pub struct Lists;
+
+/// Its kinds.
+#[derive(Clone, Copy, PartialEq, Eq, PartialOrd, Ord, Hash, Debug)]
+pub enum Kind {
+    /// A node of words and lists. Its raw kind is 0.
+    List,
+    /// A token, of any other raw kind.
+    Word,
+}
+
+impl Language for Lists {
+    type Kind = Kind;
+
+    ghost use Rattle.rowan_uses.specs.Kinds.{kind_of, name_of};
+
+    ghost meaning = { kind_of };
+
+    ghost name = { name_of };
+
+    fn kind_from_raw(raw: SyntaxKind) -> Kind {
+        if raw.0 == 0 { Kind::List } else { Kind::Word }
+    }
+
+    fn kind_to_raw(kind: Kind) -> SyntaxKind {
+        match kind {
+            Kind::List => SyntaxKind(0),
+            Kind::Word => SyntaxKind(1),
+        }
+    }
+
+    fn kind_name(kind: Kind) -> &'static str {
+        match kind {
+            Kind::List => "LIST",
+            Kind::Word => "WORD",
+        }
+    }
+}
