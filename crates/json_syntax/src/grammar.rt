@@ -1,0 +1,68 @@
+//! The grammar of JSON.
+use crate::kinds::{Json, Kind};
+use rowan_parser::Parser;
+
+/// The tokens at which an element of an array or an object ends.
+const ENDS: [Kind; 3] = [Kind::Comma, Kind::RBracket, Kind::RBrace];
+
+/// A value, and nothing behind it.
+pub fn document(p: &mut Parser<Json>, depth: usize) {
+    value(p, depth);
+    if !p.at_end() {
+        p.error_to_end(Kind::Error, "expected the end of the text");
+    }
+}
+
+#[cycle(json)]
+fn value(p: &mut Parser<Json>, depth: usize) {
+    match p.current() {
+        Some(Kind::LBracket) => list(p, depth, Kind::Array, Kind::RBracket, "expected `,` or `]`"),
+        Some(Kind::LBrace) => list(p, depth, Kind::Object, Kind::RBrace, "expected `,` or `}`"),
+        Some(Kind::Word) if !matches!(p.text(), "true" | "false" | "null") => {
+            p.error_and_bump(Kind::Error, "expected `true`, `false` or `null`");
+        }
+        Some(Kind::String | Kind::Number | Kind::Word) => {
+            let literal = p.start();
+            p.bump();
+            p.complete(literal, Kind::Literal);
+        }
+        Some(Kind::Colon | Kind::Unknown) => p.error_and_bump(Kind::Error, "expected a value"),
+        _ => p.error("expected a value"),
+    }
+}
+
+/// An array or an object. After an error it goes on at the next comma or closing token.
+#[cycle(json)]
+fn list(p: &mut Parser<Json>, depth: usize, kind: Kind, close: Kind, message: &str) {
+    let Some(depth) = p.deeper(depth, Kind::Error, "expected no more nesting") else {
+        return;
+    };
+    let node = p.start();
+    p.bump();
+    for _ in 0..p.tokens_left() {
+        match p.current() {
+            Some(Kind::RBracket | Kind::RBrace) | None => break,
+            Some(Kind::Comma) => p.error("expected an element"),
+            _ if kind == Kind::Object => member(p, depth),
+            _ => value(p, depth),
+        }
+        if !p.at_end() && !p.at_any(&ENDS) {
+            p.error(message);
+            p.recover_until(&ENDS, Kind::Error);
+        }
+        p.eat(Kind::Comma);
+    }
+    p.expect(close, message);
+    p.complete(node, kind);
+}
+
+#[cycle(json)]
+fn member(p: &mut Parser<Json>, depth: usize) {
+    let member = p.start();
+    if !p.eat(Kind::String) {
+        p.error_and_bump(Kind::Error, "expected a name in quotes");
+    }
+    p.expect(Kind::Colon, "expected `:`");
+    value(p, depth);
+    p.complete(member, Kind::Member);
+}

@@ -1,0 +1,68 @@
+use json_syntax::parse_to_depth;
+use rowan::Fault;
+use rowan_parser::{SyntaxError, render};
+use std::alloc::Global;
+use std::test::Fail;
+
+/// Texts with their errors, which were worked out by hand: the bytes at which each stands, and what
+/// was expected there. Arrays and objects may stand 2 deep.
+const ERRORS: [(&str, &str); 16] = [
+    ("{\"a\": [1, -2.5e3, null,],} // end", ""),
+    ("", "0..0 expected a value\n"),
+    ("nul", "0..3 expected `true`, `false` or `null`\n"),
+    ("[1,, 2]", "3..4 expected an element\n"),
+    ("[1 é, 2]", "3..5 expected `,` or `]`\n"),
+    (
+        "[: 1, 2]",
+        "1..2 expected a value\n3..4 expected `,` or `]`\n",
+    ),
+    ("{\"a\" 1}", "5..6 expected `:`\n"),
+    ("{\"a\": , \"b\": 2}", "6..7 expected a value\n"),
+    ("{1: 2, \"b\": 3}", "1..2 expected a name in quotes\n"),
+    ("{\"a\": 1 2, \"b\": 3}", "8..9 expected `,` or `}`\n"),
+    ("{\"a\": [1}", "8..9 expected `,` or `]`\n"),
+    ("[1", "2..2 expected `,` or `]`\n"),
+    ("\"a\n", "0..2 expected a value\n"),
+    ("1 /* a", "2..6 expected the end of the text\n"),
+    (
+        "] 1",
+        "0..1 expected a value\n0..1 expected the end of the text\n",
+    ),
+    (
+        "[{\"a\":[]}]",
+        "6..7 expected no more nesting\n10..10 expected `,` or `}`\n10..10 expected `,` or `]`\n",
+    ),
+];
+
+fn list(alloc: Global, errors: &[SyntaxError]) -> Result<String, Fault> {
+    let mut out = String::new(alloc);
+    for error in errors {
+        writeln!(out, "{:?} {}", error.range, error.message)?;
+    }
+    Ok(out)
+}
+
+#[test]
+fn texts_have_their_errors(rt: HostRuntime) -> Result<(), Fail> {
+    for (text, errors) in ERRORS {
+        let parse = parse_to_depth(rt.alloc(), text, 2)?;
+        let found = list(rt.alloc(), parse.errors.as_slice())?;
+        assert!(rt; found.as_str() == errors, "{text}: {found}");
+    }
+    Ok(())
+}
+
+const PRINTED: &str = "notes:2:7: error: expected a value
+\t\"日\": @ ]
+\t      ^
+2 more errors
+";
+
+#[test]
+fn errors_are_printed_under_their_lines(rt: HostRuntime) -> Result<(), Fail> {
+    let text = "{\n\t\"日\": @ ]";
+    let parse = parse_to_depth(rt.alloc(), text, 2)?;
+    let printed = render(rt.alloc(), parse.errors.as_slice(), text, "notes", 1)?;
+    assert!(rt; printed.as_str() == PRINTED, "{printed}");
+    Ok(())
+}

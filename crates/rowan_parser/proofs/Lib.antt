@@ -1,0 +1,4 @@
+pub mod Leaves
+pub mod Lexing
+pub mod LineLemmas
+pub mod Steps

@@ -1,0 +1,19 @@
+use Rattle.std.proofs.Common.{List, ◌≡◌, ◌<◌, ◌++◌, All, length}
+use denote.Text.{Utf8}
+use denote.Shadow.{shadow}
+use Rattle.rowan_parser.specs.declared.lexer.Token.{Token}
+use Rattle.rowan_parser.specs.Tokens.{tokens_text, AreSaid}
+use Rattle.rowan_parser.proofs.lexer.lex.Given as goal
+
+-- the tokens are of what was read, and the rest is still to come
+abbrev pub invariant-loop-rest : goal.invariant-loop-rest
+invariant-loop-rest g l = record {
+  utf8 : shadow (Utf8 l.rest);
+  ready : g.X.Lexer.is_ready l.lexer;
+  text : tokens_text l.tokens.items ++ l.rest ≡ l.text;
+  filled : All (λ token. 0 < length token.text.now) l.tokens.items;
+  said : (others : List Token) → tokens_text others ≡ l.rest → AreSaid g.X.Lexer.says l.lexer others → AreSaid g.X.Lexer.says l.fn.lexer (l.tokens.items ++ others);
+}
+
+abbrev pub decreases-loop-rest : goal.decreases-loop-rest
+decreases-loop-rest g l = length l.rest

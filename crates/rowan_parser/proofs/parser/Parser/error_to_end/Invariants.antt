@@ -1,0 +1,4 @@
+use Rattle.rowan_parser.proofs.parser.Parser.error_to_end.Given as goal
+
+abbrev pub decreases-loop-self : goal.decreases-loop-self
+decreases-loop-self g l = l.self

@@ -1,0 +1,12 @@
+use Rattle.std.proofs.Common.{◌≡◌}
+use Rattle.rowan_green.specs.Loan.{value_of, word_of, loan_of}
+use Rattle.rowan_green.specs.Stream.{BuildsOn}
+use Rattle.rowan_parser.specs.Building.{IsBuilding}
+use Rattle.rowan_parser.proofs.tree.open_nodes.Given as goal
+
+abbrev pub invariant-loop-kind : goal.invariant-loop-kind
+invariant-loop-kind l = record {
+  building : IsBuilding l.source.root_kind.0 l.source.tokens.now (word_of l.builder) l.progress.put l.progress.depth;
+  stream : BuildsOn (value_of l.fn.builder) (value_of l.builder);
+  loan : loan_of l.builder ≡ loan_of l.fn.builder;
+}

@@ -1,0 +1,48 @@
+-- Lines of a text, each of which ends behind a byte 10.
+use Rattle.std.specs.Prelude.{◌≡◌, ℕ, suc, ◌+◌, ◌<◌, ◌≤◌, ◌==◌, Bool, true, false, List, [], ◌∷◌, length, take, get_or}
+use Rattle.rowan_parser.specs.declared.line_index.LineColumn.{LineColumn}
+
+-- one more where there is an end
+abbrev pub counted : Bool → ℕ → ℕ
+counted true n = suc n
+counted false n = n
+
+-- how many lines end in these bytes
+abbrev pub line_ends : List ℕ → ℕ
+line_ends [] = 0
+line_ends (b ∷ bs) = counted (b == 10) (line_ends bs)
+
+-- none behind an end, and else one more
+abbrev pub since : Bool → ℕ → ℕ
+since true n = 0
+since false n = n + 1
+
+-- how many bytes stand behind the last end, where n stand before all of these
+abbrev pub bytes_since : ℕ → List ℕ → ℕ
+bytes_since n [] = n
+bytes_since n (b ∷ bs) = bytes_since (since (b == 10) n) bs
+
+abbrev pub with_start : Bool → ℕ → List ℕ → List ℕ
+with_start true start starts = start ∷ starts
+with_start false start starts = starts
+
+-- the offsets behind the ends, where the bytes begin at offset n
+abbrev pub starts_from : ℕ → List ℕ → List ℕ
+starts_from n [] = []
+starts_from n (b ∷ bs) = with_start (b == 10) (n + 1) (starts_from (n + 1) bs)
+
+-- the offsets at which the lines begin
+abbrev pub line_starts : List ℕ → List ℕ
+line_starts text = 0 ∷ starts_from 0 text
+
+-- the offset is in the text, and has this line and column
+pub record IsInLine (text : List ℕ) (offset : ℕ) (place : LineColumn) : Type 0 where
+  pub within : offset ≤ length text
+  pub line : place.line ≡ line_ends (take offset text)
+  pub column : place.column ≡ bytes_since 0 (take offset text)
+
+-- start number i is the last one that is not past the offset
+pub record IsLast (starts : List ℕ) (offset i : ℕ) : Type 0 where
+  pub there : i < length starts
+  pub reached : get_or starts i 0 ≤ offset
+  pub last : i + 1 < length starts → offset < get_or starts (i + 1) 0

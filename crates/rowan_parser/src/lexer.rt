@@ -1,0 +1,67 @@
+//! The tokens of a text, cut as a lexer says.
+ghost use Rattle.std.specs.Prelude.{◌≡◌, ℕ, ◌<◌, List, length, All, IfOk, IfErr};
+ghost use Rattle.std.specs.Fn.{CalledAt};
+ghost use Rattle.rowan_green.specs.declared.green.SyntaxKind.{SyntaxKind};
+ghost use Rattle.rowan_parser.specs.Tokens.{tokens_text, AreSaid};
+
+use rowan::{Fault, SyntaxKind};
+use std::alloc::Global;
+
+/// A piece of a text, with its kind.
+#[derive(Clone, Copy)]
+pub struct Token<'text> {
+    pub kind: SyntaxKind,
+    pub text: &'text str,
+}
+
+/// Says how a text begins. It may keep a state, as the mode inside of a string. It has nothing to
+/// prove: a length that does not fit is cut to one that does.
+///
+/// Each closure and function of this shape is a lexer. A type of your own writes `ghost is_ready`
+/// and `ghost says`, which may both claim nothing.
+pub trait Lexer {
+    ghost is_ready: { Self → Type 0 };
+
+    ghost says: { Self → List ℕ → SyntaxKind × ℕ → Self → Type 0 };
+
+    /// The kind of the first token of `rest`, which is not empty, and its length in bytes.
+    fn next(&mut self, rest: &str) -> (SyntaxKind, usize)
+        requires { is_ready self.old }
+        ensures says { says self.old rest.now result self.new }
+        ensures ready { is_ready self.new };
+}
+
+impl<F: FnMut(&str) -> (SyntaxKind, usize)> Lexer for F {
+    ghost is_ready = { λ lexer. F.IsAlwaysCallable lexer };
+
+    ghost says = { λ lexer rest token later. CalledAt F.FnMut lexer rest token later };
+
+    fn next(&mut self, rest: &str) -> (SyntaxKind, usize) {
+        self(rest)
+    }
+}
+
+/// Cuts a text into tokens, from its start to its end, each as the lexer says. A token has at least
+/// one character, and ends where a character ends: a length of 0, one within a character and one
+/// past the end are cut to the next such end.
+pub fn lex<X: Lexer + Drop>(
+    alloc: Global,
+    text: &str,
+    mut lexer: X,
+) -> Result<Vec<Token<'_>>, Fault>
+    requires { X.is_ready lexer }
+    ensures text { IfOk result (λ tokens. tokens_text tokens.items ≡ text.now) }
+    ensures said { IfOk result (λ tokens. AreSaid X.says lexer tokens.items) }
+    ensures filled { IfOk result (λ tokens. All (λ token. 0 < length token.text.now) tokens.items) }
+    ensures memory { IfErr result (λ fault. fault ≡ Fault.Memory) }
+{
+    let mut tokens = Vec::new(alloc);
+    let mut rest = text;
+    while !rest.is_empty() {
+        let (kind, len) = lexer.next(rest);
+        let (text, others) = rest.split_at(rest.ceil_char_boundary(len.max(1)));
+        tokens.push(Token { kind, text })?;
+        rest = others;
+    }
+    Ok(tokens)
+}

@@ -1,0 +1,39 @@
+-- The kinds of sums and products.
+use Rattle.std.specs.Prelude.{ℕ, ◌==◌, List, codes, if◌then◌else◌}
+use Rattle.rowan_parser_tests.specs.declared.arithmetic.kinds.Kind.{Kind}
+use Rattle.rowan_parser_tests.specs.declared.arithmetic.kinds.Kind.TheVariants.{Space, Number, Plus}
+use Rattle.rowan_parser_tests.specs.declared.arithmetic.kinds.Kind.TheVariants.{Star, Open, Close}
+use Rattle.rowan_parser_tests.specs.declared.arithmetic.kinds.Kind.TheVariants.{Error, Literal}
+use Rattle.rowan_parser_tests.specs.declared.arithmetic.kinds.Kind.TheVariants.{Group, Product, Sum}
+use Rattle.rowan_parser_tests.specs.declared.arithmetic.kinds.Kind.TheVariants.{Root}
+
+-- the kind that a raw kind means
+abbrev pub kind_of : ℕ → Kind
+kind_of n =
+    if n == 0 then Space
+    else (if n == 1 then Number
+    else (if n == 2 then Plus
+    else (if n == 3 then Star
+    else (if n == 4 then Open
+    else (if n == 5 then Close
+    else (if n == 7 then Literal
+    else (if n == 8 then Group
+    else (if n == 9 then Product
+    else (if n == 10 then Sum
+    else (if n == 11 then Root
+    else Error))))))))))
+
+-- how the kinds are called
+abbrev pub name_of : Kind → List ℕ
+name_of Space = codes "SPACE"
+name_of Number = codes "NUMBER"
+name_of Plus = codes "PLUS"
+name_of Star = codes "STAR"
+name_of Open = codes "OPEN"
+name_of Close = codes "CLOSE"
+name_of Error = codes "ERROR"
+name_of Literal = codes "LITERAL"
+name_of Group = codes "GROUP"
+name_of Product = codes "PRODUCT"
+name_of Sum = codes "SUM"
+name_of Root = codes "ROOT"

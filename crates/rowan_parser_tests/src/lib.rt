@@ -1,0 +1,6 @@
+//! Users of the parser library: sums and products, and tests of these and of lines.
+#![tactic(auto)]
+
+pub mod arithmetic;
+#[cfg(test)]
+mod lines;
