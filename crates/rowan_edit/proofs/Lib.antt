@@ -1,0 +1,3 @@
+pub mod TreeCursorLemmas
+pub mod TreeCursorMoveLemmas
+pub mod TreeCursorReplaceLemmas
