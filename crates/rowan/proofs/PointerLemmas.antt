@@ -311,6 +311,11 @@ pub parent-none : (c : Cursor) (found : Option Cursor) → found ≡ parent c �
 parent-none c None e n = sym e
 parent-none c (Some d) e n = absurd (true≢false n)
 
+pub none-mapped : {A B : Type 0} (f : A → B) (found : Option A) → is_some found ≡ false
+    → is_some (option_map f found) ≡ false
+none-mapped f None n = n
+none-mapped f (Some x) n = n
+
 pub rises-some : {A : Type 0} {P : Type 0} (found : Option A) (x : A) → found ≡ Some x
     → (IsSome found → P) → P
 rises-some found x e h = h (subst (λ o. IsSome o) (sym e) refl)

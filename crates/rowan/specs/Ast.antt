@@ -9,6 +9,8 @@ use Rattle.rowan_green.specs.declared.utility_types.NodeOrToken.TheVariants.{Nod
 use Rattle.rowan_cursor.specs.Cursor.{Cursor, kind}
 use Rattle.rowan_cursor.specs.Moves.{Element}
 use Rattle.rowan_cursor.specs.Yields.{Rest}
+use Rattle.rowan_api.specs.Refs.{rest_of_nodes}
+use Rattle.rowan.specs.declared.ast.children_ref.AstChildrenRef.{AstChildrenRef}
 
 -- whether the node has a kind that casts, by what raw kinds mean
 abbrev pub casts_at : {K : Type 0} → (ℕ → K) → (K → Bool) → Cursor → Bool
@@ -33,6 +35,20 @@ YieldsWrappers casts node_of (Ok cs) (Some (Err e)) after =
     (e ≡ Memory) × (0 < length cs) × (after ≡ Ok [])
 YieldsWrappers casts node_of (Err f) (Some (Err e)) after = (e ≡ f) × (after ≡ Ok [])
 YieldsWrappers casts node_of (Err f) _ after = ⊥
+
+-- Of the nodes that are left, the first that casts comes next, in its wrapper, or else `Memory` in
+-- its place; those behind it are left. Where no node is left that casts, nothing comes.
+abbrev pub WrapsNext : {N : Type 0} → (Cursor → Bool) → (N → Cursor) → List Cursor
+    → Option (Result N Fault) → List Cursor → Type 0
+WrapsNext casts node_of cs None ds = (filter casts cs ≡ []) × (ds ≡ [])
+WrapsNext casts node_of cs (Some (Ok x)) ds =
+    (filter casts cs ≡ node_of x ∷ filter casts ds) × (length ds < length cs)
+WrapsNext casts node_of cs (Some (Err e)) ds =
+    (e ≡ Memory) × (c : Cursor) × (filter casts cs ≡ c ∷ filter casts ds) × (length ds < length cs)
+
+-- the children that are still to come of a borrowed list of wrappers, those too that do not cast
+abbrev pub rest_of_children : {N L : Type 0} → AstChildrenRef N L → List Cursor
+rest_of_children list = rest_of_nodes list.nodes
 
 -- whether it is a token with a raw kind of these
 abbrev pub is_token_of : (ℕ → Bool) → Element → Bool

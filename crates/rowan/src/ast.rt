@@ -6,14 +6,17 @@
 //! An [`AstNode`] wraps the nodes of some kinds; a pointer to one is an [`AstPtr`].
 //!
 //! A call that gives a node or a token shares its tree once more. Where that is refused, since the
-//! tree's reference count is full, the answer is `Err(Fault::Memory)`.
+//! tree's reference count is full, the answer is `Err(Fault::Memory)`. What is borrowed from a tree
+//! shares nothing: calls whose names end in `_ref` or `_of` take it and, where they can, give it.
 mod ast_ptr;
 mod children;
+mod children_ref;
 mod node;
 pub mod support;
 mod syntax_node_ptr;
 
 pub use ast_ptr::AstPtr;
 pub use children::AstChildren;
+pub use children_ref::AstChildrenRef;
 pub use node::AstNode;
 pub use syntax_node_ptr::SyntaxNodePtr;

@@ -14,11 +14,12 @@ pub mod laws;
 pub mod script;
 
 pub use api::{
-    Language, SyntaxElement, SyntaxElementChildren, SyntaxNode, SyntaxNodeChildren, SyntaxToken,
-    TypedElementCalls,
+    Language, SyntaxElement, SyntaxElementChildren, SyntaxElementChildrenRef, SyntaxElementRef,
+    SyntaxNode, SyntaxNodeChildren, SyntaxNodeChildrenRef, SyntaxNodeRef, SyntaxToken,
+    SyntaxTokenRef, TypedElementCalls, TypedElementRefCalls,
 };
 pub use builder::{CacheHome, Checkpoint, GreenNodeBuilder, OwnedCache, Unfinished};
-pub use cursor::ElementCalls;
+pub use cursor::{ElementCalls, ElementRefCalls};
 pub use fault::Fault;
 pub use green::{
     Children, GreenElement, GreenElementRef, GreenNode, GreenNodeData, GreenToken, GreenTokenData,
@@ -30,6 +31,6 @@ pub use rowan_cursor::{cursor, syntax_text};
 pub use rowan_green::{builder, fault, green, node_cache, steps, text, utility_types};
 pub use serde_json;
 pub use steps::Steps;
-pub use syntax_text::SyntaxText;
+pub use syntax_text::{SyntaxText, SyntaxTextRef};
 pub use text::{TextLen, TextRange, TextSize};
 pub use utility_types::{Direction, NodeOrToken, TokenAtOffset, WalkEvent};

@@ -1,8 +1,7 @@
 -- Walks and JSON: what is finished at each event of a walk.
 use Rattle.std.proofs.Common.{◌≡◌, ℕ, suc, ◌+◌, ◌-◌, false, List, [], ◌∷◌, ◌++◌, map, length, drop}
-use Rattle.std.proofs.Common.{take, get_or, Option, Some, None, Ok, Err, refl, sym, ◌∙◌, ap, subst}
+use Rattle.std.proofs.Common.{take, get_or, Option, Some, None, refl, sym, ◌∙◌, ap}
 use Rattle.std.proofs.Common.{arith, append_assoc, length-append}
-use Rattle.std.specs.Prelude.{IfOk}
 use Rattle.std.specs.Option.{UnwrapsOrElse, option_to_list}
 use Rattle.std.proofs.lemmas.List.{append-nil, map-append}
 use Rattle.std.proofs.Math.Seq.{take-append_seam, get_or-append_seam}
@@ -18,7 +17,6 @@ use Rattle.rowan_cursor.specs.Cursor.{Cursor, term_at, text_range}
 use Rattle.rowan_cursor.specs.Moves.{Element, element_at, element_if, cursor_at, is_node}
 use Rattle.rowan_cursor.specs.Preorder.{event_map, node_events, forest_events, term_events}
 use Rattle.rowan_cursor.specs.Preorder.{preorder_with_tokens}
-use Rattle.rowan_cursor.specs.Yields.{Rest, YieldsOrRefuses}
 use Rattle.rowan_cursor.proofs.OffsetLemmas.{drop-first}
 use Rattle.rowan_cursor.proofs.PathLemmas.{offset-node_child}
 use Rattle.rowan_api.specs.Printed.{node_json, forest_json, term_json, json_of, tree_json}
@@ -185,45 +183,35 @@ walk-past name c u new = ap (λ v. last_value (past name (preorder_with_tokens c
         (record { inner = []; outer = [] }) there)
 
 -- once the events that are left are past, the value of the tree is there
-abbrev pub Makes : (ℕ → List ℕ) → Cursor → Unfinished → Rest (WalkEvent Element) → Type 0
-Makes name c u (Ok es) = last_value (past name es u) ≡ tree_json name c
-Makes name c u (Err e) = Unit {0}
+abbrev pub Makes : (ℕ → List ℕ) → Cursor → Unfinished → List (WalkEvent Element) → Type 0
+Makes name c u es = last_value (past name es u) ≡ tree_json name c
 
-pub makes-first : (name : ℕ → List ℕ) (c : Cursor) (rest : Rest (WalkEvent Element))
-    (u : Unfinished) → u.inner ≡ [] → u.outer ≡ [] → IfOk rest (λ es. es ≡ preorder_with_tokens c)
-    → Makes name c u rest
-makes-first name c (Err e) u h k step = tt
-makes-first name c (Ok es) u h k step =
+pub makes-first : (name : ℕ → List ℕ) (c : Cursor) (es : List (WalkEvent Element))
+    (u : Unfinished) → u.inner ≡ [] → u.outer ≡ [] → es ≡ preorder_with_tokens c
+    → Makes name c u es
+makes-first name c es u h k whole =
     let new : u ≡ record { inner = []; outer = [] } =
     ap (λ (ds : List Data). record { inner = ds; outer = u.outer }) h
     ∙ ap (λ (dss : List (List Data)). record { inner = []; outer = dss }) k in
-    ap (λ xs. last_value (past name xs u)) step ∙ walk-past name c u new
+    ap (λ xs. last_value (past name xs u)) whole ∙ walk-past name c u new
 
-pub makes-enter : (name : ℕ → List ℕ) (c : Cursor) (before after : Rest (WalkEvent Element))
+pub makes-enter : (name : ℕ → List ℕ) (c : Cursor) (before after : List (WalkEvent Element))
     (e : Element) (u v : Unfinished) → Makes name c u before
-    → YieldsOrRefuses before (Some (Ok (Enter e))) after → v ≡ after_enter name e u
-    → Makes name c v after
-makes-enter name c (Err x) after e u v h step same = absurd step
-makes-enter name c (Ok es) after e u v h step same =
-    subst (Makes name c v) (sym step.2)
-    (ap (λ w. last_value (past name step.0 w)) same
-    ∙ ap (λ xs. last_value (past name xs u)) (sym step.1) ∙ h)
+    → before ≡ Enter e ∷ after → v ≡ after_enter name e u → Makes name c v after
+makes-enter name c before after e u v h step same =
+    ap (λ w. last_value (past name after w)) same
+    ∙ ap (λ xs. last_value (past name xs u)) (sym step) ∙ h
 
-pub makes-leave : (name : ℕ → List ℕ) (c : Cursor) (before after : Rest (WalkEvent Element))
+pub makes-leave : (name : ℕ → List ℕ) (c : Cursor) (before after : List (WalkEvent Element))
     (e : Element) (u v : Unfinished) → Makes name c u before
-    → YieldsOrRefuses before (Some (Ok (Leave e))) after → v ≡ after_leave name e u
-    → Makes name c v after
-makes-leave name c (Err x) after e u v h step same = absurd step
-makes-leave name c (Ok es) after e u v h step same =
-    subst (Makes name c v) (sym step.2)
-    (ap (λ w. last_value (past name step.0 w)) same
-    ∙ ap (λ xs. last_value (past name xs u)) (sym step.1) ∙ h)
+    → before ≡ Leave e ∷ after → v ≡ after_leave name e u → Makes name c v after
+makes-leave name c before after e u v h step same =
+    ap (λ w. last_value (past name after w)) same
+    ∙ ap (λ xs. last_value (past name xs u)) (sym step) ∙ h
 
-pub makes-all : (name : ℕ → List ℕ) (c : Cursor) (before after : Rest (WalkEvent Element))
-    (u : Unfinished) → Makes name c u before → YieldsOrRefuses before None after
-    → last_value u ≡ tree_json name c
-makes-all name c (Err x) after u h step = absurd step
-makes-all name c (Ok es) after u h step = ap (λ xs. last_value (past name xs u)) (sym step.0) ∙ h
+pub makes-all : (name : ℕ → List ℕ) (c : Cursor) (es : List (WalkEvent Element))
+    (u : Unfinished) → Makes name c u es → es ≡ [] → last_value u ≡ tree_json name c
+makes-all name c es u h end = ap (λ xs. last_value (past name xs u)) (sym end) ∙ h
 
 -- ---- the last of a list
 

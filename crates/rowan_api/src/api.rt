@@ -8,25 +8,55 @@
 //! no more memory than the raw one, and a typed call does no more than the raw call and this
 //! reading of its answer.
 
+// The same expression over the node or the token that an element is.
+macro_rules! for_both {
+    ($element:expr, $it:ident => $answer:expr) => {
+        match $element {
+            NodeOrToken::Node($it) => $answer,
+            NodeOrToken::Token($it) => $answer,
+        }
+    };
+}
+
 mod element;
+mod element_ref;
+mod elements_ref;
 mod json_text;
 mod json_value;
 mod language;
 mod node;
+mod node_ref;
+mod nodes_by_kind_ref;
+mod nodes_ref;
 mod open_node;
 mod preorder;
+mod preorder_ref;
 mod preorder_with_tokens;
+mod preorder_with_tokens_ref;
 mod printed;
 mod token;
+mod token_ref;
 mod typed_elements;
 mod typed_nodes;
 
 pub use element::{SyntaxElement, TypedElementCalls};
+pub use element_ref::{SyntaxElementRef, TypedElementRefCalls};
+pub use elements_ref::{
+    DescendantsWithTokensRef, SiblingsWithTokensRef, SyntaxElementChildrenRef, TypedElementsRef,
+};
 pub use language::Language;
 pub use node::SyntaxNode;
+pub use node_ref::SyntaxNodeRef;
+pub use nodes_by_kind_ref::NodesByKindRef;
+pub use nodes_ref::{
+    AncestorsRef, DescendantsRef, SiblingsRef, SyntaxNodeChildrenRef, TypedNodesRef,
+};
 pub use preorder::Preorder;
+pub use preorder_ref::PreorderRef;
 pub use preorder_with_tokens::PreorderWithTokens;
+pub use preorder_with_tokens_ref::PreorderWithTokensRef;
 pub use token::SyntaxToken;
+pub use token_ref::SyntaxTokenRef;
 pub use typed_elements::{
     DescendantsWithTokens, SiblingsWithTokens, SyntaxElementChildren, TypedElements,
 };

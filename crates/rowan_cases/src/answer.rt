@@ -47,6 +47,8 @@ pub enum Answer<'a> {
     Found(Option<TextSize>),
     /// The character at an offset.
     Char(Option<char>),
+    /// Borrowed cursors go astray from now on.
+    Astray,
     /// The pointer that is kept now.
     Pointer(SyntaxNodePtr<Lang>),
     /// A pointer did not outlive an edit.
@@ -81,6 +83,22 @@ pub enum Answer<'a> {
 pub struct Answered<'a> {
     pub line: usize,
     pub answer: Answer<'a>,
+    /// What borrowed cursors answer, if they have the call.
+    pub by_refs: Option<String>,
+}
+
+impl Answered<'_> {
+    /// The line that is written. Where borrowed cursors answer otherwise it says that, too, so that
+    /// it is no stored line.
+    pub fn text(&self, alloc: Global) -> Result<String, AllocError> {
+        let text = self.answer.text(alloc)?;
+        match &self.by_refs {
+            Some(other) if other.as_str() != text.as_str() => {
+                format!(in alloc; "{text}, but by refs: {other}")
+            }
+            _ => Ok(text),
+        }
+    }
 }
 
 impl<'a> Answer<'a> {
@@ -128,6 +146,7 @@ impl<'a> Answer<'a> {
             Answer::Char(found) => char_text(alloc, *found),
             Answer::Pointer(pointer) => pointer_text(alloc, pointer),
             Answer::Gone => String::from_str(alloc, "Gone"),
+            Answer::Astray => String::from_str(alloc, "Astray"),
             Answer::Value(Some(number)) => format!(in alloc; "Value {number}"),
             Answer::Value(None) => String::from_str(alloc, "None"),
             Answer::Line(line) => quoted_text(alloc, "Line ", line.as_str()),

@@ -41,9 +41,15 @@ pub struct Line {
 impl Line {
     /// An answer to this line.
     pub fn with_answer<'a>(&self, answer: Answer<'a>) -> Answered<'a> {
+        self.with_answers(answer, None)
+    }
+
+    /// An answer to this line, and that of borrowed cursors.
+    pub fn with_answers<'a>(&self, answer: Answer<'a>, by_refs: Option<String>) -> Answered<'a> {
         Answered {
             line: self.number,
             answer,
+            by_refs,
         }
     }
 }
@@ -91,6 +97,7 @@ impl<'a> Case<'a> {
         Answered {
             line: self.number,
             answer: Answer::Case(self.name),
+            by_refs: None,
         }
     }
 

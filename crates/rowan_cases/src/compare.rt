@@ -47,7 +47,7 @@ pub fn compare<'a>(
     let mut equal = 0usize;
     for answered in answers {
         let wanted = lines.next();
-        let got = answered.answer.text(alloc)?;
+        let got = answered.text(alloc)?;
         match wanted {
             Some(text) if text == got.as_str() => equal = equal.saturating_add(1),
             _ => {

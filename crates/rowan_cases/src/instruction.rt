@@ -11,6 +11,7 @@ pub use script_step::copy_of;
 use std::alloc::Global;
 pub use step::{
     Carrying, Edit, Event, ListEdit, Listing, PointerStep, Question, Slice, Step, Support, Walk,
+    WalkCall,
 };
 
 /// What one line of a case asks for.

@@ -8,6 +8,7 @@
 
 mod answer;
 mod building;
+mod by_refs;
 mod case_file;
 mod checkpoint;
 mod compare;
@@ -40,7 +41,7 @@ fn answer_input(rt: &(impl Input + Print + AllocGlobal)) -> Result<()> {
     let file = CaseFile::parse(alloc, text.as_str())?;
     let (answers, _) = runner::answers_of(alloc, &file, Caches::OfCases)?;
     for answered in answers.as_slice() {
-        println!(rt; "{}", answered.answer.text(alloc)?)?;
+        println!(rt; "{}", answered.text(alloc)?)?;
     }
     Ok(())
 }

@@ -87,6 +87,7 @@ fn answer_cases<'s>(
                 answers.push(Answered {
                     line: line.line,
                     answer: Answer::counts(cache),
+                    by_refs: None,
                 })?;
                 answer_lines(alloc, cache, case.lines.as_slice(), answers)?;
             }
@@ -181,22 +182,22 @@ fn answer_steps<'s>(
                 trace.push(line, step)?;
             }
             Instruction::EditList(edit) => {
-                trace.make(&mut standing.here, answers)?;
+                trace.make(standing.start, &mut standing.here, answers)?;
                 edits.push(line, edit)?;
             }
             other => {
-                trace.make(&mut standing.here, answers)?;
+                trace.make(standing.start, &mut standing.here, answers)?;
                 edits.make(&mut standing.here, answers)?;
-                let answer = match other {
-                    Instruction::Counts => Answer::counts(cache),
-                    Instruction::Step(step) => standing.answer(alloc, step)?,
-                    _ => Answer::NoBuilder,
+                let answered = match other {
+                    Instruction::Counts => line.with_answer(Answer::counts(cache)),
+                    Instruction::Step(step) => standing.answer_line(alloc, line, step)?,
+                    _ => line.with_answer(Answer::NoBuilder),
                 };
-                answers.push(line.with_answer(answer))?;
+                answers.push(answered)?;
             }
         }
     }
-    trace.make(&mut standing.here, answers)?;
+    trace.make(standing.start, &mut standing.here, answers)?;
     edits.make(&mut standing.here, answers)
 }
 

@@ -1,6 +1,8 @@
 //! The steps of a case that are made one by one, behind its building part.
 
-use crate::answer::Answer;
+use crate::answer::{Answer, Answered};
+use crate::by_refs::{Start, lists, moves, texts};
+use crate::case_file::Line;
 use crate::element;
 use crate::instruction::Step;
 use crate::pointers::Pointers;
@@ -18,6 +20,8 @@ use std::collections::BTreeMap;
 pub struct Standing {
     /// The current cursor.
     pub here: SyntaxElement,
+    /// Where borrowed cursors start.
+    pub start: Start,
     /// The cursors that are kept, by the numbers of their slots.
     kept: BTreeMap<u32, SyntaxElement>,
     texts: Texts,
@@ -30,15 +34,48 @@ impl Standing {
         let root = SyntaxNode::new_root(alloc, root)?;
         Ok(Standing {
             here: NodeOrToken::Node(root),
+            start: Start::Here,
             kept: BTreeMap::new(alloc),
             texts: Texts::new(alloc),
             pointers: Pointers::new(alloc),
         })
     }
 
-    /// Answers a step, and goes where it leads. Refused only for want of memory.
-    pub fn answer<'a>(&mut self, alloc: Global, step: &Step) -> Result<Answer<'a>, Fault> {
+    /// Answers the step of a line by borrowed cursors and by owned ones, and goes where the owned
+    /// ones lead. Refused only for want of memory.
+    pub fn answer_line<'a>(
+        &mut self,
+        alloc: Global,
+        line: &Line,
+        step: &Step,
+    ) -> Result<Answered<'a>, Fault> {
+        let by_refs = self.answer_by_refs(alloc, step)?;
+        let answer = self.answer(alloc, step)?;
+        Ok(line.with_answers(answer, by_refs))
+    }
+
+    /// What borrowed cursors answer, if they have the call.
+    fn answer_by_refs(&self, alloc: Global, step: &Step) -> Result<Option<String>, Fault> {
+        let from = self.start.by(&self.here);
+        Ok(Some(match step {
+            Step::ElementAt(path) => moves::element_at(alloc, from, path.as_slice())?,
+            Step::CloneSubtree => moves::clone_subtree(alloc, from)?,
+            Step::Listing(listing) => lists::list(alloc, from, *listing)?,
+            Step::Same(slot) => self.compare_by_refs(*slot).text(alloc)?,
+            Step::TokenAt(offset) => moves::tokens(alloc, from, *offset)?,
+            Step::Walk(walk) => lists::walk(alloc, from, walk)?,
+            Step::Text => texts::read(alloc, from)?,
+            Step::Slice(slice) => self.texts.slice_by_ref(alloc, *slice)?,
+            Step::Ask(question) => self.texts.ask_by_ref(alloc, question)?,
+            Step::EqText(slot) => self.texts.compare_by_refs(*slot).text(alloc)?,
+            _ => return Ok(None),
+        }))
+    }
+
+    /// Answers a step by owned cursors, and goes where it leads.
+    fn answer<'a>(&mut self, alloc: Global, step: &Step) -> Result<Answer<'a>, Fault> {
         match step {
+            Step::Astray => Ok(self.go_astray()),
             Step::GreenChildAt(range) => element::search(&self.here, *range),
             Step::GreenEdit(edit) => Ok(element::edit(&self.here, edit)),
             Step::ElementAt(path) => self.go_down(path.as_slice()),
@@ -62,6 +99,11 @@ impl Standing {
             Step::DebugLine => element::debug_line(alloc, &self.here),
             Step::Json => element::json(alloc, &self.here),
         }
+    }
+
+    fn go_astray<'a>(&mut self) -> Answer<'a> {
+        self.start = Start::TreeTop;
+        Answer::Astray
     }
 
     fn go_down<'a>(&mut self, path: &[usize]) -> Result<Answer<'a>, Fault> {
@@ -121,6 +163,13 @@ impl Standing {
     fn compare<'a>(&self, slot: u32) -> Answer<'a> {
         match self.kept.get(&slot) {
             Some(kept) => Answer::equality(self.here == *kept),
+            None => Answer::Nowhere,
+        }
+    }
+
+    fn compare_by_refs<'a>(&self, slot: u32) -> Answer<'a> {
+        match self.kept.get(&slot) {
+            Some(kept) => { Answer::equality(self.start.by(&self.here) == Start::Here.by(kept)) }
             None => Answer::Nowhere,
         }
     }

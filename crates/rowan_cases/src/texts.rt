@@ -1,6 +1,7 @@
 //! The texts of a case.
 
 use crate::answer::Answer;
+use crate::by_refs;
 use crate::instruction::{Question, Slice};
 use rowan::cursor::SyntaxElement;
 use rowan::{Fault, NodeOrToken, SyntaxText};
@@ -57,6 +58,22 @@ impl Texts {
         }
     }
 
+    /// A slice of the current text, borrowed. It does not become current.
+    pub fn slice_by_ref(&self, alloc: Global, slice: Slice) -> Result<String, Fault> {
+        match &self.current {
+            Some(text) => by_refs::texts::slice(alloc, &text.as_ref(), slice),
+            None => Ok(Answer::Nowhere.text(alloc)?),
+        }
+    }
+
+    /// Asks the current text, borrowed.
+    pub fn ask_by_ref(&self, alloc: Global, question: &Question) -> Result<String, Fault> {
+        match &self.current {
+            Some(text) => Ok(by_refs::texts::ask(alloc, &text.as_ref(), question)?),
+            None => Ok(Answer::Nowhere.text(alloc)?),
+        }
+    }
+
     /// Keeps the current text.
     pub fn keep<'a>(&mut self, slot: u32) -> Result<Answer<'a>, Fault> {
         let Some(text) = &self.current else {
@@ -71,6 +88,14 @@ impl Texts {
     pub fn compare<'a>(&self, slot: u32) -> Answer<'a> {
         match (&self.current, self.kept.get(&slot)) {
             (Some(current), Some(kept)) => Answer::equality(current == kept),
+            _ => Answer::Nowhere,
+        }
+    }
+
+    /// Compares them, borrowed.
+    pub fn compare_by_refs<'a>(&self, slot: u32) -> Answer<'a> {
+        match (&self.current, self.kept.get(&slot)) {
+            (Some(current), Some(kept)) => Answer::equality(current.as_ref() == kept.as_ref()),
             _ => Answer::Nowhere,
         }
     }

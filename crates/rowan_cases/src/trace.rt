@@ -1,8 +1,9 @@
 //! The steps of a case that are made as scripts: traces, each with the reports of all its steps.
 
 use crate::answer::{Answer, Answered};
+use crate::by_refs::{Start, moves};
 use crate::case_file::Line;
-use crate::instruction::copy_of;
+use crate::instruction::{Instruction, copy_of};
 use rowan::cursor::{SyntaxElement, SyntaxNode};
 use rowan::script::{self, Report, Step};
 use rowan::{Fault, NodeOrToken};
@@ -35,8 +36,10 @@ impl<'s> Trace<'s> {
     }
 
     /// Makes the steps that were added, from an element on, answers them, and goes where they lead.
+    /// Borrowed cursors make each step from where the one before it led.
     pub fn make(
         &mut self,
+        refs: Start,
         here: &mut SyntaxElement,
         answers: &mut Vec<Answered<'s>>,
     ) -> Result<(), Fault> {
@@ -48,8 +51,9 @@ impl<'s> Trace<'s> {
         }
         let reports = script::trace(self.alloc, &start, steps.as_slice())?;
         for (line, report) in lines.into_iter().zip(reports.into_iter().skip(way_len)) {
+            let by_refs = step_by_refs(self.alloc, refs, here, line)?;
             let answer = answer(here, report)?;
-            answers.push(line.with_answer(answer))?;
+            answers.push(line.with_answers(answer, by_refs))?;
         }
         Ok(())
     }
@@ -71,6 +75,19 @@ fn way_to(alloc: Global, element: &SyntaxElement) -> Result<(SyntaxNode, Vec<Ste
         steps.push(Step::NextSiblingOrToken)?;
     }
     Ok((parent, steps))
+}
+
+/// What borrowed cursors answer to the step of a line.
+fn step_by_refs(
+    alloc: Global,
+    refs: Start,
+    here: &SyntaxElement,
+    line: &Line,
+) -> Result<Option<String>, Fault> {
+    match &line.instruction {
+        Instruction::ScriptStep(step) => Ok(Some(moves::step(alloc, refs.by(here), step)?)),
+        _ => Ok(None),
+    }
 }
 
 /// The answer that a report is. Where it leads somewhere, the case stands there from then on.

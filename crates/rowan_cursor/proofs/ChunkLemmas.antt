@@ -16,18 +16,15 @@ use Rattle.rowan_green.specs.Term.{NodeTerm, TokenTerm, Term}
 use Rattle.rowan_green.specs.Path.{Path, subterm, len_of, text_of, begins}
 use Rattle.rowan_cursor.specs.declared.table.Table.{Table}
 use Rattle.rowan_cursor.specs.declared.table.chunks.ChunkWalk.{ChunkWalk}
-use Rattle.rowan_cursor.specs.declared.table.slice.Slice.{Slice}
 use Rattle.rowan_cursor.specs.Chunks.{texts_at, remaining_leaves, remaining_texts, IsTokenInside}
-use Rattle.rowan_cursor.specs.Chunks.{MayCut, IsWalk, slice_of, IsSliceOf}
+use Rattle.rowan_cursor.specs.Chunks.{MayCut, IsWalk}
 use Rattle.rowan_cursor.specs.Moves.{children_of, is_node, is_node_at, first_at}
 use Rattle.rowan_cursor.specs.Pass.{of_some, after, since, since_child, leaf_list, first_inside}
-use Rattle.rowan_cursor.specs.SyntaxText.{slice_text, token_texts, meets, common_part, cut_chunks}
-use Rattle.rowan_cursor.specs.TableView.{root_of, path_at, entries_of}
+use Rattle.rowan_cursor.specs.SyntaxText.{token_texts, meets, common_part, cut_chunks}
+use Rattle.rowan_cursor.specs.TableView.{root_of, path_at}
 use Rattle.rowan_cursor.proofs.LeafLemmas.{find-first, since_child-none}
-use Rattle.rowan_cursor.proofs.SliceLemmas.{slice_text-len}
-use Rattle.rowan_cursor.proofs.TableLemmas.{slice_get-some, is_entry}
 use Rattle.rowan_cursor.proofs.TextLemmas.{texts_at-below}
-use Rattle.rowan_cursor.proofs.TokenLemmas.{all_below, after-outside, found_token, stands_at}
+use Rattle.rowan_cursor.proofs.TokenLemmas.{all_below, after-outside, found_token}
 
 -- Leaves that are left.
 none-first : (qs : List Path) → first_at qs ≡ None → qs ≡ []
@@ -149,23 +146,6 @@ remaining_texts-start table top next left =
     ap (texts_at (root_of table)) (left ∙ inside-own (root_of table) (path_at table top))
     ∙ texts_at-below (root_of table) (path_at table top)
 
--- a slice has no more bytes than an offset counts
-pub slice_fits : (table : Table) (slice : Slice) → IsSliceOf table slice
-    → length (slice_text (slice_of table slice)) ≤ byte_limit
-slice_fits table slice is =
-    let there = stands_at (entries_of table) table.complete slice.node is.node.within in
-    let e = slice_get-some (entries_of table) slice.node is.node.within in
-    let entry = is_entry (entries_of table) table.complete slice.node e.0 e.1 in
-    omega (
-      arith,
-      slice_text-len (slice_of table slice) there.0 there.1 is.slice,
-      is.slice.from,
-      is.slice.to,
-      len-text (subterm (Node (root_of table)) (path_at table slice.node)),
-      entry.start,
-      entry.end,
-    )
-
 -- A step of a walk.
 pub walk_step : (table : Table) (walk : ChunkWalk) (next : Option ℕ) (at : ℕ) (text : List ℕ)
     → IsWalk table walk → remaining_texts table walk.slice.node walk.next
@@ -180,6 +160,7 @@ walk_step table walk next at text w left token there =
     (cut-back text rest walk.at o (subst (λ ts. MayCut (concat ts) walk.at o) left m)) in
     record {
       within = w.within;
+      order = w.order;
       token = token;
       limit = omega (
         arith,
@@ -188,8 +169,8 @@ walk_step table walk next at text w left token there =
         length-append text rest,
         there,
       );
-      start_cut = cut walk.slice.range.start w.start_cut;
-      end_cut = cut walk.slice.range.end w.end_cut;
+      start_cut = cut walk.slice.start w.start_cut;
+      end_cut = cut walk.slice.end w.end_cut;
     }
 
 pub cut_here : (table : Table) (o : ℕ) (walk : ChunkWalk) (text : List ℕ) (texts : List (List ℕ))

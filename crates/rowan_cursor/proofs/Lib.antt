@@ -1,10 +1,12 @@
 pub mod CharLemmas
 pub mod ChunkLemmas
 pub mod ClimbLemmas
+pub mod CountLemmas
 pub mod CoverLemmas
 pub mod EndLemmas
 pub mod EventLemmas
 pub mod DraftLemmas
+pub mod FewerLemmas
 pub mod FillLemmas
 pub mod FoldLemmas
 pub mod InnerLemmas
@@ -12,10 +14,10 @@ pub mod LeafLemmas
 pub mod NodeLemmas
 pub mod NodeListLemmas
 pub mod OffsetLemmas
-pub mod OwnTokenLemmas
 pub mod PartLemmas
 pub mod PathLemmas
 pub mod PreorderLaws
+pub mod RefTextLemmas
 pub mod ReplaceLemmas
 pub mod RowLemmas
 pub mod RowViews
@@ -24,6 +26,7 @@ pub mod SearchLemmas
 pub mod SizeLemmas
 pub mod SkipLemmas
 pub mod SliceLemmas
+pub mod SmallerLemmas
 pub mod TableLemmas
 pub mod TextLemmas
 pub mod TokenLemmas

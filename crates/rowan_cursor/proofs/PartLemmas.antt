@@ -1,5 +1,5 @@
 -- Where a slice ends.
-use Rattle.std.proofs.Common.{◌+◌, ◌≤◌, length, arith}
+use Rattle.std.proofs.Common.{◌≤◌, arith}
 use Rattle.rowan_green.specs.declared.utility_types.NodeOrToken.TheVariants.{Node}
 use Rattle.rowan_green.specs.Fits.{byte_limit}
 use Rattle.rowan_green.specs.Path.{subterm}
@@ -11,7 +11,7 @@ use Rattle.rowan_cursor.proofs.ChunkLemmas.{len-text}
 use Rattle.rowan_cursor.proofs.TableLemmas.{slice_get-some, is_entry}
 
 -- a slice ends at an offset that has a number
-pub slice_ends : (table : Table) (s : Slice) → IsSliceOf table s → s.range.end ≤ byte_limit
+pub slice_ends : (table : Table) (s : Slice) → IsSliceOf table s → s.end ≤ byte_limit
 slice_ends table s is =
     let e = slice_get-some (entries_of table) s.node is.node.within in
     let entry = is_entry (entries_of table) table.complete s.node e.0 e.1 in

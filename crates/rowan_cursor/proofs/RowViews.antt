@@ -1,6 +1,6 @@
 -- What a row's numbers stand for, by their paths.
 use Rattle.std.proofs.Common.{◌≡◌, ℕ, suc, ◌+◌, ◌-◌, ◌<◌, Bool, true, false, cond, List, [], ◌∷◌}
-use Rattle.std.proofs.Common.{map, refl, ◌∙◌, ap, Ok, Err, IfOk, arith}
+use Rattle.std.proofs.Common.{map, refl, ◌∙◌, ap, arith}
 use Rattle.std.specs.Prelude.{reverse}
 use Rattle.std.specs.List.{filter}
 use Rattle.std.proofs.lemmas.List.{reverse-append}
@@ -8,8 +8,7 @@ use Rattle.rowan_green.specs.Path.{Path}
 use Rattle.rowan_green.specs.declared.utility_types.Direction.{Direction}
 use Rattle.rowan_green.specs.declared.utility_types.Direction.TheVariants.{Next, Prev}
 use Rattle.rowan_cursor.specs.declared.table.Table.{Table}
-use Rattle.rowan_cursor.specs.Cursor.{Cursor}
-use Rattle.rowan_cursor.specs.Moves.{numbers, cursor_at, element_at, Element, nodes_at, following}
+use Rattle.rowan_cursor.specs.Moves.{numbers, cursor_at, element_at, nodes_at, following}
 use Rattle.rowan_cursor.specs.Moves.{preceding, sibling_paths}
 use Rattle.rowan_cursor.specs.Walks.{numbers_between}
 use Rattle.rowan_cursor.specs.Table.{IsRow, IsRowBack}

@@ -24,7 +24,7 @@ use Rattle.rowan_cursor.specs.declared.table.Table.{Table}
 use Rattle.rowan_cursor.specs.declared.table.chunks.ChunkWalk.{ChunkWalk}
 use Rattle.rowan_cursor.specs.declared.table.slice.Slice.{Slice}
 use Rattle.rowan_cursor.specs.Chunks.{texts_at, remaining_leaves, remaining_texts, IsTokenInside}
-use Rattle.rowan_cursor.specs.Chunks.{MayCut, IsWalk, SkipsTo, slice_of}
+use Rattle.rowan_cursor.specs.Chunks.{MayCut, IsWalk, SkipsTo, span_of, slice_of}
 use Rattle.rowan_cursor.specs.Equal.{start_of}
 use Rattle.rowan_cursor.specs.Moves.{children_of, child_count, child_paths, is_node}
 use Rattle.rowan_cursor.specs.Pass.{Lists, below_children, after, since, leaf_list}
@@ -307,7 +307,7 @@ chunks-skip_all range at (text ∷ texts) rest h =
     ∙ ap (λ k. cut_chunks range k rest) there
 
 pub walk_from : (table : Table) (walk : ChunkWalk) (n : ℕ)
-    → SkipsTo table walk.slice.range.start walk.slice.node n
+    → SkipsTo table walk.slice.start walk.slice.node n
     → IsTextSlice (slice_of table walk.slice)
     → IfSome walk.next (IsTokenInside table walk.slice.node)
     → remaining_leaves table walk.slice.node walk.next
@@ -338,6 +338,7 @@ walk_from table walk n s slice token left at =
     (cut-back (concat s.texts) (concat rest) (start_of (cursor_of table top)) o whole)) in
     record {
       within = s.place.top_within;
+      order = slice.order;
       token = token;
       limit = omega (
         arith,
@@ -348,19 +349,19 @@ walk_from table walk n s slice token left at =
         entry.start,
         entry.end,
       );
-      start_cut = cut walk.slice.range.start slice.start_border;
-      end_cut = cut walk.slice.range.end slice.end_border;
+      start_cut = cut walk.slice.start slice.start_border;
+      end_cut = cut walk.slice.end slice.end_border;
     }
 
 pub chunks_from : (table : Table) (slice : Slice) (n : ℕ) (next : Option ℕ) (at : ℕ)
-    → SkipsTo table slice.range.start slice.node n
+    → SkipsTo table slice.start slice.node n
     → remaining_leaves table slice.node next ≡ remaining_leaves table slice.node (Some n)
     → at ≡ start_of (cursor_of table n)
-    → cut_chunks slice.range at (remaining_texts table slice.node next)
+    → cut_chunks (span_of slice) at (remaining_texts table slice.node next)
     ≡ chunks (slice_of table slice)
 chunks_from table slice n next at s left here =
     let top = slice.node in
-    let range = slice.range in
+    let range = span_of slice in
     let root = root_of table in
     let start = start_of (cursor_of table top) in
     let rest = remaining_texts table top next in

@@ -1,19 +1,17 @@
 -- What the iterators show of a traversal, one step at a time.
-use Rattle.std.proofs.Common.{◌≡◌, ◌≢◌, ℕ, ◌<◌, Bool, true, List, ◌∷◌, map, Option, Some, None, Ok}
+use Rattle.std.proofs.Common.{◌≡◌, ◌≢◌, ℕ, ◌<◌, Bool, true, List, ◌∷◌, map, Option, Some, None}
 use Rattle.std.proofs.Common.{refl, sym, ◌∙◌, ap, subst, arith}
 use Rattle.rowan_green.specs.declared.utility_types.WalkEvent.{WalkEvent}
 use Rattle.rowan_green.specs.declared.utility_types.WalkEvent.TheVariants.{Enter, Leave}
 use Rattle.rowan_green.specs.Path.{Path}
-use Rattle.rowan_green.specs.Term.{NodeTerm}
 use Rattle.rowan_cursor.specs.declared.cursor.traversal.Traversal.{Traversal}
 use Rattle.rowan_cursor.specs.declared.table.Table.{Table}
-use Rattle.rowan_cursor.specs.Cursor.{Cursor}
 use Rattle.rowan_cursor.specs.Events.{NextStays, event_of, remaining_events}
-use Rattle.rowan_cursor.specs.Moves.{Element, cursor_at, element_at, is_node_at, parent_path}
+use Rattle.rowan_cursor.specs.Moves.{cursor_at, element_at, is_node_at, parent_path}
 use Rattle.rowan_cursor.specs.Preorder.{event_map, events_of_nodes, entered_by, descendant_paths}
 use Rattle.rowan_cursor.specs.Preorder.{skip}
 use Rattle.rowan_cursor.specs.TablePass.{StandsInside}
-use Rattle.rowan_cursor.specs.TableView.{root_of, path_at, cursor_of, element_of, stands_for_node}
+use Rattle.rowan_cursor.specs.TableView.{root_of, path_at, stands_for_node}
 use Rattle.rowan_cursor.specs.TableView.{entries_of}
 use Rattle.rowan_cursor.specs.TraversalView.{remaining_path_events, remaining_node_path_events}
 use Rattle.rowan_cursor.specs.TraversalView.{traversal_events, traversal_node_events, HasTraversal}

@@ -2,6 +2,7 @@
 use Rattle.std.specs.Prelude.{◌≡◌, false, ℕ, ◌+◌, ◌-◌, ◌<◌, ◌≤◌, List, [], ◌++◌, map, filter}
 use Rattle.std.specs.Prelude.{length, Option, Some, None, IfSome}
 use Rattle.std.specs.List.{concat}
+use Rattle.std.proofs.Props.{props}
 use Rattle.std.specs.Str.{IsCharBoundary}
 use Rattle.rowan_green.specs.declared.utility_types.NodeOrToken.TheVariants.{Node}
 use Rattle.rowan_green.specs.Fits.{byte_limit}
@@ -42,20 +43,32 @@ pub record IsTokenInside (table : Table) (top n : ℕ) : Type 0 where
 pub record MayCut (text : List ℕ) (at offset : ℕ) : Type 0 where
   pub border : at < offset → offset ≤ at + length text → IsCharBoundary text (offset - at)
 
+-- the range of a slice
+abbrev pub span_of : Slice → Span
+span_of s = record { start = s.start; end = s.end }
+
 -- a walk has come to a token inside its node, or to the end, and knows where what is left starts
 pub record IsWalk (table : Table) (walk : ChunkWalk) : Type 0 where
   pub within : IsWithin table walk.slice.node
+  pub order : walk.slice.start ≤ walk.slice.end
   pub token : IfSome walk.next (IsTokenInside table walk.slice.node)
   pub limit : walk.at + length (concat (remaining_texts table walk.slice.node walk.next))
       ≤ byte_limit
   pub start_cut : MayCut (concat (remaining_texts table walk.slice.node walk.next)) walk.at
-      walk.slice.range.start
+      walk.slice.start
   pub end_cut : MayCut (concat (remaining_texts table walk.slice.node walk.next)) walk.at
-      walk.slice.range.end
+      walk.slice.end
+
+IsWalk-tokens : (table : Table) (walk : ChunkWalk)
+    → IsProp (IfSome walk.next (IsTokenInside table walk.slice.node))
+IsWalk-tokens table walk = hlevel props
+
+pub IsWalk-prop : (table : Table) (walk : ChunkWalk) → IsProp (IsWalk table walk)
+IsWalk-prop table walk = hlevel (props, IsWalk-tokens)
 
 -- the chunks that are still to come
 abbrev pub remaining_chunks : Table → ChunkWalk → List (List ℕ)
-remaining_chunks table walk = cut_chunks walk.slice.range walk.at
+remaining_chunks table walk = cut_chunks (span_of walk.slice) walk.at
     (remaining_texts table walk.slice.node walk.next)
 
 -- of the tokens inside the element with the number top, those before the element with the number n
@@ -69,7 +82,7 @@ pub record SkipsTo (table : Table) (x top n : ℕ) : Type 0 where
 
 -- a slice of the text of the node with a number, by the cursor at the node
 abbrev pub slice_of : Table → Slice → TextSlice
-slice_of table slice = record { node = cursor_of table slice.node; range = slice.range }
+slice_of table slice = record { node = cursor_of table slice.node; range = span_of slice }
 
 -- the table has the node of a slice, and the range lies in the node's text
 pub record IsSliceOf (table : Table) (s : Slice) : Type 0 where

@@ -64,3 +64,8 @@ abbrev pub LeavesNoToken : Table → Option (WalkEvent ℕ) → Type 0
 LeavesNoToken t None = Unit {0}
 LeavesNoToken t (Some (Enter n)) = Unit {0}
 LeavesNoToken t (Some (Leave n)) = stands_for_node t n ≡ true
+
+pub LeavesNoToken-prop : (t : Table) (next : Option (WalkEvent ℕ)) → IsProp (LeavesNoToken t next)
+LeavesNoToken-prop t None = hlevel props
+LeavesNoToken-prop t (Some (Enter n)) = hlevel props
+LeavesNoToken-prop t (Some (Leave n)) = hlevel props

@@ -1,11 +1,13 @@
 -- What a traversal still gives, as each of the iterators shows it.
 use Rattle.std.specs.Prelude.{List, map}
+use Rattle.std.proofs.Props.{props}
 use Rattle.rowan_green.specs.declared.utility_types.WalkEvent.{WalkEvent}
 use Rattle.rowan_green.specs.Path.{Path}
 use Rattle.rowan_cursor.specs.declared.cursor.traversal.Traversal.{Traversal}
 use Rattle.rowan_cursor.specs.declared.table.Table.{Table}
 use Rattle.rowan_cursor.specs.Cursor.{Cursor}
-use Rattle.rowan_cursor.specs.Events.{remaining_events, NextStays, LeavesNoToken}
+use Rattle.rowan_cursor.specs.Events.{remaining_events, NextStays, LeavesNoToken, NextStays-prop}
+use Rattle.rowan_cursor.specs.Events.{LeavesNoToken-prop}
 use Rattle.rowan_cursor.specs.Moves.{Element, cursor_at, element_at, nodes_at}
 use Rattle.rowan_cursor.specs.Preorder.{event_map, events_of_nodes, entered_by}
 use Rattle.rowan_cursor.specs.TableView.{root_of, IsNodeIn}
@@ -19,6 +21,12 @@ pub record HasTraversal (t : Table) (walk : Traversal) : Type 0 where
 pub record HasNodeTraversal (t : Table) (walk : Traversal) : Type 0 where
   pub traversal : HasTraversal t walk
   pub tokens : LeavesNoToken t walk.next
+
+pub HasTraversal-prop : (t : Table) (walk : Traversal) → IsProp (HasTraversal t walk)
+HasTraversal-prop t walk = hlevel (props, NextStays-prop)
+
+pub HasNodeTraversal-prop : (t : Table) (walk : Traversal) → IsProp (HasNodeTraversal t walk)
+HasNodeTraversal-prop t walk = hlevel (props, HasTraversal-prop, LeavesNoToken-prop)
 
 -- the events that are left, by their paths
 abbrev pub remaining_path_events : Table → Traversal → List (WalkEvent Path)

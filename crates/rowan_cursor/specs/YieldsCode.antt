@@ -60,6 +60,3 @@ coded_element =
 
 abbrev pub coded_rest_of_cursors : Coded (Rest Cursor)
 coded_rest_of_cursors = coded_result (coded_list coded_cursor) coded_fault
-
-abbrev pub coded_rest_of_elements : Coded (Rest Element)
-coded_rest_of_elements = coded_result (coded_list coded_element) coded_fault

@@ -14,6 +14,8 @@ ghost use Rattle.rowan_cursor.specs.Preorder.{descendants_with_tokens, descendan
 ghost use Rattle.rowan_cursor.specs.Preorder.{event_symbols};
 ghost use Rattle.rowan_cursor.specs.PreorderRuns.{WalkCall, output_of, rest_after, LeavesAll};
 ghost use Rattle.rowan_cursor.specs.Moves.{Element, place_of, cursor_at};
+ghost use Rattle.rowan_cursor.specs.Moves.{children, children_with_tokens};
+ghost use Rattle.rowan_cursor.specs.Sizes.{size_at, AreSmaller, AreSmallerElements};
 ghost use Rattle.rowan_cursor.specs.Search.{LiesIn, IsCovering, FindsChild, IsLeafOver, tokens_at};
 ghost use Rattle.rowan_cursor.specs.SyntaxText.{TextSlice, IsTextSlice, chunks, slice_len};
 ghost use Rattle.rowan_cursor.specs.SyntaxText.{slice_text, token_texts};
@@ -28,6 +30,13 @@ pub fn cursors_are_equal_by_value_and_start()
 pub fn nothing_equals_what_is_in_it()
     ensures { (c d : Cursor) (i : ℕ) (q : Path) (t : Term) → d.root ≡ c.root
         → d.path ≡ c.path ++ i ∷ q → term_at d ≡ Some t → same_place c d ≡ false }
+{}
+
+/// Each child is smaller than its node. So a function that calls itself for the children of a node
+/// ends: `size_at` is its measure.
+pub fn children_are_smaller()
+    ensures nodes { (c : Cursor) → AreSmaller (size_at c) (children c) }
+    ensures elements { (c : Cursor) → AreSmallerElements (size_at c) (children_with_tokens c) }
 {}
 
 /// In a walk that ran to its end each element that was entered was left, the last one first,

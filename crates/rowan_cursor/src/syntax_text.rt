@@ -1,16 +1,20 @@
 //! Texts of nodes, and slices of them. A text is read in chunks, which the tree lends: one for each
 //! token that it meets.
+mod chunks;
 mod range;
+mod search;
+mod text_ref;
 
 ghost use Rattle.std.specs.Prelude.{◌≡◌, ◌↔◌, ◌≤◌, ℕ, IfOk, IfErr, IsTrue, string_bytes};
 ghost use Rattle.std.specs.Str.{IsCharBoundary};
-ghost use Rattle.rowan_cursor.specs.TableView.{IsNodeIn, cursor_of};
+ghost use Rattle.rowan_cursor.specs.Chunks.{slice_of, IsSliceOf};
 ghost use Rattle.rowan_cursor.specs.Folds.{FoldsUntilErr, VisitsUntilErr, VisitsAll};
-ghost use Rattle.rowan_cursor.specs.SyntaxText.{slice_text, slice_len, chunks, whole_text, part_of};
+ghost use Rattle.rowan_cursor.specs.SyntaxText.{slice_text, slice_len, chunks, part_of};
 ghost use Rattle.rowan_cursor.specs.SyntaxText.{first_of, last_of, CanCut, HasChar, FindsChar};
 ghost use Rattle.rowan_cursor.specs.SyntaxText.{ReadsChar};
 
 use crate::table::{Slice, Table};
+pub use chunks::SyntaxTextChunks;
 pub use range::SyntaxTextRange;
 use rowan_green::fault::Fault;
 use rowan_green::text::TextSize;
@@ -18,6 +22,7 @@ use std::alloc::AllocError;
 use std::fmt;
 use std::marker::Model;
 use std::rc::Rc;
+pub use text_ref::SyntaxTextRef;
 
 /// The text of a node, or a slice of it. A clone shares the tree. Offsets into it are bytes from
 /// its start.
@@ -43,45 +48,50 @@ impl Model for SyntaxText {
 }
 
 impl SyntaxText {
-    // The text of the node with a number.
-    pub(crate) fn new(table: &Rc<Table>, node: usize) -> Result<SyntaxText, AllocError>
-        requires { IsNodeIn table.now.value node }
-        ensures { IfOk result (λ t. t ≡ whole_text (cursor_of table.now.value node)) }
+    ghost use Rattle.rowan_cursor.specs.RefTexts.{text_slice};
+
+    // A slice of the text of a node.
+    fn new(table: &Rc<Table>, slice: Slice) -> Result<SyntaxText, AllocError>
+        requires { IsSliceOf table.now.value slice }
+        ensures { IfOk result (λ text. text ≡ slice_of table.now.value slice) }
     {
-        let range = table.text_range(node);
         let table = table.clone()?;
-        Ok(SyntaxText {
-            table,
-            slice: Slice { node, range },
-        })
+        Ok(SyntaxText { table, slice })
+    }
+
+    /// The text, borrowed from its tree.
+    pub fn as_ref(&self) -> SyntaxTextRef<'_>
+        ensures { text_slice result ≡ self.now }
+    {
+        SyntaxTextRef::new(&self.table, self.slice)
     }
 
     /// The number of bytes.
     pub fn len(&self) -> TextSize
         ensures { result ≡ slice_len self.now }
     {
-        self.slice.range.len()
+        self.as_ref().len()
     }
 
     /// Whether there are no bytes.
     pub fn is_empty(&self) -> bool
         ensures { IsTrue result ↔ (self.now.range.start ≡ self.now.range.end) }
     {
-        self.slice.range.is_empty()
+        self.as_ref().is_empty()
     }
 
     /// Whether a character is in the text. Takes no memory.
     pub fn contains_char(&self, c: char) -> bool
         ensures { IsTrue result ↔ ((i : ℕ) × HasChar (slice_text self.now) i c) }
     {
-        self.find_char(c).is_some()
+        self.as_ref().contains_char(c)
     }
 
     /// The offset at which a character first begins. Takes no memory.
     pub fn find_char(&self, c: char) -> Option<TextSize>
         ensures { FindsChar (slice_text self.now) c result }
     {
-        self.slice.find_char(&self.table, c)
+        self.as_ref().find_char(c)
     }
 
     /// Whether an offset is at most the length and not inside a character. Takes no memory.
@@ -89,7 +99,7 @@ impl SyntaxText {
         ensures border { IsTrue result ↔ IsCharBoundary (slice_text self.now) offset }
         ensures within { IsTrue result → offset ≤ slice_len self.now }
     {
-        self.slice.is_border(&self.table, offset)
+        self.as_ref().is_border(offset)
     }
 
     /// The character that begins at an offset: none past the end or inside a character. Takes no
@@ -97,14 +107,14 @@ impl SyntaxText {
     pub fn char_at(&self, offset: TextSize) -> Option<char>
         ensures { ReadsChar (slice_text self.now) offset result }
     {
-        self.slice.char_at(&self.table, offset)
+        self.as_ref().char_at(offset)
     }
 
     /// Whether this is the text. Takes no memory.
     pub fn eq_str(&self, text: &str) -> bool
         ensures { IsTrue result ↔ (slice_text self.now ≡ text.now) }
     {
-        self.slice.has_text(&self.table, text)
+        self.as_ref().eq_str(text)
     }
 
     /// The part in a range, whose ends are counted in bytes from the start of the text. They are in
@@ -118,11 +128,7 @@ impl SyntaxText {
             ≡ part_of self.now (first_of (R.first range)) (last_of self.now (R.last range))) }
         ensures err { IfErr result (λ e. e ≡ Fault.Memory) }
     {
-        let start = range.start().unwrap_or(TextSize::from(0));
-        let end = range.end().unwrap_or(self.len());
-        let slice = self.slice.part(&self.table, start, end);
-        let table = self.table.clone()?;
-        Ok(SyntaxText { table, slice })
+        self.as_ref().slice(range).to_owned()
     }
 
     /// What a closure makes of a first value and the chunks in their order: each call takes the
@@ -136,7 +142,7 @@ impl SyntaxText {
         requires { F.IsAlwaysCallable f }
         ensures { (last : F) × FoldsUntilErr F.FnMut f init (chunks self.now) result last }
     {
-        self.slice.fold(&self.table, init, f)
+        self.as_ref().try_fold_chunks(init, f)
     }
 
     /// Calls a closure at each chunk, in their order, up to the first `Err` that it answers. Takes
@@ -145,7 +151,7 @@ impl SyntaxText {
         requires { F.IsAlwaysCallable f }
         ensures { (last : F) × VisitsUntilErr F.FnMut f (chunks self.now) result last }
     {
-        self.slice.try_visit(&self.table, f)
+        self.as_ref().try_for_each_chunk(f)
     }
 
     /// Calls a closure at each chunk, in their order. Takes no memory of its own.
@@ -153,7 +159,7 @@ impl SyntaxText {
         requires { F.IsAlwaysCallable f }
         ensures { (last : F) × VisitsAll F.FnMut f (chunks self.now) last }
     {
-        self.slice.visit(&self.table, f)
+        self.as_ref().for_each_chunk(f)
     }
 
     /// The text as a string of its own. Refused only for want of memory.
@@ -161,7 +167,7 @@ impl SyntaxText {
         ensures ok { IfOk result (λ text. string_bytes text ≡ slice_text self.now) }
         ensures err { IfErr result (λ e. e ≡ Fault.Memory) }
     {
-        Ok(self.slice.text(&self.table)?)
+        self.as_ref().to_text()
     }
 }
 
@@ -169,11 +175,7 @@ impl Clone for SyntaxText {
     ghost is_clone = { λ text copy. copy ≡ text };
 
     fn clone(&self) -> Result<SyntaxText, AllocError> {
-        let table = self.table.clone()?;
-        Ok(SyntaxText {
-            table,
-            slice: self.slice,
-        })
+        SyntaxText::new(&self.table, self.slice)
     }
 }
 
@@ -186,8 +188,7 @@ impl PartialEq for SyntaxText {
     ghost laws = { partial_equiv_from_equiv same_text-laws };
 
     fn eq(&self, other: &SyntaxText) -> bool {
-        self.slice
-            .has_text_of(&self.table, &other.slice, &other.table)
+        self.as_ref() == other.as_ref()
     }
 }
 
@@ -204,12 +205,12 @@ impl fmt::Display for SyntaxText {
     ghost output = { λ text. Some (slice_text text) };
 
     fn fmt<W: fmt::Write>(&self, f: &mut fmt::Formatter<W>) -> fmt::Result {
-        self.slice.write(&self.table, f)
+        fmt::Display::fmt(&self.as_ref(), f)
     }
 }
 
 impl fmt::Debug for SyntaxText {
     fn fmt<W: fmt::Write>(&self, f: &mut fmt::Formatter<W>) -> fmt::Result {
-        self.slice.quote(&self.table, f)
+        fmt::Debug::fmt(&self.as_ref(), f)
     }
 }

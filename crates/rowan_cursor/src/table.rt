@@ -3,6 +3,7 @@
 mod chunks;
 mod draft;
 mod entry;
+mod equal;
 mod events;
 mod nodes;
 mod replace;
@@ -12,6 +13,7 @@ mod slice;
 ghost use Rattle.rowan_cursor.specs.Table.{IsTable, AreNodes, all_facts};
 ghost use Rattle.rowan_cursor.specs.TableProp.{IsTable-prop, AreNodes-prop};
 
+pub(crate) use chunks::ChunkWalk;
 use draft::Draft;
 use entry::Entry;
 use nodes::Nodes;
@@ -26,7 +28,7 @@ use std::ops::Range;
 /// has 0, and the children of a node stand side by side, behind it. The nodes stand beside the
 /// entries, in the order in which their children do.
 #[derive(Drop)]
-pub(crate) struct Table {
+pub struct Table {
     entries: Vec<Entry>,
     nodes: Nodes,
     ghost numbered: { AreNodes nodes entries.items } by { AreNodes-prop nodes entries.items },

@@ -7,6 +7,7 @@
 mod changes;
 mod lists;
 mod moves;
+mod refs;
 mod values;
 mod walks;
 

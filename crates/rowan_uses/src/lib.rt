@@ -3,6 +3,7 @@
 //! needs no other crate.
 #![tactic(auto)]
 
+pub mod borrowed;
 pub mod builders;
 pub mod cursors;
 pub mod elements;

@@ -1,11 +1,13 @@
 //! Pointers to nodes, which outlive their trees.
 ghost use Rattle.std.specs.Prelude.{◌≡◌, ◌≤◌, IfOk, Some};
+ghost use Rattle.std.specs.Option.{option_map};
 ghost use Rattle.rowan.specs.Pointer.{Resolves, means_kind, pointer_to};
+ghost use Rattle.rowan.specs.Refs.{node_place};
 ghost use Rattle.rowan_uses.specs.Kinds.{kind_of, same_kind};
 
 use crate::kinds::Lists;
 use rowan::ast::SyntaxNodePtr;
-use rowan::{Fault, SyntaxNode, TextRange, TextSize};
+use rowan::{Fault, SyntaxNode, SyntaxNodeRef, TextRange, TextSize};
 
 /// The pointer to a node.
 pub fn pointer(node: &SyntaxNode<Lists>) -> SyntaxNodePtr<Lists>
@@ -34,4 +36,15 @@ pub fn after_insert(
     ensures { pointer.range.end ≤ place → result ≡ Some pointer }
 {
     pointer.after_edit(TextRange::new(place, place), len)
+}
+
+/// The node of a pointer in a borrowed tree.
+pub fn find_in<'tree>(
+    pointer: SyntaxNodePtr<Lists>,
+    root: SyntaxNodeRef<'tree, Lists>,
+) -> Option<SyntaxNodeRef<'tree, Lists>>
+    ensures { let means = means_kind kind_of same_kind pointer.kind in
+        Resolves means pointer.range (node_place root.entry) (option_map node_place result) }
+{
+    pointer.try_to_node_ref(root)
 }

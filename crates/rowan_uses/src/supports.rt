@@ -5,13 +5,14 @@ ghost use Rattle.std.specs.Option.{option_map};
 ghost use Rattle.rowan.specs.Ast.{casts_at, is_token_of};
 ghost use Rattle.rowan.specs.Moves.{children, children_with_tokens};
 ghost use Rattle.rowan.specs.Pointer.{means_kind};
+ghost use Rattle.rowan.specs.Refs.{node_place, token_place};
 ghost use Rattle.rowan.specs.Types.NodeOrToken.TheVariants.{Token};
 ghost use Rattle.rowan_uses.specs.Kinds.{is_list, kind_of, same_kind};
 
 use crate::kinds::{Kind, Lists};
 use crate::wrappers::ListNode;
 use rowan::ast::{AstChildren, AstNode, support};
-use rowan::{Fault, SyntaxToken};
+use rowan::{Fault, SyntaxNodeRef, SyntaxToken, SyntaxTokenRef};
 
 impl ListNode {
     /// The first list in the list.
@@ -37,4 +38,15 @@ impl ListNode {
     {
         support::token(self.syntax(), Kind::Word)
     }
+}
+
+/// The first word in a borrowed list.
+pub fn first_word_of<'tree>(
+    list: SyntaxNodeRef<'tree, Lists>,
+) -> Option<SyntaxTokenRef<'tree, Lists>>
+    ensures { option_map Token (option_map token_place result)
+        ≡ find (is_token_of (means_kind kind_of same_kind Kind.Word))
+        (children_with_tokens (node_place list.entry)) }
+{
+    support::token_of(list, Kind::Word)
 }

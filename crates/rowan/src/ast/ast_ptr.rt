@@ -1,6 +1,6 @@
 //! Pointers to nodes that cast to a wrapper.
 use super::{AstNode, SyntaxNodePtr};
-use crate::api::{Language, SyntaxNode};
+use crate::api::{Language, SyntaxNode, SyntaxNodeRef};
 use crate::fault::Fault;
 use std::alloc::AllocError;
 use std::marker::Model;
@@ -30,6 +30,7 @@ impl<N: AstNode> AstPtr<N> {
     ghost use Rattle.std.specs.Prelude.{◌≡◌, ◌≢◌, true, if◌then◌else◌, IfOk, IfErr, Some, None};
     ghost use Rattle.std.specs.Option.{option_map};
     ghost use Rattle.rowan_green.specs.declared.fault.Fault.TheVariants.{Memory, NotFound};
+    ghost use Rattle.rowan_api.specs.Refs.{node_place};
     ghost use Rattle.rowan.specs.Pointer.{pointer_to, means_kind, Resolves};
 
     /// The pointer to the node in a wrapper.
@@ -50,8 +51,18 @@ impl<N: AstNode> AstPtr<N> {
             Resolves means self.now.range root.now (option_map N.node_of found)) }
         ensures err { IfErr result (λ e. e ≡ Memory) }
     {
-        match self.raw.try_to_node(root)? {
-            Some(node) => Ok(N::cast(node)),
+        self.try_to_node_of(root.as_ref())
+    }
+
+    /// Answers as `try_to_node` does, in a borrowed tree.
+    pub fn try_to_node_of(&self, root: SyntaxNodeRef<'_, N::Language>) -> Result<Option<N>, Fault>
+        ensures ok { let means = means_kind N.Language.meaning N.Language.Kind.eq self.now.kind in
+            IfOk result (λ found.
+            Resolves means self.now.range (node_place root.entry) (option_map N.node_of found)) }
+        ensures err { IfErr result (λ e. e ≡ Memory) }
+    {
+        match self.raw.try_to_node_ref(root) {
+            Some(node) => Ok(N::cast(node.to_owned()?)),
             None => Ok(None),
         }
     }
@@ -64,7 +75,19 @@ impl<N: AstNode> AstPtr<N> {
             IfErr result (λ e. e ≢ Memory
             → (e ≡ NotFound) × Resolves means self.now.range root.now None) }
     {
-        match self.try_to_node(root)? {
+        self.to_node_of(root.as_ref())
+    }
+
+    /// Answers as `to_node` does, in a borrowed tree.
+    pub fn to_node_of(&self, root: SyntaxNodeRef<'_, N::Language>) -> Result<N, Fault>
+        ensures ok { let means = means_kind N.Language.meaning N.Language.Kind.eq self.now.kind in
+            IfOk result (λ node.
+            Resolves means self.now.range (node_place root.entry) (Some (N.node_of node))) }
+        ensures err { let means = means_kind N.Language.meaning N.Language.Kind.eq self.now.kind in
+            IfErr result (λ e. e ≢ Memory
+            → (e ≡ NotFound) × Resolves means self.now.range (node_place root.entry) None) }
+    {
+        match self.try_to_node_of(root)? {
             Some(node) => Ok(node),
             None => Err(Fault::NotFound),
         }

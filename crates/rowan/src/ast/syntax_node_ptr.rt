@@ -1,11 +1,13 @@
 //! Pointers to nodes.
 ghost use Rattle.std.specs.Prelude.{◌≡◌, ◌≢◌, ◌≤◌, IfOk, IfErr, true, Some, None};
+ghost use Rattle.std.specs.Option.{option_map};
 ghost use Rattle.rowan_green.specs.Steps.{one_more};
 ghost use Rattle.rowan_cursor.specs.Moves.{is_node_at};
+ghost use Rattle.rowan_api.specs.Refs.{node_place};
 ghost use Rattle.rowan.specs.Pointer.{pointer_to, means_kind, is_meant, carried};
 ghost use Rattle.rowan.specs.Pointer.{Resolves, CountsResolving};
 
-use crate::api::{Language, SyntaxNode};
+use crate::api::{Language, SyntaxNode, SyntaxNodeRef};
 use crate::fault::Fault;
 use crate::steps::Steps;
 use crate::text::{TextRange, TextSize};
@@ -35,6 +37,13 @@ impl<L: Language> SyntaxNodePtr<L> {
     /// The pointer to a node.
     pub fn new(node: &SyntaxNode<L>) -> SyntaxNodePtr<L>
         ensures { pointer_to L.meaning node.now ≡ Some result }
+    {
+        SyntaxNodePtr::from_ref(node.as_ref())
+    }
+
+    /// The pointer to a borrowed node.
+    pub fn from_ref(node: SyntaxNodeRef<'_, L>) -> SyntaxNodePtr<L>
+        ensures { pointer_to L.meaning (node_place node.entry) ≡ Some result }
     {
         SyntaxNodePtr {
             kind: node.kind(),
@@ -89,33 +98,83 @@ impl<L: Language> SyntaxNodePtr<L> {
             × (steps.old.visits ≤ steps.new.visits) }
         ensures err { IfErr result (λ e. e ≡ Fault.Memory) }
     {
-        if root.parent()?.is_some() {
-            return Ok(None);
+        match self.try_to_node_ref_counted(root.as_ref(), steps) {
+            Some(node) => Ok(Some(node.to_owned()?)),
+            None => Ok(None),
         }
-        let mut node = root.clone()?;
-        while !self.is_to(&node, steps) {
-            let Some(child) = node.child_or_token_at_range_counted(self.range, steps)? else {
-                return Ok(None);
+    }
+
+    /// The node to which the pointer leads in a borrowed tree, as `try_to_node` finds it. It is
+    /// refused for nothing.
+    pub fn try_to_node_ref<'tree>(
+        &self,
+        root: SyntaxNodeRef<'tree, L>,
+    ) -> Option<SyntaxNodeRef<'tree, L>>
+        ensures { let means = means_kind L.meaning L.Kind.eq self.now.kind in
+            Resolves means self.now.range (node_place root.entry) (option_map node_place result) }
+    {
+        let mut steps = Steps::new();
+        self.try_to_node_ref_counted(root, &mut steps)
+    }
+
+    /// Answers as `try_to_node_ref` does, and counts its steps as `try_to_node_counted` does.
+    pub fn try_to_node_ref_counted<'tree>(
+        &self,
+        root: SyntaxNodeRef<'tree, L>,
+        steps: &mut Steps,
+    ) -> Option<SyntaxNodeRef<'tree, L>>
+        ensures found { let means = means_kind L.meaning L.Kind.eq self.now.kind in
+            Resolves means self.now.range (node_place root.entry) (option_map node_place result) }
+        ensures counts { let means = means_kind L.meaning L.Kind.eq self.now.kind in
+            CountsResolving means self.now.range (node_place root.entry) steps.old steps.new }
+        ensures grows { (steps.old.comparisons ≤ steps.new.comparisons)
+            × (steps.old.visits ≤ steps.new.visits) }
+    {
+        if root.parent().is_some() {
+            return None;
+        }
+        let mut node = root;
+        while !self.is_to(node, steps) {
+            let Some(child) = node.child_or_token_at_range_counted(self.range, steps) else {
+                return None;
             };
             let NodeOrToken::Node(child) = child else {
-                return Ok(None);
+                return None;
             };
             node = child;
         }
-        Ok(Some(node))
+        Some(node)
     }
 
     // Whether the node has this kind and this range. Counts the visit.
-    fn is_to(&self, node: &SyntaxNode<L>, steps: &mut Steps) -> bool
-        requires { is_node_at node.now.root node.now.path ≡ true }
+    fn is_to(&self, node: SyntaxNodeRef<'_, L>, steps: &mut Steps) -> bool
+        requires { let place = node_place node in is_node_at place.root place.path ≡ true }
         ensures is { let means = means_kind L.meaning L.Kind.eq self.now.kind in
-            result ≡ is_meant means self.now.range node.now.root node.now.path }
+            let place = node_place node.entry in
+            result ≡ is_meant means self.now.range place.root place.path }
         ensures visits { steps.new.visits ≡ one_more steps.old.visits }
         ensures grows { steps.old.visits ≤ steps.new.visits }
         ensures comparisons { steps.new.comparisons ≡ steps.old.comparisons }
     {
         steps.visit();
         node.text_range() == self.range && node.kind() == self.kind
+    }
+
+    /// Answers as `try_to_node_ref` does, with `Err(Fault::NotFound)` in place of `None`.
+    pub fn to_node_ref<'tree>(
+        &self,
+        root: SyntaxNodeRef<'tree, L>,
+    ) -> Result<SyntaxNodeRef<'tree, L>, Fault>
+        ensures ok { let means = means_kind L.meaning L.Kind.eq self.now.kind in IfOk result
+            (λ n. Resolves means self.now.range (node_place root.entry) (Some (node_place n))) }
+        ensures err { let means = means_kind L.meaning L.Kind.eq self.now.kind in
+            IfErr result (λ e. (e ≡ Fault.NotFound)
+            × Resolves means self.now.range (node_place root.entry) None) }
+    {
+        match self.try_to_node_ref(root) {
+            Some(node) => Ok(node),
+            None => Err(Fault::NotFound),
+        }
     }
 
     /// Answers as `try_to_node` does, with `Err(Fault::NotFound)` in place of `None`.
@@ -126,10 +185,7 @@ impl<L: Language> SyntaxNodePtr<L> {
             IfErr result (λ e. e ≢ Fault.Memory
             → (e ≡ Fault.NotFound) × Resolves means self.now.range root.now None) }
     {
-        match self.try_to_node(root)? {
-            Some(node) => Ok(node),
-            None => Err(Fault::NotFound),
-        }
+        self.to_node_ref(root.as_ref())?.to_owned()
     }
 
     /// The pointer after an edit of the text that put `new_len` bytes in place of those of a range:

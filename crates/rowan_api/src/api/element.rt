@@ -102,52 +102,31 @@ impl<L: Language> TypedElementCalls<L> for SyntaxElement<L> {
     }
 
     fn text_range(&self) -> TextRange {
-        match self {
-            NodeOrToken::Node(node) => node.text_range(),
-            NodeOrToken::Token(token) => token.text_range(),
-        }
+        for_both!(self, it => it.text_range())
     }
 
     fn index(&self) -> usize {
-        match self {
-            NodeOrToken::Node(node) => node.index(),
-            NodeOrToken::Token(token) => token.index(),
-        }
+        for_both!(self, it => it.index())
     }
 
     fn kind(&self) -> L::Kind {
-        match self {
-            NodeOrToken::Node(node) => node.kind(),
-            NodeOrToken::Token(token) => token.kind(),
-        }
+        for_both!(self, it => it.kind())
     }
 
     fn parent(&self) -> Result<Option<SyntaxNode<L>>, Fault> {
-        match self {
-            NodeOrToken::Node(node) => node.parent(),
-            NodeOrToken::Token(token) => token.parent(),
-        }
+        for_both!(self, it => it.parent())
     }
 
     fn tree_top(&self) -> Result<SyntaxNode<L>, Fault> {
-        match self {
-            NodeOrToken::Node(node) => node.tree_top(),
-            NodeOrToken::Token(token) => token.tree_top(),
-        }
+        for_both!(self, it => it.tree_top())
     }
 
     fn next_sibling_or_token(&self) -> Result<Option<SyntaxElement<L>>, Fault> {
-        match self {
-            NodeOrToken::Node(node) => node.next_sibling_or_token(),
-            NodeOrToken::Token(token) => token.next_sibling_or_token(),
-        }
+        for_both!(self, it => it.next_sibling_or_token())
     }
 
     fn prev_sibling_or_token(&self) -> Result<Option<SyntaxElement<L>>, Fault> {
-        match self {
-            NodeOrToken::Node(node) => node.prev_sibling_or_token(),
-            NodeOrToken::Token(token) => token.prev_sibling_or_token(),
-        }
+        for_both!(self, it => it.prev_sibling_or_token())
     }
 
     fn ancestors(&self) -> Ancestors<L> {

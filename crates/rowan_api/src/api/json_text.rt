@@ -4,6 +4,7 @@ ghost use Rattle.std.specs.List.{AllByRecursion};
 ghost use Rattle.json.specs.Print.{print};
 ghost use Rattle.serde_json.specs.Written.{compact_text};
 ghost use Rattle.rowan_green.specs.Term.{node_len};
+ghost use Rattle.rowan_cursor.specs.Refs.{token_place};
 ghost use Rattle.rowan_api.specs.Opened.{open_size, IsWithin};
 ghost use Rattle.rowan_api.specs.Printed.{raw_name, extent, node_json, token_object, tree_json};
 ghost use Rattle.rowan_api.specs.Spelled.{Spells, SpellsUpTo, begin_tokens, end_tokens};
@@ -12,7 +13,7 @@ ghost use Rattle.rowan_api.specs.Spelled.{kind_tokens, range_tokens, value_token
 use crate::api::language::Language;
 use crate::api::open_node::OpenNode;
 use json::Writer;
-use rowan_cursor::cursor::SyntaxToken;
+use rowan_cursor::cursor::SyntaxTokenRef;
 use rowan_green::green::{GreenNode, GreenToken, SyntaxKind};
 use rowan_green::text::TextRange;
 use rowan_green::utility_types::NodeOrToken;
@@ -81,10 +82,11 @@ fn write_child<'a, L: Language>(
 // The text of the value of a token.
 pub(super) fn token_text<L: Language>(
     alloc: Global,
-    token: &SyntaxToken,
+    token: SyntaxTokenRef<'_>,
 ) -> Result<String, AllocError>
     ensures { IfOk result (λ s.
-        string_bytes s ≡ compact_text (tree_json (raw_name L.name L.meaning) token.now)) }
+        string_bytes s
+        ≡ compact_text (tree_json (raw_name L.name L.meaning) (token_place token.entry))) }
 {
     let mut out = Writer::new(Vec::new(alloc));
     write_token::<L>(&mut out, token.green(), token.text_range())?;

@@ -2,28 +2,30 @@
 ghost use Rattle.std.specs.Prelude.{◌≡◌, map, IfOk, OnOk};
 ghost use Rattle.serde_json.specs.View.{view};
 ghost use Rattle.rowan_cursor.specs.Cursor.{text_range};
+ghost use Rattle.rowan_cursor.specs.Refs.{node_place, token_place, element_place};
 ghost use Rattle.rowan_api.specs.Printed.{raw_name, kind_name, node_object, tree_json};
 ghost use Rattle.rowan_api.specs.Unfinished.{values_of, after_enter, after_leave};
 
 use crate::api::language::Language;
-use rowan_cursor::cursor::{SyntaxElement, SyntaxNode, SyntaxToken};
+use rowan_cursor::cursor::{SyntaxElementRef, SyntaxNodeRef, SyntaxTokenRef};
 use rowan_green::utility_types::{NodeOrToken, WalkEvent};
 use serde_json::{Value, json};
 use std::alloc::{AllocError, Global};
 use std::mem;
 
 // The value of a node and of all that is in it.
-pub(super) fn node_json<L: Language>(alloc: Global, node: &SyntaxNode) -> Result<Value, AllocError>
-    ensures { IfOk result (λ v. view v ≡ tree_json (raw_name L.name L.meaning) node.now) }
+pub(super) fn node_json<L: Language>(
+    alloc: Global,
+    node: SyntaxNodeRef<'_>,
+) -> Result<Value, AllocError>
+    ensures { IfOk result (λ v.
+        view v ≡ tree_json (raw_name L.name L.meaning) (node_place node.entry)) }
 {
     let mut draft = Draft::new(alloc);
     for event in node.preorder_with_tokens() {
-        let Ok(event) = event else {
-            return Err(AllocError);
-        };
         match event {
-            WalkEvent::Enter(element) => draft.enter::<L>(alloc, &element)?,
-            WalkEvent::Leave(element) => draft.leave::<L>(alloc, &element)?,
+            WalkEvent::Enter(element) => draft.enter::<L>(alloc, element)?,
+            WalkEvent::Leave(element) => draft.leave::<L>(alloc, element)?,
         }
     }
     Ok(draft.inner.pop().unwrap_or_default())
@@ -32,9 +34,10 @@ pub(super) fn node_json<L: Language>(alloc: Global, node: &SyntaxNode) -> Result
 // The value of a token.
 pub(super) fn token_json<L: Language>(
     alloc: Global,
-    token: &SyntaxToken,
+    token: SyntaxTokenRef<'_>,
 ) -> Result<Value, AllocError>
-    ensures { IfOk result (λ v. view v ≡ tree_json (raw_name L.name L.meaning) token.now) }
+    ensures { IfOk result (λ v.
+        view v ≡ tree_json (raw_name L.name L.meaning) (token_place token.entry)) }
 {
     let green = token.green();
     let kind = L::kind_name(L::kind_from_raw(green.kind()));
@@ -48,11 +51,11 @@ pub(super) fn token_json<L: Language>(
 // The value of a node, by those of its children.
 fn node_object<L: Language>(
     alloc: Global,
-    node: &SyntaxNode,
+    node: SyntaxNodeRef<'_>,
     children: Vec<Value>,
 ) -> Result<Value, AllocError>
-    ensures { IfOk result (λ v. view v
-        ≡ node_object (kind_name (raw_name L.name L.meaning) node.now) (text_range node.now)
+    ensures { let place = node_place node.entry in IfOk result (λ v. view v
+        ≡ node_object (kind_name (raw_name L.name L.meaning) place) (text_range place)
         (map view children.items)) }
 {
     let kind = L::kind_name(L::kind_from_raw(node.green().kind()));
@@ -87,10 +90,11 @@ impl Draft {
     fn enter<L: Language>(
         &mut self,
         alloc: Global,
-        element: &SyntaxElement,
+        element: SyntaxElementRef<'_>,
     ) -> Result<(), AllocError>
         ensures { OnOk result (values_of self.new
-            ≡ after_enter (raw_name L.name L.meaning) element.now (values_of self.old)) }
+            ≡ after_enter (raw_name L.name L.meaning) (element_place element.entry)
+            (values_of self.old)) }
     {
         match element {
             NodeOrToken::Node(_) => {
@@ -107,10 +111,11 @@ impl Draft {
     fn leave<L: Language>(
         &mut self,
         alloc: Global,
-        element: &SyntaxElement,
+        element: SyntaxElementRef<'_>,
     ) -> Result<(), AllocError>
         ensures { OnOk result (values_of self.new
-            ≡ after_leave (raw_name L.name L.meaning) element.now (values_of self.old)) }
+            ≡ after_leave (raw_name L.name L.meaning) (element_place element.entry)
+            (values_of self.old)) }
     {
         match element {
             NodeOrToken::Node(node) => {

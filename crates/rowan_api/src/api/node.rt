@@ -12,9 +12,9 @@ ghost use Rattle.rowan_cursor.specs.Cursor.{StandsAt, index, kind, text_range};
 ghost use Rattle.rowan_cursor.specs.Replacement.{IsReplacement, KeepsTheRest, WhyNoReplacement};
 ghost use Rattle.rowan_cursor.specs.SyntaxText.{whole_text};
 ghost use Rattle.rowan_api.specs.Printed.{raw_name, tree_json, IsDebugLine, IsDebugTree};
+ghost use Rattle.rowan_api.specs.Refs.{node_place};
 
-use crate::api::language::Language;
-use crate::api::{json_text, json_value, printed};
+use crate::api::{Language, SyntaxNodeRef, json_text, json_value, printed};
 use rowan_cursor::cursor;
 use rowan_cursor::syntax_text::SyntaxText;
 use rowan_green::fault::Fault;
@@ -72,6 +72,13 @@ impl<L> SyntaxNode<L> {
         ensures err { IfErr result (λ e. e ≡ Fault.Memory) }
     {
         Ok(SyntaxNode::from(cursor::SyntaxNode::new_root(alloc, green)?))
+    }
+
+    /// The node, borrowed from its tree: its moves are refused for nothing.
+    pub fn as_ref(&self) -> SyntaxNodeRef<'_, L>
+        ensures { node_place result ≡ self.now }
+    {
+        SyntaxNodeRef::from(self.raw.as_ref())
     }
 
     /// The root of a new tree, which has the green node of this one. It visits each node and token
@@ -147,7 +154,7 @@ impl<L: Language> SyntaxNode<L> {
             IsDebugLine (raw_name L.name L.meaning) self.now (string_bytes s)) }
         ensures err { IfErr result (λ e. e ≡ Fault.Memory) }
     {
-        Ok(printed::node_line::<L>(alloc, &self.raw)?)
+        Ok(printed::node_line::<L>(alloc, self.raw.as_ref())?)
     }
 
     /// The node and all that is in it as text, a line for each node and token in the order of the
@@ -183,7 +190,7 @@ impl<L: Language> SyntaxNode<L> {
         ensures ok { IfOk result (λ v. view v ≡ tree_json (raw_name L.name L.meaning) self.now) }
         ensures err { IfErr result (λ e. e ≡ Fault.Memory) }
     {
-        Ok(json_value::node_json::<L>(alloc, &self.raw)?)
+        Ok(json_value::node_json::<L>(alloc, self.raw.as_ref())?)
     }
 
     /// The JSON of the node and of all that is in it as text, with no space: the text of the value
@@ -284,9 +291,6 @@ impl<L> fmt::Display for SyntaxNode<L> {
 
 impl<L: Language> fmt::Debug for SyntaxNode<L> {
     fn fmt<W: fmt::Write>(&self, f: &mut fmt::Formatter<W>) -> fmt::Result {
-        f.debug_struct("SyntaxNode")
-            .field("kind", &self.kind())
-            .field("text_range", &self.text_range())
-            .finish()
+        fmt::Debug::fmt(&self.as_ref(), f)
     }
 }

@@ -6,6 +6,7 @@ ghost use Rattle.std.specs.List.{list_all, AllByRecursion};
 ghost use Rattle.std.specs.Char.{is_ascii};
 ghost use Rattle.rowan_green.specs.Fits.{byte_limit};
 ghost use Rattle.rowan_green.specs.Term.{node_len, token_len};
+ghost use Rattle.rowan_cursor.specs.Refs.{node_place, token_place};
 ghost use Rattle.rowan_api.specs.Opened.{open_size, Completes, IsWithin};
 ghost use Rattle.rowan_api.specs.Printed.{raw_name, front_of, is_plain, extent};
 ghost use Rattle.rowan_api.specs.Printed.{headline, node_line, Adds, IsEscape, AreEscapes};
@@ -14,7 +15,7 @@ ghost use Rattle.rowan_api.specs.Printed.{IsTextLine, IsTokenLine, AreNodeLines,
 use crate::api::language::Language;
 use crate::api::open_node::OpenNode;
 use itoa::write_digits;
-use rowan_cursor::cursor::{SyntaxNode, SyntaxToken};
+use rowan_cursor::cursor::{SyntaxNodeRef, SyntaxTokenRef};
 use rowan_green::green::{GreenNode, GreenToken, SyntaxKind};
 use rowan_green::text::{TextRange, TextSize};
 use rowan_green::utility_types::NodeOrToken;
@@ -132,9 +133,12 @@ fn push_token<L: Language>(
 }
 
 // The line of a node.
-pub(super) fn node_line<L: Language>(alloc: Global, node: &SyntaxNode) -> Result<String, AllocError>
+pub(super) fn node_line<L: Language>(
+    alloc: Global,
+    node: SyntaxNodeRef<'_>,
+) -> Result<String, AllocError>
     ensures { IfOk result (λ s.
-        IsDebugLine (raw_name L.name L.meaning) node.now (string_bytes s)) }
+        IsDebugLine (raw_name L.name L.meaning) (node_place node.entry) (string_bytes s)) }
 {
     let mut line = String::new(alloc);
     let mut room = *b"@4294967295..4294967295";
@@ -145,10 +149,10 @@ pub(super) fn node_line<L: Language>(alloc: Global, node: &SyntaxNode) -> Result
 // The line of a token.
 pub(super) fn token_line<L: Language>(
     alloc: Global,
-    token: &SyntaxToken,
+    token: SyntaxTokenRef<'_>,
 ) -> Result<String, AllocError>
     ensures { IfOk result (λ s.
-        IsDebugLine (raw_name L.name L.meaning) token.now (string_bytes s)) }
+        IsDebugLine (raw_name L.name L.meaning) (token_place token.entry) (string_bytes s)) }
 {
     let mut line = String::new(alloc);
     let green = token.green();

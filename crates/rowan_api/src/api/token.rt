@@ -9,12 +9,13 @@ ghost use Rattle.rowan_cursor.specs.Moves.{prev_sibling_or_token, next_token, pr
 ghost use Rattle.rowan_cursor.specs.Moves.{parent_ancestors, siblings_with_tokens};
 ghost use Rattle.rowan_cursor.specs.Replacement.{IsReplacement, KeepsTheRest, WhyNoReplacement};
 ghost use Rattle.rowan_api.specs.Printed.{raw_name, tree_json, IsDebugLine};
+ghost use Rattle.rowan_api.specs.Refs.{token_place};
 
 use crate::api::typed_elements::TypedElements;
 use crate::api::typed_nodes::TypedNodes;
 use crate::api::{
-    Ancestors, Language, SiblingsWithTokens, SyntaxElement, SyntaxNode, element, json_text,
-    json_value, printed,
+    Ancestors, Language, SiblingsWithTokens, SyntaxElement, SyntaxNode, SyntaxTokenRef, element,
+    json_text, json_value, printed,
 };
 use rowan_cursor::cursor;
 use rowan_green::fault::Fault;
@@ -62,6 +63,13 @@ impl<L> SyntaxToken<L> {
             Some(raw) => Some(SyntaxToken::from(raw)),
             None => None,
         }
+    }
+
+    /// The token, borrowed from its tree: its moves are refused for nothing.
+    pub fn as_ref(&self) -> SyntaxTokenRef<'_, L>
+        ensures { token_place result ≡ self.now }
+    {
+        SyntaxTokenRef::from(self.raw.as_ref())
     }
 
     /// The root of a new tree: of the tree of this cursor, with another green token in place of the
@@ -203,7 +211,7 @@ impl<L: Language> SyntaxToken<L> {
             IsDebugLine (raw_name L.name L.meaning) self.now (string_bytes s)) }
         ensures err { IfErr result (λ e. e ≡ Fault.Memory) }
     {
-        Ok(printed::token_line::<L>(alloc, &self.raw)?)
+        Ok(printed::token_line::<L>(alloc, self.raw.as_ref())?)
     }
 
     /// The token as JSON: a map of `kind`, the name of the kind; `text`; and `text_range`, a list
@@ -212,7 +220,7 @@ impl<L: Language> SyntaxToken<L> {
         ensures ok { IfOk result (λ v. view v ≡ tree_json (raw_name L.name L.meaning) self.now) }
         ensures err { IfErr result (λ e. e ≡ Fault.Memory) }
     {
-        Ok(json_value::token_json::<L>(alloc, &self.raw)?)
+        Ok(json_value::token_json::<L>(alloc, self.raw.as_ref())?)
     }
 
     /// The JSON of the token as text, with no space: the text of the value of `to_json`, which is
@@ -222,7 +230,7 @@ impl<L: Language> SyntaxToken<L> {
             string_bytes s ≡ compact_text (tree_json (raw_name L.name L.meaning) self.now)) }
         ensures err { IfErr result (λ e. e ≡ Fault.Memory) }
     {
-        Ok(json_text::token_text::<L>(alloc, &self.raw)?)
+        Ok(json_text::token_text::<L>(alloc, self.raw.as_ref())?)
     }
 }
 
@@ -300,9 +308,6 @@ impl<L> fmt::Display for SyntaxToken<L> {
 
 impl<L: Language> fmt::Debug for SyntaxToken<L> {
     fn fmt<W: fmt::Write>(&self, f: &mut fmt::Formatter<W>) -> fmt::Result {
-        f.debug_struct("SyntaxToken")
-            .field("kind", &self.kind())
-            .field("text_range", &self.text_range())
-            .finish()
+        fmt::Debug::fmt(&self.as_ref(), f)
     }
 }

@@ -19,13 +19,15 @@ use rowan::{TextRange, TextSize};
 pub use slice::Slice;
 use std::alloc::Global;
 pub use support::Support;
-pub use walk::{Event, Walk};
+pub use walk::{Event, Walk, WalkCall};
 
 /// A step from the tree of a case.
 #[derive(Drop)]
 pub enum Step {
     GreenChildAt(TextRange),
     GreenEdit(Edit),
+    /// Lets borrowed cursors start elsewhere from now on.
+    Astray,
     /// Goes down by these indexes of children, tokens counted.
     ElementAt(Vec<usize>),
     CloneSubtree,
@@ -84,6 +86,7 @@ impl Step {
         Ok(Some(match (name, operands) {
             ("GreenChildAt", _) => Step::GreenChildAt(operand::range(operands)?),
             ("ElementAt", _) => Step::ElementAt(operand::path(alloc, operands)?),
+            ("Astray", "") => Step::Astray,
             ("CloneSubtree", "") => Step::CloneSubtree,
             ("Save", _) => Step::Save(operand::number(operands)?),
             ("Load", _) => Step::Load(operand::number(operands)?),

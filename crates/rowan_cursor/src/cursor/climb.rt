@@ -7,7 +7,7 @@ use std::rc::Rc;
 
 /// The number of the node that comes next, and then its ancestors'.
 #[derive(Clone, Copy)]
-pub(super) struct Climb {
+pub struct Climb {
     next: Option<usize>,
 }
 
@@ -28,6 +28,7 @@ impl Climb {
         requires { HasClimb table.now self.old }
         ensures fits { HasClimb table.now self.new }
         ensures none { IfNone result (climb_nodes table.now self.old ≡ []) }
+        ensures left { IfNone result (climb_nodes table.now self.new ≡ []) }
         ensures some { IfSome result (λ n.
             climb_nodes table.now self.old
             ≡ cursor_of table.now n ∷ climb_nodes table.now self.new) }
@@ -47,6 +48,8 @@ impl Walk<SyntaxNode> for Climb {
     ghost fits = { HasClimb };
 
     ghost items = { climb_nodes };
+
+    const NAME: &'static str = "Ancestors";
 
     fn step(&mut self, table: &Rc<Table>) -> Result<Option<SyntaxNode>, AllocError> {
         match self.next(table) {

@@ -104,73 +104,43 @@ impl ElementCalls for SyntaxElement {
     ghost element = { λ e. e };
 
     fn text_range(&self) -> TextRange {
-        match self {
-            NodeOrToken::Node(node) => node.text_range(),
-            NodeOrToken::Token(token) => token.text_range(),
-        }
+        for_both!(self, it => it.text_range())
     }
 
     fn index(&self) -> usize {
-        match self {
-            NodeOrToken::Node(node) => node.index(),
-            NodeOrToken::Token(token) => token.index(),
-        }
+        for_both!(self, it => it.index())
     }
 
     fn kind(&self) -> SyntaxKind {
-        match self {
-            NodeOrToken::Node(node) => node.kind(),
-            NodeOrToken::Token(token) => token.kind(),
-        }
+        for_both!(self, it => it.kind())
     }
 
     fn parent(&self) -> Result<Option<SyntaxNode>, Fault> {
-        match self {
-            NodeOrToken::Node(node) => node.parent(),
-            NodeOrToken::Token(token) => token.parent(),
-        }
+        for_both!(self, it => it.parent())
     }
 
     fn tree_top(&self) -> Result<SyntaxNode, Fault> {
-        match self {
-            NodeOrToken::Node(node) => node.tree_top(),
-            NodeOrToken::Token(token) => token.tree_top(),
-        }
+        for_both!(self, it => it.tree_top())
     }
 
     fn first_token(&self) -> Result<Option<SyntaxToken>, Fault> {
-        match self {
-            NodeOrToken::Node(node) => node.first_token(),
-            NodeOrToken::Token(token) => Ok(token.own_token()?),
-        }
+        for_both!(self, it => it.first_token())
     }
 
     fn last_token(&self) -> Result<Option<SyntaxToken>, Fault> {
-        match self {
-            NodeOrToken::Node(node) => node.last_token(),
-            NodeOrToken::Token(token) => Ok(token.own_token()?),
-        }
+        for_both!(self, it => it.last_token())
     }
 
     fn next_sibling_or_token(&self) -> Result<Option<SyntaxElement>, Fault> {
-        match self {
-            NodeOrToken::Node(node) => node.next_sibling_or_token(),
-            NodeOrToken::Token(token) => token.next_sibling_or_token(),
-        }
+        for_both!(self, it => it.next_sibling_or_token())
     }
 
     fn prev_sibling_or_token(&self) -> Result<Option<SyntaxElement>, Fault> {
-        match self {
-            NodeOrToken::Node(node) => node.prev_sibling_or_token(),
-            NodeOrToken::Token(token) => token.prev_sibling_or_token(),
-        }
+        for_both!(self, it => it.prev_sibling_or_token())
     }
 
     fn ancestors(&self) -> Ancestors {
-        match self {
-            NodeOrToken::Node(node) => node.ancestors(),
-            NodeOrToken::Token(token) => token.ancestors(),
-        }
+        for_both!(self, it => it.ancestors())
     }
 }
 

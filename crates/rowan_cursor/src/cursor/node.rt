@@ -13,6 +13,7 @@ ghost use Rattle.rowan_cursor.specs.Moves.{child_or_token_at_index, next_sibling
 ghost use Rattle.rowan_cursor.specs.Moves.{next_sibling_or_token, prev_sibling_or_token};
 ghost use Rattle.rowan_cursor.specs.Moves.{first_token, last_token, children, children_with_tokens};
 ghost use Rattle.rowan_cursor.specs.Moves.{siblings, siblings_with_tokens, ancestors};
+ghost use Rattle.rowan_cursor.specs.Refs.{node_place};
 ghost use Rattle.rowan_cursor.specs.Replacement.{IsReplacement, KeepsTheRest, WhyNoReplacement};
 
 mod walks;
@@ -21,7 +22,7 @@ use crate::cursor::climb::Climb;
 use crate::cursor::row::Row;
 use crate::cursor::{
     Ancestors, Siblings, SiblingsWithTokens, SyntaxElement, SyntaxElementChildren,
-    SyntaxNodeChildren, SyntaxToken, element,
+    SyntaxNodeChildren, SyntaxNodeRef, SyntaxToken, element,
 };
 use crate::table::Table;
 use rowan_green::fault::Fault;
@@ -114,6 +115,13 @@ impl SyntaxNode {
         Ok(SyntaxNode { table, number: 0 })
     }
 
+    /// The node, borrowed from its tree: its moves are refused for nothing.
+    pub fn as_ref(&self) -> SyntaxNodeRef<'_>
+        ensures { node_place result ≡ self.now }
+    {
+        SyntaxNodeRef::at(&self.table, self.number)
+    }
+
     /// The root of a new tree, which has the green node of this one. It visits each node and token
     /// below this one once. `Err(Fault::Memory)` for want of memory.
     pub fn clone_subtree(&self) -> Result<SyntaxNode, Fault>
@@ -121,7 +129,7 @@ impl SyntaxNode {
         ensures top { IfOk result (λ n. n.path ≡ []) }
         ensures err { IfErr result (λ e. e ≡ Fault.Memory) }
     {
-        SyntaxNode::new_root(self.table.allocator(), self.green().clone()?)
+        self.as_ref().clone_subtree()
     }
 
     /// The root of a new tree: of the tree of this cursor, with another green node in place of the
@@ -138,10 +146,7 @@ impl SyntaxNode {
         ensures own { StandsAt self.now replacement → IfOk result (λ n. n ≡ self.now.root) }
         ensures err { IfErr result (WhyNoReplacement self.now (Node replacement)) }
     {
-        if replacement.kind() != self.kind() {
-            return Err(Fault::OtherKind);
-        }
-        self.table.replace_node(self.number, replacement)
+        self.as_ref().replace_with(replacement)
     }
 
     /// The kind of the node.
@@ -345,7 +350,7 @@ impl PartialEq for SyntaxNode {
     ghost laws = { partial_equiv_from_equiv same_place-laws };
 
     fn eq(&self, other: &SyntaxNode) -> bool {
-        self.text_range().start() == other.text_range().start() && *self.green() == *other.green()
+        self.as_ref() == other.as_ref()
     }
 }
 
@@ -363,8 +368,7 @@ impl Hash for SyntaxNode {
     ghost respects_eq = { fed_place-same };
 
     fn hash<H: Hasher>(&self, state: &mut H) {
-        u32::from(self.text_range().start()).hash(state);
-        self.green().hash(state);
+        self.as_ref().hash(state);
     }
 }
 
@@ -380,9 +384,6 @@ impl fmt::Display for SyntaxNode {
 
 impl fmt::Debug for SyntaxNode {
     fn fmt<W: fmt::Write>(&self, f: &mut fmt::Formatter<W>) -> fmt::Result {
-        f.debug_struct("SyntaxNode")
-            .field("kind", &self.kind())
-            .field("text_range", &self.text_range())
-            .finish()
+        self.table.show_element(self.number, "SyntaxNode", f)
     }
 }

@@ -11,7 +11,10 @@ use std::mem;
 use std::rc::Rc;
 
 /// A walk over the entries of a table, as one kind of iterator shows it.
-pub(super) trait Walk<T>: Copy {
+pub trait Walk<T>: Copy {
+    /// What the iterator shows itself as.
+    const NAME: &'static str;
+
     ghost fits: { Table → Self → Type 0 };
 
     ghost items: { Table → Self → List T };

@@ -9,7 +9,7 @@ use std::rc::Rc;
 
 /// The entries from a start to an end, or from the end back to the start.
 #[derive(Clone, Copy)]
-pub(super) struct Row {
+pub struct Row {
     start: usize,
     end: usize,
     direction: Direction,
@@ -19,6 +19,7 @@ impl Row {
     ghost use Rattle.std.specs.Prelude.{◌≡◌, ◌<◌, ◌≤◌, [], ◌∷◌, IfNone, IfSome};
     ghost use Rattle.rowan_cursor.specs.Moves.{children, children_with_tokens, siblings};
     ghost use Rattle.rowan_cursor.specs.Moves.{siblings_with_tokens};
+    ghost use Rattle.rowan_cursor.specs.Kinds.{nodes_behind};
     ghost use Rattle.rowan_cursor.specs.TableView.{cursor_of, IsWithin, IsNodeIn};
     ghost use Rattle.rowan_cursor.specs.Walks.{row_elements, row_nodes, row_numbers, node_numbers};
     ghost use Rattle.rowan_cursor.specs.Walks.{numbers_between, HasRow};
@@ -46,6 +47,16 @@ impl Row {
         Row::new(table.child_numbers(number), Direction::Next)
     }
 
+    /// The siblings behind an element.
+    pub(super) fn following(table: &Table, number: usize) -> Row
+        requires { IsWithin table.now number }
+        ensures fits { HasRow table.now result }
+        ensures nodes { row_nodes table.now result
+            ≡ nodes_behind (cursor_of table.now number) }
+    {
+        Row::new(table.following_numbers(number), Direction::Next)
+    }
+
     /// An element and its siblings in one direction.
     pub(super) fn siblings(table: &Table, number: usize, direction: Direction) -> Row
         requires { IsWithin table.now number }
@@ -66,6 +77,7 @@ impl Row {
     /// The number of the next entry.
     pub(super) fn next(&mut self) -> Option<usize>
         ensures none { IfNone result (row_numbers self.old ≡ []) }
+        ensures left { IfNone result (row_numbers self.new ≡ []) }
         ensures some { IfSome result (λ n. row_numbers self.old ≡ n ∷ row_numbers self.new) }
         ensures within { IfSome result (λ n. n < self.old.end) }
         ensures end { self.new.end ≤ self.old.end }
@@ -91,6 +103,7 @@ impl Row {
         requires { HasRow table.now self.old }
         ensures fits { HasRow table.now self.new }
         ensures none { IfNone result (node_numbers table.now self.old ≡ []) }
+        ensures left { IfNone result (node_numbers table.now self.new ≡ []) }
         ensures some { IfSome result (λ n.
             node_numbers table.now self.old ≡ n ∷ node_numbers table.now self.new) }
         ensures node { IfSome result (IsNodeIn table.now) }
@@ -111,6 +124,8 @@ impl Walk<SyntaxElement> for Row {
 
     ghost items = { row_elements };
 
+    const NAME: &'static str = "SyntaxElementChildren";
+
     fn step(&mut self, table: &Rc<Table>) -> Result<Option<SyntaxElement>, AllocError> {
         match self.next() {
             Some(number) => Ok(Some(element::at(table, number)?)),
@@ -125,6 +140,8 @@ impl Walk<SyntaxNode> for Row {
     ghost fits = { HasRow };
 
     ghost items = { row_nodes };
+
+    const NAME: &'static str = "SyntaxNodeChildren";
 
     fn step(&mut self, table: &Rc<Table>) -> Result<Option<SyntaxNode>, AllocError> {
         match self.next_node(table) {

@@ -8,11 +8,14 @@ ghost use Rattle.rowan_cursor.specs.Moves.{tree_top, parent, next_sibling_or_tok
 ghost use Rattle.rowan_cursor.specs.Moves.{prev_sibling_or_token, first_token, last_token};
 ghost use Rattle.rowan_cursor.specs.Moves.{next_token, prev_token, siblings_with_tokens};
 ghost use Rattle.rowan_cursor.specs.Moves.{parent_ancestors};
+ghost use Rattle.rowan_cursor.specs.Refs.{token_place};
 ghost use Rattle.rowan_cursor.specs.Replacement.{IsReplacement, KeepsTheRest, WhyNoReplacement};
 
 use crate::cursor::climb::Climb;
 use crate::cursor::row::Row;
-use crate::cursor::{Ancestors, SiblingsWithTokens, SyntaxElement, SyntaxNode, element};
+use crate::cursor::{
+    Ancestors, SiblingsWithTokens, SyntaxElement, SyntaxNode, SyntaxTokenRef, element,
+};
 use crate::table::Table;
 use rowan_green::fault::Fault;
 use rowan_green::green::{GreenNode, GreenToken, SyntaxKind};
@@ -78,6 +81,13 @@ impl SyntaxToken {
         }
     }
 
+    /// The token, borrowed from its tree: its moves are refused for nothing.
+    pub fn as_ref(&self) -> SyntaxTokenRef<'_>
+        ensures { token_place result ≡ self.now }
+    {
+        SyntaxTokenRef::at(&self.table, self.number)
+    }
+
     /// The root of a new tree: of the tree of this cursor, with another green token in place of the
     /// one at this cursor. For each ancestor one new node is made, and all other children are
     /// shared. Nothing is changed in place: this tree and all its cursors answer as before.
@@ -91,10 +101,7 @@ impl SyntaxToken {
         ensures own { StandsAtToken self.now replacement → IfOk result (λ n. n ≡ self.now.root) }
         ensures err { IfErr result (WhyNoReplacement self.now (Token replacement)) }
     {
-        if replacement.kind() != self.kind() {
-            return Err(Fault::OtherKind);
-        }
-        self.table.replace_token(self.number, replacement)
+        self.as_ref().replace_with(replacement)
     }
 
     /// The kind of the token.
@@ -180,13 +187,20 @@ impl SyntaxToken {
         Ok(SyntaxToken::option_at(&self.table, self.table.prev_token(self.number))?)
     }
 
-    // The token itself, which is the first and the last of its tokens.
-    pub(super) fn own_token(&self) -> Result<Option<SyntaxToken>, AllocError>
-        ensures first { IfOk result (λ found. found ≡ first_token self.now) }
-        ensures last { IfOk result (λ found. found ≡ last_token self.now) }
+    // The token itself.
+    pub(super) fn first_token(&self) -> Result<Option<SyntaxToken>, Fault>
+        ensures ok { IfOk result (λ found. found ≡ first_token self.now) }
+        ensures err { IfErr result (λ e. e ≡ Fault.Memory) }
     {
-        let token = SyntaxToken::at(&self.table, self.number)?;
-        Ok(Some(token))
+        Ok(SyntaxToken::option_at(&self.table, self.table.first_token(self.number))?)
+    }
+
+    // The token itself.
+    pub(super) fn last_token(&self) -> Result<Option<SyntaxToken>, Fault>
+        ensures ok { IfOk result (λ found. found ≡ last_token self.now) }
+        ensures err { IfErr result (λ e. e ≡ Fault.Memory) }
+    {
+        Ok(SyntaxToken::option_at(&self.table, self.table.last_token(self.number))?)
     }
 
     /// The nodes above the token: its parent, and so on up to the root.
@@ -230,7 +244,7 @@ impl PartialEq for SyntaxToken {
     ghost laws = { partial_equiv_from_equiv same_place-laws };
 
     fn eq(&self, other: &SyntaxToken) -> bool {
-        self.text_range().start() == other.text_range().start() && *self.green() == *other.green()
+        self.as_ref() == other.as_ref()
     }
 }
 
@@ -248,8 +262,7 @@ impl Hash for SyntaxToken {
     ghost respects_eq = { fed_place-same };
 
     fn hash<H: Hasher>(&self, state: &mut H) {
-        u32::from(self.text_range().start()).hash(state);
-        self.green().hash(state);
+        self.as_ref().hash(state);
     }
 }
 
@@ -265,9 +278,6 @@ impl fmt::Display for SyntaxToken {
 
 impl fmt::Debug for SyntaxToken {
     fn fmt<W: fmt::Write>(&self, f: &mut fmt::Formatter<W>) -> fmt::Result {
-        f.debug_struct("SyntaxToken")
-            .field("kind", &self.kind())
-            .field("text_range", &self.text_range())
-            .finish()
+        self.table.show_element(self.number, "SyntaxToken", f)
     }
 }

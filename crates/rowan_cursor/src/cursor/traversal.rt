@@ -14,7 +14,7 @@ use std::rc::Rc;
 /// The node from which the walk started, and the event that comes next, each by the number of its
 /// entry. `None` is behind the last event.
 #[derive(Clone, Copy)]
-pub(super) struct Traversal {
+pub struct Traversal {
     start: usize,
     next: Option<WalkEvent<usize>>,
 }
@@ -58,6 +58,7 @@ impl Traversal {
         requires { HasTraversal table.now self.old }
         ensures fits { HasTraversal table.now self.new }
         ensures none { IfNone result (remaining_path_events table.now self.old ≡ []) }
+        ensures left { IfNone result (remaining_path_events table.now self.new ≡ []) }
         ensures some { IfSome result (λ e. remaining_path_events table.now self.old
             ≡ event_of table.now e ∷ remaining_path_events table.now self.new) }
         ensures within { IfSome result (λ e. IsWithin table.now (event_value e)) }
@@ -77,6 +78,7 @@ impl Traversal {
         requires { HasTraversal table.now self.old }
         ensures fits { HasTraversal table.now self.new }
         ensures none { IfNone result (remaining_node_path_events table.now self.old ≡ []) }
+        ensures left { IfNone result (remaining_node_path_events table.now self.new ≡ []) }
         ensures some { IfSome result (λ e. remaining_node_path_events table.now self.old
             ≡ event_of table.now e ∷ remaining_node_path_events table.now self.new) }
         ensures node { IfSome result (λ e. IsNodeIn table.now (event_value e)) }
@@ -102,6 +104,7 @@ impl Traversal {
         requires { HasTraversal table.now self.old }
         ensures fits { HasTraversal table.now self.new }
         ensures none { IfNone result (paths_entered table.now self.old ≡ []) }
+        ensures left { IfNone result (paths_entered table.now self.new ≡ []) }
         ensures some { IfSome result (λ n. paths_entered table.now self.old
             ≡ path_at table.now n ∷ paths_entered table.now self.new) }
         ensures within { IfSome result (IsWithin table.now) }
@@ -119,6 +122,7 @@ impl Traversal {
         requires { HasTraversal table.now self.old }
         ensures fits { HasTraversal table.now self.new }
         ensures none { IfNone result (node_paths_entered table.now self.old ≡ []) }
+        ensures left { IfNone result (node_paths_entered table.now self.new ≡ []) }
         ensures some { IfSome result (λ n. node_paths_entered table.now self.old
             ≡ path_at table.now n ∷ node_paths_entered table.now self.new) }
         ensures node { IfSome result (IsNodeIn table.now) }
@@ -166,6 +170,8 @@ impl Walk<WalkEvent<SyntaxElement>> for Traversal {
 
     ghost items = { traversal_events };
 
+    const NAME: &'static str = "PreorderWithTokens";
+
     fn step(&mut self, table: &Rc<Table>) -> Result<Option<WalkEvent<SyntaxElement>>, AllocError> {
         match self.next_event(table) {
             Some(event) => Ok(Some(element_event(table, event)?)),
@@ -180,6 +186,8 @@ impl Walk<WalkEvent<SyntaxNode>> for Traversal {
     ghost fits = { HasNodeTraversal };
 
     ghost items = { traversal_node_events };
+
+    const NAME: &'static str = "Preorder";
 
     fn step(&mut self, table: &Rc<Table>) -> Result<Option<WalkEvent<SyntaxNode>>, AllocError> {
         match self.next_node_event(table) {
@@ -196,6 +204,8 @@ impl Walk<SyntaxElement> for Traversal {
 
     ghost items = { traversal_elements };
 
+    const NAME: &'static str = "DescendantsWithTokens";
+
     fn step(&mut self, table: &Rc<Table>) -> Result<Option<SyntaxElement>, AllocError> {
         match self.enter(table) {
             Some(number) => Ok(Some(element::at(table, number)?)),
@@ -210,6 +220,8 @@ impl Walk<SyntaxNode> for Traversal {
     ghost fits = { HasTraversal };
 
     ghost items = { traversal_nodes };
+
+    const NAME: &'static str = "Descendants";
 
     fn step(&mut self, table: &Rc<Table>) -> Result<Option<SyntaxNode>, AllocError> {
         match self.enter_node(table) {

@@ -1,14 +1,14 @@
 //! A walk over the chunks of a slice of text: the texts of the tokens in a node, cut at a range. It
 //! takes no memory.
-ghost use Rattle.std.specs.Prelude.{◌≡◌, ◌∷◌, [], true, false, IfSome, MatchOption};
+ghost use Rattle.std.specs.Prelude.{◌≡◌, ◌≤◌, ◌∷◌, [], true, false, IfSome, IfNone, MatchOption};
 ghost use Rattle.rowan_cursor.specs.Chunks.{remaining_leaves, IsTokenInside, MayCut, IsWalk};
-ghost use Rattle.rowan_cursor.specs.Chunks.{remaining_chunks};
+ghost use Rattle.rowan_cursor.specs.Chunks.{remaining_chunks, span_of};
 ghost use Rattle.rowan_cursor.specs.SyntaxText.{meets, common_part};
 ghost use Rattle.rowan_cursor.specs.TableView.{path_at};
 
 use super::Table;
 use super::slice::Slice;
-use rowan_green::text::{TextRange, TextSize};
+use rowan_green::text::TextSize;
 use std::cmp;
 
 /// A walk over the chunks of a slice, and how far it has come: to a token, or to the end, and to
@@ -18,22 +18,23 @@ use std::cmp;
 pub(crate) struct ChunkWalk {
     pub(super) slice: Slice,
     pub(super) next: Option<usize>,
-    pub(super) at: TextSize,
+    pub(super) at: u32,
 }
 
-// What a text, which starts at an offset, has in common with a range, if they meet.
-fn part_in(text: &str, at: TextSize, range: TextRange) -> Option<&str>
-    requires start { MayCut text.now at range.start }
-    requires end { MayCut text.now at range.end }
-    ensures { MatchOption result (meets range at text.now ≡ false)
+// What a text, which starts at an offset, has in common with a slice, if they meet.
+fn part_in(text: &str, at: u32, slice: Slice) -> Option<&str>
+    requires order { slice.start ≤ slice.end }
+    requires start { MayCut text.now at slice.start }
+    requires end { MayCut text.now at slice.end }
+    ensures { let range = span_of slice in MatchOption result (meets range at text.now ≡ false)
         (λ part. (meets range at text.now ≡ true) × (part.now ≡ common_part range at text.now)) }
 {
-    let at = u32::from(at) as usize;
-    let end = u32::from(range.end()) as usize;
+    let at = at as usize;
+    let end = slice.end as usize;
     if end < at {
         return None;
     }
-    let from = (u32::from(range.start()) as usize).saturating_sub(at);
+    let from = (slice.start as usize).saturating_sub(at);
     if text.len() < from {
         return None;
     }
@@ -62,16 +63,19 @@ impl Table {
         ensures next { MatchOption result (remaining_chunks self.now walk.old ≡ [])
             (λ chunk. remaining_chunks self.now walk.old
             ≡ chunk.now ∷ remaining_chunks self.now walk.new) }
+        ensures left { IfNone result (remaining_chunks self.now walk.new ≡ []) }
     {
         while let Some(number) = walk.next {
             let at = walk.at;
-            if walk.slice.range.end() < at {
+            let end = walk.slice.end;
+            if end < at {
                 return None;
             }
             let text = self.token(number).text();
-            walk.at = TextRange::at(at, TextSize::of(text)).end();
+            let len = u32::from(TextSize::of(text));
+            walk.at = at + len;
             walk.next = self.next_inside(number, walk.slice.node);
-            if let Some(chunk) = part_in(text, at, walk.slice.range) {
+            if let Some(chunk) = part_in(text, at, walk.slice) {
                 return Some(chunk);
             }
         }

@@ -2,7 +2,7 @@
 
 use crate::operand;
 use anyhow::Result;
-use rowan::syntax_text::SyntaxTextRange;
+use rowan::syntax_text::{SyntaxTextRange, SyntaxTextRef};
 use rowan::{Fault, SyntaxText, TextRange, TextSize};
 
 /// A slice of a text. Offsets count from the start of the text.
@@ -42,6 +42,17 @@ impl Slice {
             Slice::Full => cut(text, ..),
         }
     }
+
+    /// The slice of a borrowed text. `None` as of an owned one.
+    pub fn of_ref<'t>(self, text: &SyntaxTextRef<'t>) -> Option<SyntaxTextRef<'t>> {
+        match self {
+            Slice::Range(start, end) => cut_ref(text, start..end),
+            Slice::TextRange(range) => cut_ref(text, range),
+            Slice::From(start) => cut_ref(text, start..),
+            Slice::To(end) => cut_ref(text, ..end),
+            Slice::Full => cut_ref(text, ..),
+        }
+    }
 }
 
 fn cut<R: SyntaxTextRange>(text: &SyntaxText, range: R) -> Result<Option<SyntaxText>, Fault>
@@ -54,4 +65,17 @@ where
         return Ok(Some(text.slice(range)?));
     }
     Ok(None)
+}
+
+fn cut_ref<'t, R: SyntaxTextRange>(text: &SyntaxTextRef<'t>, range: R) -> Option<SyntaxTextRef<'t>>
+where
+    R: Drop,
+{
+    let start = range.start().unwrap_or(TextSize::from(0));
+    let end = range.end().unwrap_or(text.len());
+    if start <= end && text.is_border(start) && text.is_border(end) {
+        Some(text.slice(range))
+    } else {
+        None
+    }
 }

@@ -8,7 +8,7 @@ ghost use Rattle.rowan_cursor.specs.Cursor.{text_at, text_range};
 ghost use Rattle.rowan_cursor.specs.Moves.{child_count};
 ghost use Rattle.rowan_cursor.specs.Search.{LiesIn, FindsChild, IsCovering, tokens_at};
 
-use crate::cursor::{SyntaxElement, SyntaxNode, SyntaxToken, element};
+use crate::cursor::{ElementRefCalls, SyntaxElement, SyntaxNode, SyntaxToken};
 use rowan_green::fault::Fault;
 use rowan_green::steps::Steps;
 use rowan_green::text::{TextRange, TextSize};
@@ -47,8 +47,10 @@ impl SyntaxNode {
         ensures grows { steps.old.comparisons ≤ steps.new.comparisons }
         ensures visits { steps.new.visits ≡ steps.old.visits }
     {
-        let child = self.table.child_at_range(self.number, range, steps);
-        Ok(element::option_at(&self.table, child)?)
+        match self.as_ref().child_or_token_at_range_counted(range, steps) {
+            Some(child) => Ok(Some(child.into_owned()?)),
+            None => Ok(None),
+        }
     }
 
     /// The element that covers a range of the root's text, in bytes: from this node on, the search
@@ -60,8 +62,7 @@ impl SyntaxNode {
         ensures ok { IfOk result (IsCovering range self.now) }
         ensures err { IfErr result (λ e. e ≡ Fault.Memory) }
     {
-        let covering = self.table.covering_element(self.number, range);
-        Ok(element::at(&self.table, covering)?)
+        self.as_ref().covering_element(range).into_owned()
     }
 
     /// The tokens of this node that touch an offset of the root's text, in bytes: those with bytes
@@ -76,15 +77,12 @@ impl SyntaxNode {
             (λ tokens. (tokens ≡ TokenAtOffset.None) ↔ (text_at self.now ≡ [])) }
         ensures err { IfErr result (λ e. e ≡ Fault.Memory) }
     {
-        match self.table.token_at_offset(self.number, offset) {
+        match self.as_ref().token_at_offset(offset) {
             TokenAtOffset::None => Ok(TokenAtOffset::None),
-            TokenAtOffset::Single(token) => {
-                let token = SyntaxToken::at(&self.table, token)?;
-                Ok(TokenAtOffset::Single(token))
-            }
+            TokenAtOffset::Single(token) => Ok(TokenAtOffset::Single(token.to_owned()?)),
             TokenAtOffset::Between(left, right) => {
-                let left = SyntaxToken::at(&self.table, left)?;
-                let right = SyntaxToken::at(&self.table, right)?;
+                let left = left.to_owned()?;
+                let right = right.to_owned()?;
                 Ok(TokenAtOffset::Between(left, right))
             }
         }

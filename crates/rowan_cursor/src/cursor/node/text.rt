@@ -3,7 +3,7 @@ ghost use Rattle.std.specs.Prelude.{◌≡◌, IfOk, IfErr};
 ghost use Rattle.rowan_cursor.specs.SyntaxText.{whole_text};
 
 use super::SyntaxNode;
-use crate::syntax_text::SyntaxText;
+use crate::syntax_text::{SyntaxText, SyntaxTextRef};
 use rowan_green::fault::Fault;
 
 impl SyntaxNode {
@@ -12,6 +12,6 @@ impl SyntaxNode {
         ensures ok { IfOk result (λ text. text ≡ whole_text self.now) }
         ensures err { IfErr result (λ e. e ≡ Fault.Memory) }
     {
-        Ok(SyntaxText::new(&self.table, self.number)?)
+        SyntaxTextRef::whole(&self.table, self.number).to_owned()
     }
 }

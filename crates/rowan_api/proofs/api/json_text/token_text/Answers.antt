@@ -1,4 +1,5 @@
 use Rattle.std.proofs.Common.{◌++◌, ◌∙◌, ap}
+use Rattle.rowan_cursor.specs.Refs.{token_place}
 use Rattle.rowan_api.specs.Printed.{raw_name, token_object, tree_json}
 use Rattle.rowan_api.specs.Spelled.{value_tokens}
 use Rattle.rowan_api.proofs.SpelledLemmas.{print-value, token-there}
@@ -7,7 +8,7 @@ use Rattle.rowan_api.proofs.api.json_text.token_text.Goals as goal
 pub returns : goal.returns
 returns g c =
     let name = raw_name g.L.Language.name g.L.Language.meaning in
-    let cursor = c.args.token.now in
+    let cursor = token_place c.args.token in
     let token = c.green.result.now in
     let tokens = value_tokens (token_object (name token.kind) c.text_range.result token.text) in
     c.text_of.ensures

@@ -1,6 +1,8 @@
 use Rattle.std.proofs.Common.{arith, ◌∙◌}
 use Rattle.serde_json.specs.Data.{null}
 use Rattle.serde_json.specs.View.{view}
+use Rattle.rowan_cursor.specs.Refs.{node_place}
+use Rattle.rowan_cursor.specs.RefWalks.{rest_of_events}
 use Rattle.rowan_api.specs.Printed.{raw_name}
 use Rattle.rowan_api.specs.Unfinished.{values_of}
 use Rattle.rowan_api.proofs.JsonLemmas.{makes-first, makes-all, empty-length, last-mapped}
@@ -11,10 +13,10 @@ loop-event-init g c =
     let name = raw_name g.L.Language.name g.L.Language.meaning in (
       tt,
       tt,
-      makes-first name c.args.node.now c.into_iter-event-iterator.result
+      makes-first name (node_place c.args.node) (rest_of_events c.into_iter-event-iterator.result)
           (values_of c.new-draft.result) c.new-draft.ensures.inner c.new-draft.ensures.outer
           (rw c.into_iter-event-iterator.ensures.into_iter_gives
-          c.preorder_with_tokens-event-items.ensures.ok),
+          c.preorder_with_tokens-event-items.ensures),
     )
 
 pub returns : goal.returns
@@ -26,5 +28,5 @@ returns g c =
     (λ none. let gone = rw none at c.pop.ensures.cases in empty-length draft.inner.items
     (omega (arith, gone.0, draft.inner.ok.0)))
     c.unwrap_or_default.ensures
-    ∙ makes-all name c.args.node.now c.loop-event.event-iterator c.next.new.self
-    (values_of draft) c.loop-event.invariant.2 c.in-None.ensures.steps
+    ∙ makes-all name (node_place c.args.node) (rest_of_events c.loop-event.event-iterator)
+    (values_of draft) c.loop-event.invariant.2 c.in-None.ensures.steps.0

@@ -1,6 +1,7 @@
 use Rattle.std.proofs.Common.{◌++◌, string_bytes, sym, ◌∙◌, ap, subst}
 use Rattle.rowan_green.specs.declared.utility_types.NodeOrToken.TheVariants.{Node}
 use Rattle.rowan_green.specs.Path.{offset}
+use Rattle.rowan_cursor.specs.Refs.{token_place}
 use Rattle.rowan_api.specs.Printed.{raw_name, IsPrinted, IsTermLine, IsTokenLine}
 use Rattle.rowan_api.proofs.QuoteLemmas.{token-added, range-token}
 use Rattle.rowan_api.proofs.api.printed.token_line.Goals as goal
@@ -8,7 +9,7 @@ use Rattle.rowan_api.proofs.api.printed.token_line.Goals as goal
 pub returns : goal.returns
 returns g c =
     let name = raw_name g.L.Language.name g.L.Language.meaning in
-    let cursor = c.args.token.now in
+    let cursor = token_place c.args.token in
     let token = c.green-green.result.now in
     let at = offset (Node cursor.root) cursor.path in
     let added =

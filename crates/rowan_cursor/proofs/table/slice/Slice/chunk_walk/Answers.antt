@@ -1,4 +1,4 @@
-use Rattle.std.proofs.Common.{subst}
+use Rattle.std.proofs.Common.{◌∙◌, subst}
 use Rattle.rowan_cursor.specs.declared.table.chunks.ChunkWalk.{ChunkWalk}
 use Rattle.rowan_cursor.specs.Chunks.{SkipsTo}
 use Rattle.rowan_cursor.proofs.SkipLemmas.{walk_from, chunks_from}
@@ -13,11 +13,11 @@ returns-clause-walk c =
     let slice = c.args.self.now in
     let first = c.skip_to-first.result in
     let walk : ChunkWalk =
-    record { slice = slice; next = c.token_from.result; at = c.start-2.result } in
+    record { slice = slice; next = c.token_from.result; at = c.from-at.result } in
     let skips =
-    subst (λ x. SkipsTo table x slice.node first) c.start.ensures.offset c.skip_to-first.ensures in
+    subst (λ x. SkipsTo table x slice.node first) c.from.ensures c.skip_to-first.ensures in
     walk_from table walk first skips c.requires.slice c.token_from.ensures.inside
-    c.token_from.ensures.left c.start-2.ensures
+    c.token_from.ensures.left (c.from-at.ensures ∙ c.start.ensures)
 
 pub returns-clause-chunks : goal.returns-clause-chunks
 returns-clause-chunks c =
@@ -25,6 +25,6 @@ returns-clause-chunks c =
     let slice = c.args.self.now in
     let first = c.skip_to-first.result in
     let skips =
-    subst (λ x. SkipsTo table x slice.node first) c.start.ensures.offset c.skip_to-first.ensures in
-    chunks_from table slice first c.token_from.result c.start-2.result skips
-    c.token_from.ensures.left c.start-2.ensures
+    subst (λ x. SkipsTo table x slice.node first) c.from.ensures c.skip_to-first.ensures in
+    chunks_from table slice first c.token_from.result c.from-at.result skips
+    c.token_from.ensures.left (c.from-at.ensures ∙ c.start.ensures)

@@ -1,46 +1,51 @@
-use Rattle.std.proofs.Common.{◌≡◌, ℕ, ◌+◌, sym, ◌∙◌, ap, subst, arith}
-use Rattle.rowan_green.specs.Span.{Span}
+use Rattle.std.proofs.Common.{◌≡◌, ◌∙◌, ap, sym, subst, arith}
 use Rattle.rowan_cursor.specs.Chunks.{slice_of}
-use Rattle.rowan_cursor.specs.SyntaxText.{IsTextSlice}
+use Rattle.rowan_cursor.specs.SyntaxText.{IsTextSlice, part_of}
 use Rattle.rowan_cursor.proofs.PartLemmas.{slice_ends}
 use Rattle.rowan_cursor.proofs.SliceLemmas.{part_is_slice}
 use Rattle.rowan_cursor.proofs.TokenLemmas.{stands_at}
 use Rattle.rowan_cursor.proofs.table.slice.Slice.part.Goals as goal
 use Rattle.rowan_cursor.specs.TableView.{entries_of}
 
-pub at-requires : goal.at-requires
-at-requires c =
-    let end = slice_ends c.args.table.now c.args.self.now c.requires.slice in
+pub overflow_add-result : goal.overflow_add-result
+overflow_add-result c =
     omega (
       arith,
-      c.start.ensures,
+      c.from-first.ensures,
       c.requires.part.order,
       c.requires.part.within,
       c.requires.slice.slice.order,
-      end,
+      slice_ends c.args.table.now c.args.self.now c.requires.slice,
     )
 
-pub at-requires-2 : goal.at-requires-2
-at-requires-2 c =
-    let end = slice_ends c.args.table.now c.args.self.now c.requires.slice in
-    omega (arith, c.start-2.ensures, c.requires.part.within, c.requires.slice.slice.order, end)
+pub overflow_add-result-2 : goal.overflow_add-result-2
+overflow_add-result-2 c =
+    omega (
+      arith,
+      c.from-last.ensures,
+      c.requires.part.within,
+      c.requires.slice.slice.order,
+      slice_ends c.args.table.now c.args.self.now c.requires.slice,
+    )
+
+pub returns-clause-part : goal.returns-clause-part
+returns-clause-part c =
+    let slice = slice_of c.args.table.now c.args.self.now in
+    ap (λ a. part_of slice a c.from-last.result) c.from-first.ensures
+    ∙ ap (part_of slice c.args.start) c.from-last.ensures
 
 pub returns-clause-slice : goal.returns-clause-slice
 returns-clause-slice c =
     let table = c.args.table.now in
-    let there = stands_at (entries_of table) table.complete c.args.self.now.node
+    let slice = c.args.self.now in
+    let there = stands_at (entries_of table) table.complete slice.node
     c.requires.slice.node.within in
-    let span : ℕ → ℕ → Span = λ a b. record { start = a; end = b } in
-    let first : c.end-first.result ≡ c.args.self.now.range.start + c.args.start =
-    omega (arith, c.end-first.ensures, ap (λ r. r.end) c.at.ensures, c.start.ensures) in
-    let last : c.end-last.result ≡ c.args.self.now.range.start + c.args.end =
-    omega (arith, c.end-last.ensures, ap (λ r. r.end) c.at-2.ensures, c.start-2.ensures) in
-    let part = c.new.ensures ∙ ap (λ a. span a c.end-last.result) first
-    ∙ ap (span (c.args.self.now.range.start + c.args.start)) last in
+    let part = part_is_slice (slice_of table slice) there.0 c.args.start c.args.end there.1
+    c.requires.slice.slice c.requires.part in
+    let first : c.args.start ≡ c.from-first.result = sym c.from-first.ensures in
+    let last : c.args.end ≡ c.from-last.result = sym c.from-last.ensures in
     record {
       node = c.requires.slice.node;
-      slice = subst (λ r. IsTextSlice (slice_of table
-          (record { node = c.args.self.now.node; range = r }))) (sym part)
-          (part_is_slice (slice_of table c.args.self.now) there.0 c.args.start c.args.end there.1
-          c.requires.slice.slice c.requires.part);
+      slice = subst (λ b. IsTextSlice (part_of (slice_of table slice) c.from-first.result b)) last
+          (subst (λ a. IsTextSlice (part_of (slice_of table slice) a c.args.end)) first part);
     }

@@ -1,0 +1,51 @@
+//! Equality of elements, and what of them is hashed and shown.
+ghost use Rattle.std.specs.Prelude.{◌≡◌};
+ghost use Rattle.std.specs.List.{fold};
+ghost use Rattle.rowan_cursor.specs.Equal.{same_place, fed_place};
+ghost use Rattle.rowan_cursor.specs.TableView.{cursor_of, IsWithin};
+
+use super::Table;
+use rowan_green::utility_types::NodeOrToken;
+use std::fmt;
+use std::hash::{Hash, Hasher};
+
+impl Table {
+    /// Whether an element has an equal green value as one of a tree, and their texts start at the
+    /// same offset.
+    pub(crate) fn has_equal(&self, number: usize, other: &Table, other_number: usize) -> bool
+        requires number { IsWithin self.now number }
+        requires other_number { IsWithin other.now other_number }
+        ensures { result
+            ≡ same_place (cursor_of self.now number) (cursor_of other.now other_number) }
+    {
+        self.start(number) == other.start(other_number)
+            && self.element(number) == other.element(other_number)
+    }
+
+    /// Feeds a hasher where the text of an element starts, and its green value.
+    pub(crate) fn hash_element<H: Hasher>(&self, number: usize, state: &mut H)
+        requires { IsWithin self.now number }
+        ensures { state.new ≡ fold H.write state.old (fed_place (cursor_of self.now number)) }
+    {
+        u32::from(self.start(number)).hash(state);
+        match self.element(number) {
+            NodeOrToken::Node(node) => node.hash(state),
+            NodeOrToken::Token(token) => token.hash(state),
+        }
+    }
+
+    /// Writes the kind of an element and the range of its text, under the name of a type.
+    pub(crate) fn show_element<W: fmt::Write>(
+        &self,
+        number: usize,
+        name: &str,
+        f: &mut fmt::Formatter<W>,
+    ) -> fmt::Result
+        requires { IsWithin self.now number }
+    {
+        f.debug_struct(name)
+            .field("kind", &self.element(number).kind())
+            .field("text_range", &self.text_range(number))
+            .finish()
+    }
+}
