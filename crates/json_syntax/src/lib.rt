@@ -11,6 +11,7 @@ ghost use Rattle.rowan.specs.Term.{node_text};
 ghost use Rattle.rowan_parser.specs.Building.{WhyNoTree};
 
 pub use kinds::{Json, Kind};
+pub use lexer::next_token;
 use rowan::{Fault, Language};
 use rowan_parser::{Parse, Parser, Trivia};
 use std::alloc::Global;

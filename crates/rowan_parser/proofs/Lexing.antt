@@ -8,7 +8,8 @@ use Rattle.rowan_parser.specs.Tokens.{tokens_text, IsSaid, AreSaid}
 said_cut : (len cut all : ℕ) → len ≤ all → (len ≤ all → len ≤ cut) → (len < cut → ⊥) → cut ≡ len
 said_cut len cut all h bound less = omega (arith, bound h, less)
 
-pub token_said : {X : Type 0} (says : X → List ℕ → SyntaxKind × ℕ → X → Type 0) (lexer later : X) (rest : List ℕ) (r : SyntaxKind × ℕ) (asked cut : ℕ) (token : Token)
+pub token_said : {X : Type 0} (says : X → List ℕ → SyntaxKind × ℕ → X → Type 0) (lexer later : X)
+    (rest : List ℕ) (r : SyntaxKind × ℕ) (asked cut : ℕ) (token : Token)
     → says lexer rest r later
     → token.kind ≡ r.0
     → asked ≡ max r.1 1
@@ -21,22 +22,33 @@ token_said says lexer later rest r asked cut token said same e bound nearest fit
   said = subst (λ k. says lexer rest (k, r.1) later) (sym same) said;
   cut = λ some border.
       let same : asked ≡ r.1 = omega arith in
-      fits ∙ said_cut r.1 cut (length rest) border.0 (λ h. subst (λ n. n ≤ cut) same (bound (subst (λ n. n ≤ length rest) (sym same) h))) (λ less. nearest r.1 (omega arith) less border);
+      fits ∙ said_cut r.1 cut (length rest) border.0 (λ h. subst (λ n. n ≤ cut) same
+      (bound (subst (λ n. n ≤ length rest) (sym same) h)))
+      (λ less. nearest r.1 (omega arith) less border);
 }
 
 -- the tokens with one more, before those of what is then left
-pub said_more : {X : Type 0} (says : X → List ℕ → SyntaxKind × ℕ → X → Type 0) (first lexer later : X) (rest back : List ℕ) (token : Token) (tokens more others : List Token)
+pub said_more : {X : Type 0} (says : X → List ℕ → SyntaxKind × ℕ → X → Type 0)
+    (first lexer later : X) (rest back : List ℕ) (token : Token) (tokens more others : List Token)
     → IsSaid says lexer rest token later
     → token.text.now ++ back ≡ rest
     → more ≡ tokens ++ token ∷ []
-    → ((us : List Token) → tokens_text us ≡ rest → AreSaid says lexer us → AreSaid says first (tokens ++ us))
+    → ((us : List Token) → tokens_text us ≡ rest → AreSaid says lexer us → AreSaid says first
+    (tokens ++ us))
     → tokens_text others ≡ back
     → AreSaid says later others
     → AreSaid says first (more ++ others)
-said_more says first lexer later rest back token tokens more others said whole pushed before e others_said =
+said_more says first lexer later rest back token tokens more others said whole pushed before e
+    others_said =
     let joined : tokens_text (token ∷ others) ≡ rest = ap (λ bs. token.text.now ++ bs) e ∙ whole in
-    let all = before (token ∷ others) joined (later, subst (λ bs. IsSaid says lexer bs token later) (sym joined) said, others_said) in
-    subst (AreSaid says first) (sym (append_assoc tokens (token ∷ []) others) ∙ ap (λ ts. ts ++ others) (sym pushed)) all
+    let all = before (token ∷ others) joined (
+      later,
+      subst (λ bs. IsSaid says lexer bs token later)
+          (sym joined) said,
+      others_said,
+    ) in
+    subst (AreSaid says first) (sym (append_assoc tokens (token ∷ []) others) ∙ ap
+    (λ ts. ts ++ others) (sym pushed)) all
 
 -- a text of no bytes
 pub no_bytes : (bs : List ℕ) → length bs ≡ 0 → [] ≡ bs

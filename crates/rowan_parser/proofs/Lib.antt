@@ -1,4 +1,8 @@
+pub mod Columns
 pub mod Leaves
 pub mod Lexing
 pub mod LineLemmas
+pub mod Ranges
+pub mod SeenLemmas
+pub mod Spelling
 pub mod Steps

@@ -7,12 +7,14 @@ use Rattle.rowan_parser.specs.declared.line_index.LineColumn.{LineColumn}
 use Rattle.rowan_parser.specs.Lines.{counted, line_ends, since, bytes_since, with_start, starts_from, line_starts, IsLast, IsInLine}
 
 -- each start behind an offset is past it
-starts-past : (bs : List ℕ) (n j : ℕ) → j < length (starts_from n bs) → n < get_or (starts_from n bs) j 0
+starts-past : (bs : List ℕ) (n j : ℕ) → j < length (starts_from n bs) → n < get_or
+    (starts_from n bs) j 0
 starts-past [] n j some = absurd (omega arith)
 starts-past (b ∷ bs) n j some = by (b == 10) j some (starts-past bs (n + 1))
   where
     by : (e : Bool) (j : ℕ) → j < length (with_start e (n + 1) (starts_from (n + 1) bs))
-        → ((k : ℕ) → k < length (starts_from (n + 1) bs) → n + 1 < get_or (starts_from (n + 1) bs) k 0)
+        → ((k : ℕ) → k < length (starts_from (n + 1) bs) → n + 1 < get_or (starts_from (n + 1) bs) k
+        0)
         → n < get_or (with_start e (n + 1) (starts_from (n + 1) bs)) j 0
     by true zero some past = omega arith
     by true (suc j) some past = let next = past j (omega (arith, some)) in omega (arith, next)
@@ -30,7 +32,8 @@ line-of (b ∷ bs) n zero s zero there reached last = refl
 line-of (b ∷ bs) n zero s (suc j) there reached last =
     let past = starts-past (b ∷ bs) n j (omega (arith, there)) in
     absurd (omega (arith, past, reached))
-line-of (b ∷ bs) n (suc k) s i there reached last = by (b == 10) i there reached last (line-of bs (n + 1) k)
+line-of (b ∷ bs) n (suc k) s i there reached last = by (b == 10) i there reached last
+    (line-of bs (n + 1) k)
   where
     by : (e : Bool) (i : ℕ)
         → i < length (s ∷ with_start e (n + 1) (starts_from (n + 1) bs))
@@ -49,11 +52,14 @@ line-of (b ∷ bs) n (suc k) s i there reached last = by (b == 10) i there reach
         absurd (omega (arith, past))
     by true (suc j) there reached last next =
         let first : get_or ((n + 1) ∷ starts_from (n + 1) bs) j 0 ≤ n + suc k = reached in
-        let e : j ≡ line_ends (take k bs) = next (n + 1) j (omega (arith, there)) (omega (arith, first)) (λ more.
-        let past : n + suc k < get_or ((n + 1) ∷ starts_from (n + 1) bs) (suc j) 0 = last (omega (arith, more)) in
+        let e : j ≡ line_ends (take k bs) = next (n + 1) j (omega (arith, there))
+        (omega (arith, first)) (λ more.
+        let past : n + suc k < get_or ((n + 1) ∷ starts_from (n + 1) bs) (suc j) 0 = last
+        (omega (arith, more)) in
         omega (arith, past)) in
         ap suc e
-    by false i there reached last next = next s i there (omega (arith, reached)) (λ more. let past = last more in omega (arith, past))
+    by false i there reached last next = next s i there (omega (arith, reached))
+        (λ more. let past = last more in omega (arith, past))
 
 -- the start of the line and the bytes since make the offset
 column-of : (bs : List ℕ) (n k c s : ℕ) → s + c ≡ n → k ≤ length bs
@@ -65,37 +71,50 @@ column-of (b ∷ bs) n (suc k) c s e within = by (b == 10) (column-of bs (n + 1)
   where
     by : (d : Bool)
         → ((c s : ℕ) → s + c ≡ n + 1 → k ≤ length bs
-        → get_or (s ∷ starts_from (n + 1) bs) (line_ends (take k bs)) 0 + bytes_since c (take k bs) ≡ n + 1 + k)
-        → get_or (s ∷ with_start d (n + 1) (starts_from (n + 1) bs)) (counted d (line_ends (take k bs))) 0 + bytes_since (since d c) (take k bs) ≡ n + suc k
+        → get_or (s ∷ starts_from (n + 1) bs) (line_ends (take k bs)) 0 + bytes_since c (take k bs)
+        ≡ n + 1 + k)
+        → get_or (s ∷ with_start d (n + 1) (starts_from (n + 1) bs))
+        (counted d (line_ends (take k bs))) 0 + bytes_since (since d c) (take k bs) ≡ n + suc k
     by true next =
-        let h : get_or (s ∷ with_start true (n + 1) (starts_from (n + 1) bs)) (counted true (line_ends (take k bs))) 0 + bytes_since (since true c) (take k bs) ≡ n + 1 + k = next 0 (n + 1) (omega arith) (omega (arith, within)) in
+        let h : get_or (s ∷ with_start true (n + 1) (starts_from (n + 1) bs))
+        (counted true (line_ends (take k bs))) 0 + bytes_since (since true c) (take k bs) ≡ n +
+        1 + k = next 0 (n + 1) (omega arith) (omega (arith, within)) in
         omega (arith, h)
     by false next =
-        let h : get_or (s ∷ with_start false (n + 1) (starts_from (n + 1) bs)) (counted false (line_ends (take k bs))) 0 + bytes_since (since false c) (take k bs) ≡ n + 1 + k = next (c + 1) s (omega (arith, e)) (omega (arith, within)) in
+        let h : get_or (s ∷ with_start false (n + 1) (starts_from (n + 1) bs))
+        (counted false (line_ends (take k bs))) 0 + bytes_since (since false c) (take k bs) ≡ n
+        + 1 + k = next (c + 1) s (omega (arith, e)) (omega (arith, within)) in
         omega (arith, h)
 
-pub IsLast-line : (text : List ℕ) (offset i : ℕ) → IsLast (line_starts text) offset i → i ≡ line_ends (take offset text)
+pub IsLast-line : (text : List ℕ) (offset i : ℕ) → IsLast (line_starts text) offset i → i ≡
+    line_ends (take offset text)
 IsLast-line text offset i h =
     let one : i + 1 ≡ suc i = omega arith in
     line-of text 0 offset 0 i h.there (omega (arith, h.reached)) (λ more.
-    let past = subst (λ m. offset < get_or (line_starts text) m 0) one (h.last (omega (arith, more))) in
+    let past = subst (λ m. offset < get_or (line_starts text) m 0) one
+    (h.last (omega (arith, more))) in
     omega (arith, past))
 
-pub IsLast-column : (text : List ℕ) (offset i : ℕ) → offset ≤ length text → IsLast (line_starts text) offset i → get_or (line_starts text) i 0 + bytes_since 0 (take offset text) ≡ offset
+pub IsLast-column : (text : List ℕ) (offset i : ℕ) → offset ≤ length text → IsLast
+    (line_starts text) offset i → get_or (line_starts text) i 0 + bytes_since 0 (take offset text) ≡
+    offset
 IsLast-column text offset i within last =
     let h = column-of text 0 offset 0 0 refl within in
-    subst (λ j. get_or (line_starts text) j 0 + bytes_since 0 (take offset text) ≡ offset) (sym (IsLast-line text offset i last)) (omega (arith, h))
+    subst (λ j. get_or (line_starts text) j 0 + bytes_since 0 (take offset text) ≡ offset)
+    (sym (IsLast-line text offset i last)) (omega (arith, h))
 
 -- an offset past the end stands for the end
 take-min : (text : List ℕ) (asked : ℕ) → take (min asked (length text)) text ≡ take asked text
 take-min text asked = elim (cases_lt asked (length text)) [
-  | inl less ↦ let e : min asked (length text) ≡ asked = omega (arith, less) in ap (λ n. take n text) e
+  | inl less ↦ let e : min asked (length text) ≡ asked = omega (arith, less) in ap
+      (λ n. take n text) e
   | inr more ↦
       let e : min asked (length text) ≡ length text = omega (arith, more) in
       ap (λ n. take n text) e ∙ take-length text ∙ sym (take_all asked text more)
 ]
 
-pub line-found : (text starts : List ℕ) (asked offset i : ℕ) → starts ≡ line_starts text → offset ≡ min asked (length text) → IsLast starts offset i → i ≡ line_ends (take asked text)
+pub line-found : (text starts : List ℕ) (asked offset i : ℕ) → starts ≡ line_starts text → offset ≡
+    min asked (length text) → IsLast starts offset i → i ≡ line_ends (take asked text)
 line-found text starts asked offset i same e last =
     IsLast-line text offset i (subst (λ ss. IsLast ss offset i) same last)
     ∙ ap line_ends (ap (λ n. take n text) e ∙ take-min text asked)
@@ -105,9 +124,12 @@ get_or-any [] j a b some = absurd (omega (arith, some))
 get_or-any (s ∷ ss) zero a b some = refl
 get_or-any (s ∷ ss) (suc j) a b some = get_or-any ss j a b (omega (arith, some))
 
-pub column-found : (text starts : List ℕ) (asked offset i start column : ℕ) → starts ≡ line_starts text → offset ≡ min asked (length text) → IsLast starts offset i → start ≡ get_or starts i start → column ≡ offset - start → column ≡ bytes_since 0 (take asked text)
+pub column-found : (text starts : List ℕ) (asked offset i start column : ℕ) → starts ≡ line_starts
+    text → offset ≡ min asked (length text) → IsLast starts offset i → start ≡ get_or starts i start
+    → column ≡ offset - start → column ≡ bytes_since 0 (take asked text)
 column-found text starts asked offset i start column same e last at is =
-    let whole = IsLast-column text offset i (omega (arith, e)) (subst (λ ss. IsLast ss offset i) same last) in
+    let whole = IsLast-column text offset i (omega (arith, e))
+    (subst (λ ss. IsLast ss offset i) same last) in
     let first : get_or (line_starts text) i 0 ≡ start =
     ap (λ ss. get_or ss i 0) (sym same) ∙ get_or-any starts i 0 start last.there ∙ sym at in
     let here : column ≡ bytes_since 0 (take offset text) = omega (arith, whole, first, is) in
@@ -122,16 +144,21 @@ line-there (b ∷ bs) n (suc k) s = by (b == 10) (line-there bs (n + 1) k)
   where
     by : (d : Bool)
         → ((r : ℕ) → line_ends (take k bs) < length (r ∷ starts_from (n + 1) bs))
-        → counted d (line_ends (take k bs)) < length (s ∷ with_start d (n + 1) (starts_from (n + 1) bs))
+        → counted d (line_ends (take k bs)) < length (s ∷ with_start d (n + 1)
+        (starts_from (n + 1) bs))
     by true next = let h = next (n + 1) in omega (arith, h)
     by false next = next s
 
 -- a place of the text has a start, from which its column leads to its offset
-pub place-line : (text starts : List ℕ) (offset : ℕ) (place : LineColumn) → starts ≡ line_starts text → IsInLine text offset place → place.line < length starts
+pub place-line : (text starts : List ℕ) (offset : ℕ) (place : LineColumn) → starts ≡ line_starts
+    text → IsInLine text offset place → place.line < length starts
 place-line text starts offset place same h =
-    subst (λ ss. place.line < length ss) (sym same) (subst (λ n. n < length (line_starts text)) (sym h.line) (line-there text 0 offset 0))
+    subst (λ ss. place.line < length ss) (sym same) (subst (λ n. n < length (line_starts text))
+    (sym h.line) (line-there text 0 offset 0))
 
-pub place-sum : (text starts : List ℕ) (offset start : ℕ) (place : LineColumn) → starts ≡ line_starts text → IsInLine text offset place → start ≡ get_or starts place.line start → start + place.column ≡ offset
+pub place-sum : (text starts : List ℕ) (offset start : ℕ) (place : LineColumn) → starts ≡
+    line_starts text → IsInLine text offset place → start ≡ get_or starts place.line start → start +
+    place.column ≡ offset
 place-sum text starts offset start place same h at =
     let whole = column-of text 0 offset 0 0 refl h.within in
     let first : start ≡ get_or (line_starts text) (line_ends (take offset text)) 0 =

@@ -1,5 +1,5 @@
--- What the builder has while events are replayed: a root that nothing closed yet, and in it some open
--- nodes and whole terms.
+-- What the builder has while events are replayed: a root that nothing closed yet, and in it some
+-- open nodes and whole terms.
 use Rattle.std.specs.Prelude.{◌≡◌, ℕ, ◌+◌, ◌<◌, ◌≤◌, List, [], ◌∷◌, length, take}
 use Rattle.rowan_green.specs.declared.fault.Fault.{Fault}
 use Rattle.rowan_green.specs.declared.fault.Fault.TheVariants.{TextTooLong, TooManyChildren, Memory}

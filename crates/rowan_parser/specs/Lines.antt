@@ -1,5 +1,9 @@
 -- Lines of a text, each of which ends behind a byte 10.
-use Rattle.std.specs.Prelude.{◌≡◌, ℕ, suc, ◌+◌, ◌<◌, ◌≤◌, ◌==◌, Bool, true, false, List, [], ◌∷◌, length, take, get_or}
+use Rattle.std.specs.Prelude.{◌≡◌, ℕ, suc, ◌+◌, ◌-◌, ◌<◌, ◌≤◌, ◌==◌, Bool, true, false, List, []}
+use Rattle.std.specs.Prelude.{◌∷◌}
+use Rattle.std.specs.Prelude.{length, take, get_or, slice_range}
+use Rattle.std.specs.Char.Escape.{encode_utf16}
+use Rattle.std.specs.Str.{chars, IsCharBoundary}
 use Rattle.rowan_parser.specs.declared.line_index.LineColumn.{LineColumn}
 
 -- one more where there is an end
@@ -46,3 +50,23 @@ pub record IsLast (starts : List ℕ) (offset i : ℕ) : Type 0 where
   pub there : i < length starts
   pub reached : get_or starts i 0 ≤ offset
   pub last : i + 1 < length starts → offset < get_or starts (i + 1) 0
+
+-- the text from the start of the place's line up to the place, where a character ends
+pub record IsLineUpTo (text : List ℕ) (place : LineColumn) (before : List ℕ) : Type 0 where
+  pub offset : ℕ
+  pub at : IsInLine text offset place
+  pub border : IsCharBoundary text offset
+  pub is : before ≡ slice_range text (offset - place.column) offset
+
+-- how many units of UTF-16 the characters take
+abbrev pub utf16_len : List ℕ → ℕ
+utf16_len [] = 0
+utf16_len (c ∷ cs) = length (encode_utf16 c) + utf16_len cs
+
+-- the other place has the same line, and its column counts the characters of the line up to the
+-- place
+pub record IsCounted (count : List ℕ → ℕ) (text : List ℕ) (place other : LineColumn) : Type 0 where
+  pub before : List ℕ
+  pub up_to : IsLineUpTo text place before
+  pub line : other.line ≡ place.line
+  pub column : other.column ≡ count (chars before)

@@ -3,6 +3,7 @@
 #![tactic(auto)]
 
 pub mod event;
+pub mod laws;
 pub mod lexer;
 pub mod line_index;
 pub mod parsed;
@@ -14,7 +15,7 @@ pub mod tree;
 pub use event::Event;
 pub use lexer::{Lexer, Token, lex};
 pub use line_index::{LineColumn, LineIndex};
-pub use parsed::{Parse, SyntaxError};
+pub use parsed::{Parse, Renamed, SyntaxError};
 pub use parser::{CompletedMarker, Marker, Parser};
 pub use parsing::{parse, parse_with};
 pub use rendering::render;

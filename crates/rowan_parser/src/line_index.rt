@@ -1,6 +1,9 @@
 //! Lines and columns of a text.
-ghost use Rattle.std.specs.Prelude.{◌≡◌, ℕ, ◌^◌, ◌<◌, Some, take, length, get_or, IfOk, IfErr, IfSome};
+ghost use Rattle.std.specs.Prelude.{◌≡◌, ℕ, ◌^◌, ◌<◌, Some, take, length, get_or, IfOk, IfErr};
+ghost use Rattle.std.specs.Prelude.{IfSome, IsSome};
+ghost use Rattle.std.specs.Str.{chars, IsCharBoundary};
 ghost use Rattle.rowan_parser.specs.Lines.{line_ends, bytes_since, line_starts, IsInLine, IsLast};
+ghost use Rattle.rowan_parser.specs.Lines.{utf16_len, IsLineUpTo, IsCounted};
 
 use rowan::{Fault, TextSize};
 use std::alloc::Global;
@@ -25,13 +28,15 @@ pub struct LineIndex<'text> {
 
 impl<'text> Model for LineIndex<'text> {
     ghost use Rattle.std.specs.Prelude.{ℕ, List, ◌≡◌};
+    ghost use Rattle.std.specs.Str.{IsUtf8};
     ghost use Rattle.rowan_parser.specs.Lines.{line_starts};
 
     ghost Value = { List ℕ };
 
     ghost view = { λ index. index.text.now };
 
-    ghost invariant = { λ index. index.starts.items ≡ line_starts index.text.now };
+    ghost invariant = { λ index. (index.starts.items ≡ line_starts index.text.now)
+        × IsUtf8 index.text.now };
 }
 
 impl<'text> LineIndex<'text> {
@@ -83,27 +88,28 @@ impl<'text> LineIndex<'text> {
     /// The same place with its column counted in units of UTF-16. `None` where the text has no such
     /// place, or where it is within a character.
     pub fn to_utf16(&self, place: LineColumn) -> Option<LineColumn>
-        ensures { IfSome result (λ other. other.line ≡ place.line) }
+        ensures there { IfSome result (λ other. IsCounted utf16_len self.now place other) }
+        ensures all { (offset : ℕ) → IsInLine self.now offset place → IsCharBoundary self.now offset
+            → offset < 2 ^ 32 → IsSome result }
     {
-        let mut column = 0usize;
-        for character in self.text_before(place)?.chars() {
-            column = column.saturating_add(character.len_utf16());
-        }
+        let before = self.text_before(place)?;
         Some(LineColumn {
             line: place.line,
-            column,
+            column: utf16_len(before),
         })
     }
 
     /// The same place with its column counted in characters. `None` where the text has no such
     /// place, or where it is within a character.
     pub fn to_characters(&self, place: LineColumn) -> Option<LineColumn>
-        ensures { IfSome result (λ other. other.line ≡ place.line) }
+        ensures there { IfSome result (λ other. IsCounted length self.now place other) }
+        ensures all { (offset : ℕ) → IsInLine self.now offset place → IsCharBoundary self.now offset
+            → offset < 2 ^ 32 → IsSome result }
     {
-        let column = self.text_before(place)?.chars().count();
+        let before = self.text_before(place)?;
         Some(LineColumn {
             line: place.line,
-            column,
+            column: character_count(before),
         })
     }
 
@@ -121,10 +127,35 @@ impl<'text> LineIndex<'text> {
     }
 
     /// The text from the start of the line up to a place.
-    fn text_before(&self, place: LineColumn) -> Option<&'text str> {
+    fn text_before(&self, place: LineColumn) -> Option<&'text str>
+        ensures there { IfSome result (λ before. IsLineUpTo self.now place before.now) }
+        ensures all { (offset : ℕ) → IsInLine self.now offset place → IsCharBoundary self.now offset
+            → offset < 2 ^ 32 → IsSome result }
+    {
         let end = u32::from(self.offset(place)?) as usize;
+        if !self.text.is_char_boundary(end) {
+            return None;
+        }
         self.text.get(end.saturating_sub(place.column)..end)
     }
+}
+
+/// How many units of UTF-16 the text takes.
+fn utf16_len(text: &str) -> usize
+    ensures { result ≡ utf16_len (chars text.now) }
+{
+    let mut len = 0;
+    let mut rest = text.chars();
+    while let Some(character) = rest.next() {
+        len += character.len_utf16();
+    }
+    len
+}
+
+fn character_count(text: &str) -> usize
+    ensures { result ≡ length (chars text.now) }
+{
+    text.chars().count()
 }
 
 /// The offsets at which the lines of a text begin.

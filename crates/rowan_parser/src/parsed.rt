@@ -1,7 +1,7 @@
 //! What parsing answers.
 ghost use Rattle.std.specs.Prelude.{◌≡◌, [], IfOk, IfErr};
 
-use rowan::{Fault, GreenNode, Language, SyntaxNode, TextRange};
+use rowan::{Fault, GreenNode, Language, SyntaxKind, SyntaxNode, TextRange};
 use std::alloc::Global;
 
 /// The tree of a text, and what its grammar complained of.
@@ -10,9 +10,9 @@ pub struct Parse {
     pub green: GreenNode,
     /// In the order in which the grammar complained.
     pub errors: Vec<SyntaxError>,
-    /// How many tokens the grammar took by `bump_as`. Where there are none, each leaf has the kind
+    /// The leaves that the grammar took by `bump_as`, in their order. All others have the kinds
     /// that the lexer said.
-    pub renamed: usize,
+    pub renamed: Vec<Renamed>,
 }
 
 impl Parse {
@@ -31,4 +31,12 @@ impl Parse {
 pub struct SyntaxError {
     pub message: String,
     pub range: TextRange,
+}
+
+/// A leaf with another kind than the lexer said.
+#[derive(Clone, Copy)]
+pub struct Renamed {
+    /// The number of the leaf in the tree, from 0, trivia included.
+    pub leaf: usize,
+    pub kind: SyntaxKind,
 }

@@ -1,7 +1,10 @@
 //! What a grammar works with: the tokens that are no trivia, and the events so far.
-ghost use Rattle.std.specs.Prelude.{◌≡◌, ◌↔◌, ◌+◌, ◌-◌, ◌<◌, ◌≤◌, if◌then◌else◌, IsSome, IsNone, IfSome, IsTrue};
+ghost use Rattle.std.specs.Prelude.{◌≡◌, ◌↔◌, ◌+◌, if◌then◌else◌, IsSome, IsNone, IfSome, IsTrue};
+ghost use Rattle.std.specs.Prelude.{[], length, drop};
+ghost use Rattle.rowan_parser.specs.Seen.{kinds_from, kind_ahead, is_at, is_at_any, from_any};
 
 use crate::event::Event;
+use crate::parsed::Renamed;
 use rowan::{Language, SyntaxKind};
 use std::alloc::{AllocError, Global};
 use std::marker::{Model, PhantomData};
@@ -9,8 +12,8 @@ use std::marker::{Model, PhantomData};
 /// Looks at the tokens of a text and takes them one after the other. It passes over trivia.
 ///
 /// No call is refused, and none has a condition. Where memory runs out the parser takes note of it
-/// and goes on, and `parse` answers `Memory`. A contract sees a parser as the number of tokens that
-/// are left, which says when loops and recursions end.
+/// and goes on, and `parse` answers `Memory`. A contract sees a parser as the raw kinds of the tokens
+/// that are left: so it says what each look at them answers, and when loops and recursions end.
 #[derive(Drop)]
 pub struct Parser<L> {
     alloc: Global,
@@ -21,12 +24,14 @@ pub struct Parser<L> {
     language: PhantomData<L>,
 }
 
-/// A token that is no trivia: its kind, and where its text starts and ends.
+/// A token that is no trivia: its number among all tokens, where its text starts and ends, and its
+/// kind.
 #[derive(Clone, Copy)]
 pub(crate) struct SeenToken {
-    pub kind: SyntaxKind,
+    pub number: u32,
     pub start: u32,
     pub end: u32,
+    pub kind: SyntaxKind,
 }
 
 /// What a grammar did.
@@ -34,7 +39,7 @@ pub(crate) struct SeenToken {
 pub(crate) struct Log {
     pub events: Vec<Event>,
     pub complaints: Vec<Complaint>,
-    pub renames: Vec<Rename>,
+    pub renames: Vec<Renamed>,
     pub has_memory: bool,
 }
 
@@ -45,19 +50,13 @@ pub(crate) struct Complaint {
     pub place: usize,
 }
 
-/// A token, by its number among those that are no trivia, with another kind than the lexer said.
-#[derive(Clone, Copy)]
-pub(crate) struct Rename {
-    pub place: usize,
-    pub kind: SyntaxKind,
-}
-
 impl<L> Model for Parser<L> {
-    ghost use Rattle.std.specs.Prelude.{ℕ, ◌-◌, length};
+    ghost use Rattle.std.specs.Prelude.{ℕ, List};
+    ghost use Rattle.rowan_parser.specs.Seen.{kinds_from};
 
-    ghost Value = { ℕ };
+    ghost Value = { List ℕ };
 
-    ghost view = { λ p. length p.tokens.items - p.position };
+    ghost view = { λ p. kinds_from p.position p.tokens.items };
 }
 
 /// A node that was begun. It has to be completed or abandoned: code that does neither does not
@@ -74,7 +73,9 @@ pub struct CompletedMarker {
 }
 
 impl<L: Language> Parser<L> {
-    pub(crate) fn new(alloc: Global, text: String, tokens: Vec<SeenToken>) -> Parser<L> {
+    pub(crate) fn new(alloc: Global, text: String, tokens: Vec<SeenToken>) -> Parser<L>
+        ensures { result ≡ kinds_from 0 tokens.items }
+    {
         let log = Log {
             events: Vec::new(alloc),
             complaints: Vec::new(alloc),
@@ -110,7 +111,7 @@ impl<L: Language> Parser<L> {
 
     /// The kind of the token `n` places ahead, where 0 is the current one.
     pub fn nth(&self, n: usize) -> Option<L::Kind>
-        ensures { IsSome result ↔ (n < self.now) }
+        ensures { result ≡ kind_ahead L.meaning self.now n }
     {
         let token = self.tokens.get(self.position.checked_add(n)?)?;
         Some(L::kind_from_raw(token.kind))
@@ -118,7 +119,7 @@ impl<L: Language> Parser<L> {
 
     /// The kind of the current token.
     pub fn current(&self) -> Option<L::Kind>
-        ensures { IsSome result ↔ (0 < self.now) }
+        ensures { result ≡ kind_ahead L.meaning self.now 0 }
     {
         self.nth(0)
     }
@@ -136,7 +137,7 @@ impl<L: Language> Parser<L> {
 
     /// Whether the current token has this kind.
     pub fn at(&self, kind: L::Kind) -> bool
-        ensures { IsTrue result → 0 < self.now }
+        ensures { result ≡ is_at L.meaning L.Kind.eq kind self.now }
     {
         match self.nth(0) {
             Some(current) => current == kind,
@@ -146,30 +147,30 @@ impl<L: Language> Parser<L> {
 
     /// Whether the current token has one of these kinds.
     pub fn at_any(&self, kinds: &[L::Kind]) -> bool
-        ensures { IsTrue result → 0 < self.now }
+        ensures { result ≡ is_at_any L.meaning L.Kind.eq kinds.now self.now }
     {
         match self.nth(0) {
-            Some(current) => kinds.iter().any(|kind| *kind == current),
+            Some(current) => kinds.contains(&current),
             None => false,
         }
     }
 
     pub fn at_end(&self) -> bool
-        ensures { IsTrue result ↔ (self.now ≡ 0) }
+        ensures { IsTrue result ↔ (self.now ≡ []) }
     {
         self.position >= self.tokens.len()
     }
 
     /// How many tokens are left: `for _ in 0..p.tokens_left()` is a loop that ends.
     pub fn tokens_left(&self) -> usize
-        ensures { result ≡ self.now }
+        ensures { result ≡ length self.now }
     {
         self.tokens.len().saturating_sub(self.position)
     }
 
     /// Takes the current token, if there is one.
     pub fn bump(&mut self)
-        ensures { self.new ≡ self.old - 1 }
+        ensures { self.new ≡ drop 1 self.old }
     {
         if self.position < self.tokens.len() {
             self.position += 1;
@@ -180,18 +181,19 @@ impl<L: Language> Parser<L> {
     /// Takes the current token, if there is one, with this kind in place of the one that the lexer
     /// said, as for a word that is a keyword only here.
     pub fn bump_as(&mut self, kind: L::Kind)
-        ensures { self.new ≡ self.old - 1 }
+        ensures { self.new ≡ drop 1 self.old }
     {
-        if !self.at_end() {
-            self.log.rename(self.position, L::kind_to_raw(kind));
+        if let Some(token) = self.tokens.get(self.position) {
+            let leaf = token.number as usize;
+            self.log.rename(leaf, L::kind_to_raw(kind));
             self.bump();
         }
     }
 
     /// Takes the current token where it has this kind.
     pub fn eat(&mut self, kind: L::Kind) -> bool
-        ensures there { IsTrue result → 0 < self.old }
-        ensures taken { self.new ≡ (if result then self.old - 1 else self.old) }
+        ensures there { result ≡ is_at L.meaning L.Kind.eq kind self.old }
+        ensures taken { self.new ≡ (if result then drop 1 self.old else self.old) }
     {
         if !self.at(kind) {
             return false;
@@ -202,8 +204,8 @@ impl<L: Language> Parser<L> {
 
     /// Takes the current token where it has this kind, and else complains.
     pub fn expect(&mut self, kind: L::Kind, message: &str) -> bool
-        ensures there { IsTrue result → 0 < self.old }
-        ensures taken { self.new ≡ (if result then self.old - 1 else self.old) }
+        ensures there { result ≡ is_at L.meaning L.Kind.eq kind self.old }
+        ensures taken { self.new ≡ (if result then drop 1 self.old else self.old) }
     {
         let eaten = self.eat(kind);
         if !eaten {
@@ -229,7 +231,7 @@ impl<L: Language> Parser<L> {
 
     /// Complains, and puts a node of this kind around the current token, if there is one.
     pub fn error_and_bump(&mut self, kind: L::Kind, message: &str)
-        ensures { self.new ≡ self.old - 1 }
+        ensures { self.new ≡ drop 1 self.old }
     {
         self.error(message);
         if !self.at_end() {
@@ -242,16 +244,13 @@ impl<L: Language> Parser<L> {
     /// Puts a node of this kind around the tokens up to the first one of these kinds, or to the
     /// end, if there are any.
     pub fn recover_until(&mut self, kinds: &[L::Kind], error: L::Kind)
-        ensures { self.new ≤ self.old }
+        ensures { self.new ≡ from_any L.meaning L.Kind.eq kinds.now self.old }
     {
         if self.at_end() || self.at_any(kinds) {
             return;
         }
         let marker = self.start();
-        for _ in 0..self.tokens_left() {
-            if self.at_any(kinds) {
-                break;
-            }
+        while !self.at_end() && !self.at_any(kinds) {
             self.bump();
         }
         self.complete(marker, error);
@@ -259,7 +258,7 @@ impl<L: Language> Parser<L> {
 
     /// Complains, and puts a node of this kind around all tokens that are left, if there are any.
     pub fn error_to_end(&mut self, kind: L::Kind, message: &str)
-        ensures { self.new ≡ 0 }
+        ensures { self.new ≡ [] }
     {
         self.error(message);
         if !self.at_end() {
@@ -277,8 +276,9 @@ impl<L: Language> Parser<L> {
     /// how deep it may go.
     pub fn deeper(&mut self, depth: usize, kind: L::Kind, message: &str) -> Option<usize>
         ensures depth { IfSome result (λ less. less + 1 ≡ depth) }
+        ensures none { IsNone result → depth ≡ 0 }
         ensures kept { IsSome result → self.new ≡ self.old }
-        ensures ended { IsNone result → self.new ≡ 0 }
+        ensures ended { IsNone result → self.new ≡ [] }
     {
         let less = depth.checked_sub(1);
         if less.is_none() {
@@ -372,8 +372,8 @@ impl Log {
         }
     }
 
-    fn rename(&mut self, place: usize, kind: SyntaxKind) {
-        if self.renames.push(Rename { place, kind }).is_err() {
+    fn rename(&mut self, leaf: usize, kind: SyntaxKind) {
+        if self.renames.push(Renamed { leaf, kind }).is_err() {
             self.has_memory = false;
         }
     }

@@ -1,5 +1,6 @@
 //! From a text to its tree, by a lexer and a grammar.
-ghost use Rattle.std.specs.Prelude.{◌≡◌, ◌<◌, ◌++◌, [], length, IfOk, IfErr};
+ghost use Rattle.std.specs.Prelude.{◌≡◌, ◌<◌, ◌≤◌, ◌++◌, ◌∷◌, [], length, All, IfOk, IfErr, OnOk};
+ghost use Rattle.std.specs.Prelude.{if◌then◌else◌};
 ghost use Rattle.rowan_green.specs.Cache.{first_seen};
 ghost use Rattle.rowan_green.specs.Fits.{byte_limit};
 ghost use Rattle.rowan_green.specs.Path.{tokens};
@@ -7,18 +8,22 @@ ghost use Rattle.rowan_green.specs.Stream.{subterms, Grows};
 ghost use Rattle.rowan_green.specs.Term.{node_kind, node_text};
 ghost use Rattle.rowan_green.specs.declared.utility_types.NodeOrToken.TheVariants.{Node};
 ghost use Rattle.rowan_parser.specs.Building.{WhyNoTree};
-ghost use Rattle.rowan_parser.specs.Tokens.{AreLeavesSaid, texts_of};
+ghost use Rattle.rowan_parser.specs.Events.{seen_kinds, IsParsed, IsRun};
+ghost use Rattle.rowan_parser.specs.Seen.{kinds_from};
+ghost use Rattle.rowan_parser.specs.Tokens.{IsErrorRange, leaf_texts};
+ghost use Rattle.rowan_parser.specs.Tokens.{tokens_text, texts_of, with_kinds};
 
 use crate::lexer::{Lexer, Token, lex};
-use crate::parsed::{Parse, SyntaxError};
-use crate::parser::{Complaint, Log, Parser, Rename, SeenToken};
-use crate::tree::{Source, Trivia, build_tree_with};
+use crate::parsed::{Parse, Renamed, SyntaxError};
+use crate::parser::{Complaint, Log, Parser, SeenToken};
+use crate::tree::{Source, Trivia, build_tree_with, is_trivia};
 use rowan::{Fault, Language, NodeCache, SyntaxKind, TextRange, TextSize};
 use std::alloc::Global;
 
 /// Parses a text. The tree has every byte of it, whatever the lexer says and the grammar does: its
-/// leaves are the tokens that the lexer said, each with that kind, unless the grammar took it by
-/// `bump_as`.
+/// leaves are the tokens that the lexer said, each with that kind, but those that are listed as
+/// renamed. An error stands at the token that was the current one when the grammar complained, or
+/// at the end of the text.
 ///
 /// An `Err` with `TextTooLong` exactly for a text of more than 4,294,967,295 bytes, with
 /// `TooManyChildren` where the grammar puts more than 4,294,967,295 nodes and tokens into one node,
@@ -35,8 +40,12 @@ pub fn parse<L: Language, X: Lexer + Drop, G: FnOnce(&mut Parser<L>)>(
     requires grammar { G.IsAlwaysCallable grammar }
 
     ensures text { IfOk result (λ parse. node_text parse.green ≡ text.now) }
-    ensures leaves { IfOk result (λ parse. AreLeavesSaid X.says lexer text.now parse.renamed
-        (tokens (Node parse.green))) }
+    ensures parsed { IfOk result (λ parse.
+        IsParsed X.says lexer (IsRun G.FnOnce grammar) text.now trivia.entry parse.renamed.items
+        parse.green) }
+    ensures errors { IfOk result (λ parse.
+        All (λ error. IsErrorRange (leaf_texts (tokens (Node parse.green))) error.range)
+        parse.errors.items) }
     ensures kind { IfOk result (λ parse. L.meaning (node_kind parse.green) ≡ root) }
     ensures err { IfErr result (WhyNoTree text.now) }
     ensures too_long { byte_limit < length text.now → result ≡ Err Fault.TextTooLong }
@@ -61,8 +70,12 @@ pub fn parse_with<L: Language, X: Lexer + Drop, G: FnOnce(&mut Parser<L>)>(
     requires grammar { G.IsAlwaysCallable grammar }
 
     ensures text { IfOk result (λ parse. node_text parse.green ≡ text.now) }
-    ensures leaves { IfOk result (λ parse. AreLeavesSaid X.says lexer text.now parse.renamed
-        (tokens (Node parse.green))) }
+    ensures parsed { IfOk result (λ parse.
+        IsParsed X.says lexer (IsRun G.FnOnce grammar) text.now trivia.entry parse.renamed.items
+        parse.green) }
+    ensures errors { IfOk result (λ parse.
+        All (λ error. IsErrorRange (leaf_texts (tokens (Node parse.green))) error.range)
+        parse.errors.items) }
     ensures kind { IfOk result (λ parse. L.meaning (node_kind parse.green) ≡ root) }
     ensures err { IfErr result (WhyNoTree text.now) }
     ensures too_long { byte_limit < length text.now → result ≡ Err Fault.TextTooLong }
@@ -77,15 +90,15 @@ pub fn parse_with<L: Language, X: Lexer + Drop, G: FnOnce(&mut Parser<L>)>(
         return Err(Fault::TextTooLong);
     }
     let tokens = lex(alloc, text, lexer)?;
+    let log = run(alloc, text, tokens.as_slice(), trivia, grammar)?;
     let Log {
         events,
         complaints,
         renames,
         has_memory: _,
-    } = run(alloc, text, tokens.as_slice(), trivia.kinds, grammar)?;
+    } = log;
     let errors = errors_at(alloc, tokens.as_slice(), trivia.kinds, complaints)?;
-    let renamed = renames.len();
-    let tokens = rename(alloc, tokens, trivia.kinds, renames.as_slice())?;
+    let tokens = rename(tokens, renames.as_slice());
     let source = Source {
         root_kind: L::kind_to_raw(root),
         tokens: tokens.as_slice(),
@@ -96,7 +109,7 @@ pub fn parse_with<L: Language, X: Lexer + Drop, G: FnOnce(&mut Parser<L>)>(
     Ok(Parse {
         green,
         errors,
-        renamed,
+        renamed: renames,
     })
 }
 
@@ -105,22 +118,15 @@ fn run<L: Language, G: FnOnce(&mut Parser<L>)>(
     alloc: Global,
     text: &str,
     tokens: &[Token<'_>],
-    trivia: &[SyntaxKind],
+    trivia: Trivia<'_>,
     grammar: G,
 ) -> Result<Log, Fault>
     requires { G.IsAlwaysCallable grammar }
-    ensures { IfErr result (λ e. e ≡ Fault.Memory) }
+    ensures ran { IfOk result (λ _.
+        IsRun G.FnOnce grammar (seen_kinds trivia.entry tokens.now)) }
+    ensures err { IfErr result (λ e. e ≡ Fault.Memory) }
 {
-    let mut seen = Vec::new(alloc);
-    let mut end = 0u32;
-    for token in tokens {
-        let start = end;
-        end = start.saturating_add(u32::try_from(token.text.len()).unwrap_or(u32::MAX));
-        if !trivia.contains(&token.kind) {
-            let kind = token.kind;
-            seen.push(SeenToken { kind, start, end })?;
-        }
-    }
+    let seen = seen_tokens(alloc, tokens, trivia)?;
     let mut parser = Parser::new(alloc, String::from_str(alloc, text)?, seen);
     grammar(&mut parser);
     let log = parser.into_log();
@@ -130,6 +136,47 @@ fn run<L: Language, G: FnOnce(&mut Parser<L>)>(
     Ok(log)
 }
 
+/// The tokens that are no trivia.
+fn seen_tokens(
+    alloc: Global,
+    tokens: &[Token<'_>],
+    trivia: Trivia<'_>,
+) -> Result<Vec<SeenToken>, Fault>
+    ensures kinds { IfOk result (λ seen. kinds_from 0 seen.items
+        ≡ seen_kinds trivia.entry tokens.now) }
+    ensures err { IfErr result (λ e. e ≡ Fault.Memory) }
+{
+    let mut seen = Vec::with_capacity(alloc, tokens.len())?;
+    let mut end = 0u32;
+    let mut number = 0u32;
+    for token in tokens {
+        let start = end;
+        end = start.saturating_add(u32::try_from(token.text.len()).unwrap_or(u32::MAX));
+        let place = SeenToken {
+            number,
+            start,
+            end,
+            kind: token.kind,
+        };
+        push_seen(&mut seen, place, is_trivia(trivia, token))?;
+        number = number.saturating_add(1);
+    }
+    Ok(seen)
+}
+
+/// Puts a token behind the others, unless it is trivia.
+#[tactic(auto, using(crate::proofs::SeenLemmas::kinds_of_push))]
+fn push_seen(seen: &mut Vec<SeenToken>, token: SeenToken, is_trivia: bool) -> Result<(), Fault>
+    ensures kinds { OnOk result (kinds_from 0 seen.new.items
+        ≡ kinds_from 0 seen.old.items ++ (if is_trivia then [] else token.kind.0 ∷ [])) }
+    ensures err { IfErr result (λ e. e ≡ Fault.Memory) }
+{
+    if !is_trivia {
+        seen.push(token)?;
+    }
+    Ok(())
+}
+
 /// The complaints with the ranges of their tokens.
 fn errors_at(
     alloc: Global,
@@ -137,92 +184,69 @@ fn errors_at(
     trivia: &[SyntaxKind],
     complaints: Vec<Complaint>,
 ) -> Result<Vec<SyntaxError>, Fault>
-    ensures { IfErr result (λ e. e ≡ Fault.Memory) }
+    requires { length (tokens_text tokens.now) ≤ byte_limit }
+    ensures ranges { IfOk result (λ errors.
+        All (λ error. IsErrorRange (texts_of tokens.now) error.range) errors.items) }
+    ensures err { IfErr result (λ e. e ≡ Fault.Memory) }
 {
     let mut errors = Vec::new(alloc);
     if complaints.is_empty() {
         return Ok(errors);
     }
-    let mut ranges = Vec::new(alloc);
-    let mut end = 0u32;
-    for token in tokens {
-        let start = end;
-        end = start.saturating_add(u32::try_from(token.text.len()).unwrap_or(u32::MAX));
-        if !trivia.contains(&token.kind) {
-            ranges.push(TextRange::new(TextSize::from(start), TextSize::from(end)))?;
-        }
-    }
-    let at_end = TextRange::new(TextSize::from(end), TextSize::from(end));
+    let ranges = ranges_of(alloc, tokens, trivia)?;
+    let last = ranges.len() - 1;
     for complaint in complaints {
         let Complaint { message, place } = complaint;
-        let range = ranges.get(place).copied().unwrap_or(at_end);
+        let range = ranges[place.min(last)];
         errors.push(SyntaxError { message, range })?;
     }
     Ok(errors)
 }
 
-/// The tokens, with the kinds by which the grammar took some of them.
-fn rename<'text>(
+/// The ranges of the tokens that are no trivia, and behind them the empty one at the end.
+fn ranges_of(
     alloc: Global,
-    tokens: Vec<Token<'text>>,
+    tokens: &[Token<'_>],
     trivia: &[SyntaxKind],
-    renames: &[Rename],
-) -> Result<Vec<Token<'text>>, Fault>
-    ensures texts { IfOk result (λ renamed. texts_of renamed.items ≡ texts_of tokens.entry.items) }
-    ensures same { renames.now ≡ [] → IfOk result (λ renamed. renamed.items ≡ tokens.entry.items) }
+) -> Result<Vec<TextRange>, Fault>
+    requires { length (tokens_text tokens.now) ≤ byte_limit }
+    ensures ranges { IfOk result (λ ranges. All (IsErrorRange (texts_of tokens.now)) ranges.items) }
+    ensures some { IfOk result (λ ranges. 0 < length ranges.items) }
     ensures err { IfErr result (λ e. e ≡ Fault.Memory) }
 {
-    if renames.is_empty() {
-        return Ok(tokens);
-    }
-    rename_some(alloc, tokens.as_slice(), trivia, renames)
-}
-
-#[tactic(auto, using(crate::proofs::Leaves::texts_push))]
-fn rename_some<'text>(
-    alloc: Global,
-    tokens: &[Token<'text>],
-    trivia: &[SyntaxKind],
-    renames: &[Rename],
-) -> Result<Vec<Token<'text>>, Fault>
-    ensures texts { IfOk result (λ renamed. texts_of renamed.items ≡ texts_of tokens.now) }
-    ensures err { IfErr result (λ e. e ≡ Fault.Memory) }
-{
-    let mut renamed = Vec::new(alloc);
-    let mut place = 0usize;
-    let mut next = 0usize;
+    let mut ranges = Vec::new(alloc);
+    let mut end = 0u32;
     for token in tokens {
-        let is_seen = !trivia.contains(&token.kind);
-        let is_renamed = is_seen && is_next(renames, next, place);
-        let new_token = token_with_kind(token, renames, next, is_renamed);
-        renamed.push(new_token)?;
-        next = next.saturating_add(usize::from(is_renamed));
-        place = place.saturating_add(usize::from(is_seen));
+        let start = end;
+        end += token.text.len() as u32;
+        if !trivia.contains(&token.kind) {
+            ranges.push(TextRange::new(TextSize::from(start), TextSize::from(end)))?;
+        }
     }
-    Ok(renamed)
+    ranges.push(TextRange::new(TextSize::from(end), TextSize::from(end)))?;
+    Ok(ranges)
 }
 
-/// Whether the next rename is of the token at this place.
-fn is_next(renames: &[Rename], next: usize, place: usize) -> bool {
-    match renames.get(next) {
-        Some(rename) => rename.place == place,
-        None => false,
-    }
-}
-
-/// A token, with the kind of the next rename where it is renamed.
-fn token_with_kind<'text>(
-    token: &Token<'text>,
-    renames: &[Rename],
-    next: usize,
-    is_renamed: bool,
-) -> Token<'text>
-    ensures { result.text ≡ token.now.text }
+/// The tokens, of which some have the kinds by which the grammar took them.
+fn rename<'text>(mut tokens: Vec<Token<'text>>, renames: &[Renamed]) -> Vec<Token<'text>>
+    ensures { result.items ≡ with_kinds renames.now tokens.entry.items }
 {
-    let kind = match renames.get(next) {
-        Some(rename) if is_renamed => rename.kind,
-        _ => token.kind,
-    };
+    let mut rest = renames;
+    while let Some((rename, others)) = rest.split_first() {
+        let Renamed { leaf, kind } = *rename;
+        if leaf < tokens.len() {
+            let token = token_with_kind(&tokens[leaf], kind);
+            tokens[leaf] = token;
+        }
+        rest = others;
+    }
+    tokens
+}
+
+fn token_with_kind<'text>(token: &Token<'text>, kind: SyntaxKind) -> Token<'text>
+    ensures text { result.text ≡ token.now.text }
+    ensures kind { result.kind ≡ kind }
+{
     Token {
         kind,
         text: token.text,

@@ -4,3 +4,5 @@
 pub mod arithmetic;
 #[cfg(test)]
 mod lines;
+#[cfg(test)]
+mod trees;

@@ -12,7 +12,8 @@ invariant-loop-rest g l = record {
   ready : g.X.Lexer.is_ready l.lexer;
   text : tokens_text l.tokens.items ++ l.rest ≡ l.text;
   filled : All (λ token. 0 < length token.text.now) l.tokens.items;
-  said : (others : List Token) → tokens_text others ≡ l.rest → AreSaid g.X.Lexer.says l.lexer others → AreSaid g.X.Lexer.says l.fn.lexer (l.tokens.items ++ others);
+  said : (others : List Token) → tokens_text others ≡ l.rest → AreSaid g.X.Lexer.says l.lexer others
+      → AreSaid g.X.Lexer.says l.fn.lexer (l.tokens.items ++ others);
 }
 
 abbrev pub decreases-loop-rest : goal.decreases-loop-rest

@@ -4,10 +4,12 @@ use Rattle.rowan_green.specs.declared.utility_types.NodeOrToken.TheVariants.{Nod
 use Rattle.rowan_green.specs.Stream.{subterms}
 use Rattle.rowan_green.proofs.StreamLemmas.{InternsWord-starts, InternsWord-finished, intern_all-first_seen}
 use Rattle.rowan_parser.proofs.Steps.{IsBuilt-kind, IsBuilt-tokens, IsBuilt-text, IsBuilt-finishes}
+use Rattle.rowan_parser.proofs.Spelling.{IsBuilt-spells}
 use Rattle.rowan_parser.proofs.tree.build_tree_with.Goals as goal
 
 pub unreachable-requires : goal.unreachable-requires
-unreachable-requires c = IsBuilt-finishes _ _ _ c.in-Err._unfinished.fault c.in_ok-replay.ensures.ok c.in-Err.ensures.err
+unreachable-requires c = IsBuilt-finishes _ _ _ c.in-Err._unfinished.fault c.in_ok-replay.ensures.ok
+    c.in-Err.ensures.err
 
 pub returns-in-Ok-clause-kind : goal.returns-in-Ok-clause-kind
 returns-in-Ok-clause-kind c = IsBuilt-kind _ _ _ _ c.in_ok-replay.ensures.ok c.in-Ok.ensures.ok
@@ -22,7 +24,18 @@ pub returns-in-Ok-clause-interned : goal.returns-in-Ok-clause-interned
 returns-in-Ok-clause-interned c =
     let began = c.with_cache-builder.result.inner in
     let ended = c.replay.new.builder.inner in
-    let intern = c.replay.ensures.stream.keeps c.args.cache.now (InternsWord-starts c.args.cache.now began (ap (λ b. b.word) c.with_cache-builder.ensures.empty) (ap (λ b. b.cache) c.with_cache-builder.ensures.empty)) in
-    let left = subst (λ r. OnOk r (c.finish.follows.lender-at-none ≡ ended.cache)) c.in-Ok.is c.finish.follows.holds-at-none in
-    let all = c.cache-in-Ok-2.given.1 (sym (c.replay.ensures.loan ∙ c.with_cache-builder.ensures.loan)) ∙ left ∙ InternsWord-finished c.args.cache.now ended c.in-Ok.tree intern c.in-Ok.ensures.ok in
-    ap (λ d. d.seen) (all ∙ intern_all-first_seen c.args.cache.now (subterms (Node c.in-Ok.tree)) c.with_cache-builder.ensures.first)
+    let intern = c.replay.ensures.stream.keeps c.args.cache.now
+    (InternsWord-starts c.args.cache.now began (ap (λ b. b.word)
+    c.with_cache-builder.ensures.empty) (ap (λ b. b.cache) c.with_cache-builder.ensures.empty))
+    in
+    let left = subst (λ r. OnOk r (c.finish.follows.lender-at-none ≡ ended.cache)) c.in-Ok.is
+    c.finish.follows.holds-at-none in
+    let all = c.cache-in-Ok-2.given.1 (sym (c.replay.ensures.loan ∙
+    c.with_cache-builder.ensures.loan)) ∙ left ∙ InternsWord-finished c.args.cache.now ended
+    c.in-Ok.tree intern c.in-Ok.ensures.ok in
+    ap (λ d. d.seen) (all ∙ intern_all-first_seen c.args.cache.now (subterms (Node c.in-Ok.tree))
+    c.with_cache-builder.ensures.first)
+
+pub returns-in-Ok-clause-shape : goal.returns-in-Ok-clause-shape
+returns-in-Ok-clause-shape c = IsBuilt-spells _ _ _ _ _ c.in_ok-replay.ensures.ok c.in-Ok.ensures.ok
+    c.in_ok-replay.ensures.spells
