@@ -1,5 +1,5 @@
 -- The stack of a tree cursor: one frame more, one less, and where the offsets lie.
-use Rattle.std.proofs.Common.{◌≡◌, ℕ, zero, suc, ◌+◌, ◌-◌, ◌<◌, ◌≤◌, List, [], ◌∷◌, ◌++◌, map}
+use Rattle.std.proofs.Common.{◌≡◌, ℕ, zero, suc, ◌+◌, ◌-◌, ◌<◌, ◌≤◌, List, [], ◌∷◌, ◌++◌}
 use Rattle.std.proofs.Common.{length}
 use Rattle.std.proofs.Common.{set, Some, refl, sym, ◌∙◌, ap, subst, arith, append_assoc}
 use Rattle.std.specs.Prelude.{slice_get, slice_index_or, take}
@@ -7,8 +7,8 @@ use Rattle.std.proofs.lemmas.List.{append-nil, map-append}
 use Rattle.rowan_green.specs.declared.utility_types.NodeOrToken.TheVariants.{Node}
 use Rattle.rowan_green.specs.declared.fault.Fault.{Fault}
 use Rattle.rowan_green.specs.Edits.{replaced}
-use Rattle.rowan_green.specs.Fits.{byte_limit, child_limit, FitsNode, Fits, PassesLimit}
-use Rattle.rowan_green.specs.Path.{Path, subterm, offset, len_of, range, put}
+use Rattle.rowan_green.specs.Fits.{byte_limit, child_limit, Fits, PassesLimit}
+use Rattle.rowan_green.specs.Path.{Path, subterm, offset, len_of, put}
 use Rattle.rowan_green.specs.Search.{child_start}
 use Rattle.rowan_green.specs.Term.{NodeTerm, Term, node_of, node_kind, node_children, term_len}
 use Rattle.rowan_green.proofs.OffsetLemmas.{range-within}

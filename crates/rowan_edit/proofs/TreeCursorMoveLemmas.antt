@@ -1,17 +1,17 @@
 -- The moves of a tree cursor: where they go by the children of the node, and by the last index.
-use Rattle.std.proofs.Common.{◌≡◌, ℕ, zero, suc, ◌+◌, ◌-◌, ◌<◌, ◌≤◌, List, [], ◌∷◌, ◌++◌, map}
+use Rattle.std.proofs.Common.{◌≡◌, ℕ, zero, suc, ◌+◌, ◌-◌, ◌<◌, ◌≤◌, List, [], ◌∷◌, ◌++◌}
 use Rattle.std.proofs.Common.{length}
 use Rattle.std.proofs.Common.{reverse, Bool, true, false, Option, Some, None, refl, sym, ◌∙◌, ap}
 use Rattle.std.proofs.Common.{subst, arith}
 use Rattle.std.specs.Prelude.{slice_get}
 use Rattle.std.specs.Option.{option_map}
-use Rattle.rowan_green.specs.declared.utility_types.NodeOrToken.TheVariants.{Node, Token}
-use Rattle.rowan_green.specs.Path.{Path, subterm, offset}
+use Rattle.rowan_green.specs.declared.utility_types.NodeOrToken.TheVariants.{Node}
+use Rattle.rowan_green.specs.Path.{Path, offset}
 use Rattle.rowan_green.specs.Search.{IsChildAt}
 use Rattle.rowan_green.specs.Span.{Span}
 use Rattle.rowan_green.specs.Term.{NodeTerm, Term, node_children}
 use Rattle.rowan_cursor.specs.Cursor.{Cursor, term_at}
-use Rattle.rowan_cursor.specs.Moves.{Element, element_at, place_of, cursor_at, children_of}
+use Rattle.rowan_cursor.specs.Moves.{element_at, place_of, cursor_at, children_of}
 use Rattle.rowan_cursor.specs.Moves.{child_count}
 use Rattle.rowan_cursor.specs.Moves.{child_paths, below, numbers, following, preceding, first_at}
 use Rattle.rowan_cursor.specs.Moves.{parent, first_child_or_token, last_child_or_token}

@@ -1,15 +1,18 @@
 //! A cursor over a borrowed green tree, which keeps the nodes above itself in a stack of its own.
-ghost use Rattle.std.specs.Prelude.{◌≡◌, [], length, IfOk, IfErr};
-ghost use Rattle.std.specs.Prelude.{OnErr, Some, ◌≤◌, ◌-◌};
+ghost use Rattle.std.specs.Prelude.{◌≡◌, [], length, take, true, IfOk, IfErr};
+ghost use Rattle.std.specs.Prelude.{OnOk, OnErr, Some, ◌≤◌, ◌-◌};
 ghost use Rattle.rowan_green.specs.declared.utility_types.NodeOrToken.TheVariants.{Node};
 ghost use Rattle.rowan_green.specs.Fits.{FitsNode};
 ghost use Rattle.rowan_green.specs.Lent.{pointee};
+ghost use Rattle.rowan_green.specs.Path.{begins};
 ghost use Rattle.rowan_cursor.specs.Cursor.{index, kind, term_at, text_range};
 ghost use Rattle.rowan_cursor.specs.Moves.{parent, first_child_or_token, last_child_or_token};
 ghost use Rattle.rowan_cursor.specs.Moves.{next_sibling_or_token, prev_sibling_or_token};
 ghost use Rattle.rowan_cursor.specs.Moves.{child_or_token_at_index, child_count, cursor_at};
 ghost use Rattle.rowan_cursor.specs.Replacement.{with_replacement, KeepsTheRest};
-ghost use Rattle.rowan_edit.specs.TreeCursorMoves.{Goes, GoesTo, GoesToChild, WhyNotReplaced};
+ghost use Rattle.rowan_cursor.specs.Search.{Covers};
+ghost use Rattle.rowan_edit.specs.TreeCursorMoves.{Goes, GoesTo, GoesToChild, GoesToCovering};
+ghost use Rattle.rowan_edit.specs.TreeCursorMoves.{GoesToByte, WhyNotReplaced};
 
 use rowan_green::fault::Fault;
 use rowan_green::green::{GreenElement, GreenElementRef, GreenNode, SyntaxKind};
@@ -114,6 +117,19 @@ impl<'tree> TreeCursor<'tree> {
         frame.index
     }
 
+    /// The way from the root to the element: of each child on it the index among all children of
+    /// its parent. None for the root. Refused only for want of memory.
+    pub fn path(&self, alloc: Global) -> Result<Vec<usize>, Fault>
+        ensures ok { IfOk result (λ path. path.items ≡ self.now.path) }
+        ensures err { IfErr result (λ e. e ≡ Fault.Memory) }
+    {
+        let mut path = Vec::with_capacity(alloc, self.above.len())?;
+        for frame in &self.above {
+            path.push(frame.index)?;
+        }
+        Ok(path)
+    }
+
     /// Goes to the child at an index among all children. `false` of a token, and past the last
     /// child. Refused only for want of memory, and then the cursor stays.
     pub fn goto_child_at_index(&mut self, index: usize) -> Result<bool, Fault>
@@ -159,6 +175,68 @@ impl<'tree> TreeCursor<'tree> {
             return Ok(false);
         };
         self.goto_child_at_index(found.0)
+    }
+
+    /// Goes down to the element that covers a range of the root's text, in bytes: to the child at
+    /// the range, to that one's child at the range, and so on, as long as there is one. The cursor
+    /// stays where no child has the whole range. Refused only for want of memory, and then it
+    /// stays, too.
+    pub fn goto_covering_element(&mut self, range: TextRange) -> Result<(), Fault>
+        ensures ok { OnOk result (GoesToCovering range self.old self.new) }
+        ensures err { IfErr result (λ e. e ≡ Fault.Memory) }
+        ensures unchanged { OnErr result (self.new ≡ self.old) }
+    {
+        let depth = self.depth();
+        match self.descend(range) {
+            Ok(()) => Ok(()),
+            Err(refusal) => {
+                self.climb_to(depth);
+                Err(refusal)
+            }
+        }
+    }
+
+    // Goes down to the element that covers a range, as far as there is memory.
+    fn descend(&mut self, range: TextRange) -> Result<(), Fault>
+        ensures ok { OnOk result (Covers self.old.root range self.old.path self.new.path) }
+        ensures err { IfErr result (λ e. e ≡ Fault.Memory) }
+        ensures root { self.new.root ≡ self.old.root }
+        ensures below { begins self.old.path self.new.path ≡ true }
+    {
+        while self.goto_child_at_range(range)? {}
+        Ok(())
+    }
+
+    // Goes up as long as more nodes than these stand above.
+    fn climb_to(&mut self, depth: usize)
+        ensures root { self.new.root ≡ self.old.root }
+        ensures path { self.new.path ≡ take depth self.old.path }
+    {
+        while self.depth() > depth {
+            self.goto_parent();
+        }
+    }
+
+    /// Goes down to the token with the byte at an offset of the root's text, if the element has
+    /// that byte: it begins at the offset or before, and ends behind it. So between two tokens it
+    /// is the one on the right, and tokens with no text are passed over. `false` where the offset
+    /// is before the element's text, at its end or behind it, and then the cursor stays. Refused
+    /// only for want of memory, and then it stays, too.
+    pub fn goto_offset(&mut self, offset: TextSize) -> Result<bool, Fault>
+        ensures ok { IfOk result (λ moved. GoesToByte offset self.old moved self.new) }
+        ensures err { IfErr result (λ e. e ≡ Fault.Memory) }
+        ensures unchanged { OnErr result (self.new ≡ self.old) }
+    {
+        let range = self.text_range();
+        if range.end() <= offset {
+            return Ok(false);
+        }
+        let byte = TextRange::at(offset, TextSize::from(1));
+        if !range.contains_range(byte) {
+            return Ok(false);
+        }
+        self.goto_covering_element(byte)?;
+        Ok(true)
     }
 
     // How many children the element has: none if it is a token.

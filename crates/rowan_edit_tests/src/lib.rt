@@ -1,9 +1,22 @@
-//! Tests of the tree cursor: a walk beside that of the cursors with a table, and a replacement.
+//! Tests of the editor, of the tree cursor and of rewritten tokens.
 #![tactic(auto)]
 
+pub mod calling;
+#[cfg(test)]
+mod drawn;
+#[cfg(test)]
+mod editor;
 #[cfg(test)]
 mod fixture;
 #[cfg(test)]
+mod green_editor;
+#[cfg(test)]
+mod moved;
+#[cfg(test)]
+mod offsets;
+#[cfg(test)]
 mod replacement;
+#[cfg(test)]
+mod rewriting;
 #[cfg(test)]
 mod walk;

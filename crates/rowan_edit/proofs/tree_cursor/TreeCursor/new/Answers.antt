@@ -1,4 +1,4 @@
-use Rattle.std.proofs.Common.{◌≡◌, [], sym, ◌∙◌, ap, subst, rules}
+use Rattle.std.proofs.Common.{[], sym, ◌∙◌, ap, subst, rules}
 use Rattle.rowan_green.specs.declared.utility_types.NodeOrToken.TheVariants.{Node}
 use Rattle.rowan_green.specs.Path.{subterm, offset}
 use Rattle.rowan_green.proofs.Paths.{offset-empty}

@@ -1,4 +1,4 @@
-use Rattle.std.proofs.Common.{◌≡◌, ◌≢◌, ◌+◌, ◌-◌, ◌<◌, length, take, sym, ◌∙◌, ap, subst, arith}
+use Rattle.std.proofs.Common.{◌≡◌, ◌≢◌, ◌+◌, ◌-◌, ◌<◌, length, sym, ◌∙◌, ap, subst, arith}
 use Rattle.std.specs.Prelude.{Some}
 use Rattle.std.specs.Option.{option_map}
 use Rattle.std.proofs.lemmas.Result.{err_from_is_err_and}
@@ -8,10 +8,9 @@ use Rattle.rowan_green.specs.Fits.{Fits}
 use Rattle.rowan_green.specs.Lent.{pointee}
 use Rattle.rowan_green.specs.Path.{put}
 use Rattle.rowan_green.specs.Term.{term_kind}
-use Rattle.rowan_cursor.specs.Cursor.{Cursor, kind, term_at}
+use Rattle.rowan_cursor.specs.Cursor.{Cursor, kind}
 use Rattle.rowan_cursor.specs.Replacement.{with_replacement}
 use Rattle.rowan_cursor.proofs.ReplaceLemmas.{keeps, put-own}
-use Rattle.rowan_edit.specs.TreeCursor.{path_of}
 use Rattle.rowan_edit.proofs.TreeCursorLemmas.{IsLast, frame-at, put-up, unfit-up}
 use Rattle.rowan_edit.proofs.TreeCursorReplaceLemmas.{put-top, why}
 use Rattle.rowan_edit.proofs.tree_cursor.TreeCursor.replace.Goals as goal

@@ -1,0 +1,122 @@
+-- A pass over the tokens of a tree: into a node, past a token, and back to the node above.
+use Rattle.std.proofs.Common.{◌≡◌, ◌+◌, List, [], ◌∷◌, ◌++◌, length}
+use Rattle.std.proofs.Common.{drop, Some, refl, sym, ◌∙◌, ap, arith}
+use Rattle.std.specs.Prelude.{slice_get}
+use Rattle.rowan_green.specs.declared.fault.Fault.{Fault}
+use Rattle.rowan_green.specs.declared.utility_types.NodeOrToken.TheVariants.{Node}
+use Rattle.rowan_green.specs.Fits.{PassesLimit}
+use Rattle.rowan_green.specs.Path.{subterm_of}
+use Rattle.rowan_green.specs.Sizes.{terms_size}
+use Rattle.rowan_green.specs.Term.{TokenTerm, NodeTerm, Term, node_of, node_kind, node_children}
+use Rattle.rowan_green.proofs.Terms.{terms-forest}
+use Rattle.rowan_edit.specs.declared.rewriting.Rewrite.{Rewrite}
+use Rattle.rowan_edit.specs.declared.rewriting.draft.Draft.{Draft}
+use Rattle.rowan_edit.specs.Rewriting.{HasNodePast}
+use Rattle.rowan_edit.specs.Drafts.{done, behind, tokens_in, rewritten_list}
+use Rattle.rowan_edit.specs.Drafts.{tokens_behind, whole, top, AreOpen, work_behind}
+
+-- ---- the nodes above: one more
+
+pub open-more : (ds : List Draft) (d : Draft) (n : NodeTerm) → AreOpen ds d.node.now
+    → slice_get (node_children d.node.now) d.next ≡ Some (Node n) → AreOpen (ds ++ d ∷ []) n
+open-more [] d n h at = (at, tt)
+open-more (c ∷ ds) d n h at = (
+  h.0 ∙ ap (λ m. Some (Node m)) (tops ds),
+  open-more ds d n h.1 at,
+)
+  where
+    tops : (es : List Draft) → top es d.node.now ≡ top (es ++ d ∷ []) n
+    tops [] = refl
+    tops (e ∷ es) = refl
+
+pub open-less : (ds : List Draft) (d : Draft) (n : NodeTerm) → AreOpen (ds ++ d ∷ []) n
+    → AreOpen ds d.node.now × (slice_get (node_children d.node.now) d.next ≡ Some (Node n))
+open-less [] d n h = (tt, h.0)
+open-less (c ∷ ds) d n h = let rest = open-less ds d n h.1 in (
+  (h.0 ∙ ap (λ m. Some (Node m)) (sym (tops ds)), rest.0),
+  rest.1,
+)
+  where
+    tops : (es : List Draft) → top es d.node.now ≡ top (es ++ d ∷ []) n
+    tops [] = refl
+    tops (e ∷ es) = refl
+
+pub behind-more : (ds : List Draft) (d : Draft) (inside : List TokenTerm)
+    → tokens_behind (ds ++ d ∷ []) inside ≡ tokens_behind ds (inside ++ tokens_in (behind d))
+behind-more [] d inside = refl
+behind-more (c ∷ ds) d inside = ap (λ ts. ts ++ tokens_in (behind c)) (behind-more ds d inside)
+
+pub work-more : (ds : List Draft) (d : Draft)
+    → work_behind (ds ++ d ∷ []) ≡ work_behind ds + (terms_size (behind d) + 1)
+work-more [] d = omega arith
+work-more (c ∷ ds) d = omega (arith, work-more ds d)
+
+-- the node of a draft round another one
+abbrev pub round : Draft → (List Rewrite → NodeTerm) → List TokenTerm → List Rewrite → NodeTerm
+round d inner inside answers = node_of (node_kind d.node.now)
+    (done d ++ Node (inner answers) ∷ rewritten_list (behind d) (drop (length inside) answers))
+
+pub whole-more : (ds : List Draft) (d : Draft) (inner : List Rewrite → NodeTerm)
+    (inside : List TokenTerm) (answers : List Rewrite)
+    → whole (ds ++ d ∷ []) inner inside answers
+    ≡ whole ds (round d inner inside) (inside ++ tokens_in (behind d)) answers
+whole-more [] d inner inside answers = refl
+whole-more (c ∷ ds) d inner inside answers =
+    ap (λ m. node_of (node_kind c.node.now) (done c ++ Node m ∷ rewritten_list (behind c)
+    (drop (length (tokens_behind (ds ++ d ∷ []) inside)) answers)))
+    (whole-more ds d inner inside answers)
+    ∙ ap (λ (ts : List TokenTerm). node_of (node_kind c.node.now) (done c
+    ++ Node (whole ds (round d inner inside) (inside ++ tokens_in (behind d)) answers)
+    ∷ rewritten_list (behind c) (drop (length ts) answers))) (behind-more ds d inside)
+
+-- the same tree inside
+pub whole-same : (ds : List Draft) (inner other : List Rewrite → NodeTerm) (inside : List TokenTerm)
+    (answers : List Rewrite) → inner answers ≡ other answers
+    → whole ds inner inside answers ≡ whole ds other inside answers
+whole-same [] inner other inside answers h = h
+whole-same (c ∷ ds) inner other inside answers h =
+    ap (λ m. node_of (node_kind c.node.now) (done c ++ Node m ∷ rewritten_list (behind c)
+    (drop (length (tokens_behind ds inside)) answers))) (whole-same ds inner other inside answers h)
+
+-- the first token inside has its turn
+pub behind-next : (ds : List Draft) (t : TokenTerm) (inside : List TokenTerm)
+    → tokens_behind ds (t ∷ inside) ≡ t ∷ tokens_behind ds inside
+behind-next [] t inside = refl
+behind-next (c ∷ ds) t inside = ap (λ ts. ts ++ tokens_in (behind c)) (behind-next ds t inside)
+
+pub whole-next : (ds : List Draft) (inner other : List Rewrite → NodeTerm) (t : TokenTerm)
+    (inside : List TokenTerm) (a : Rewrite) (more : List Rewrite) → inner (a ∷ more) ≡ other more
+    → whole ds inner (t ∷ inside) (a ∷ more) ≡ whole ds other inside more
+whole-next [] inner other t inside a more h = h
+whole-next (c ∷ ds) inner other t inside a more h =
+    ap (λ (ts : List TokenTerm). node_of (node_kind c.node.now) (done c
+    ++ Node (whole ds inner (t ∷ inside) (a ∷ more)) ∷ rewritten_list (behind c)
+    (drop (length ts) (a ∷ more)))) (behind-next ds t inside)
+    ∙ ap (λ m. node_of (node_kind c.node.now) (done c ++ Node m ∷ rewritten_list (behind c)
+    (drop (length (tokens_behind ds inside)) more))) (whole-next ds inner other t inside a more h)
+
+-- ---- where a node of the new tree stands
+
+get-middle : (ts us : List Term) (t : Term) → slice_get (ts ++ t ∷ us) (length ts) ≡ Some t
+get-middle [] us t = refl
+get-middle (x ∷ ts) us t = get-middle ts us t
+
+pub past-whole : (ds : List Draft) (inner : List Rewrite → NodeTerm) (inside : List TokenTerm)
+    (answers : List Rewrite) (fault : Fault) → PassesLimit (node_children (inner answers)) fault
+    → HasNodePast (whole ds inner inside answers) fault
+past-whole [] inner inside answers fault h =
+    record { path = []; node = inner answers; stands = refl; passes = h }
+past-whole (c ∷ ds) inner inside answers fault h =
+    let rest = past-whole ds inner inside answers fault h in
+    let m = whole ds inner inside answers in
+    let ts = done c ++ Node m ∷ rewritten_list (behind c)
+    (drop (length (tokens_behind ds inside)) answers) in
+    record {
+      path = length (done c) ∷ rest.path;
+      node = rest.node;
+      stands = ap (λ us. subterm_of (slice_get us (length (done c))) rest.path) (terms-forest ts)
+          ∙ ap (λ o. subterm_of o rest.path) (get-middle (done c) (rewritten_list (behind c)
+          (drop (length (tokens_behind ds inside)) answers)) (Node m))
+          ∙ rest.stands;
+      passes = rest.passes;
+    }

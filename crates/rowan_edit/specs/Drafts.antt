@@ -1,0 +1,126 @@
+-- A pass over the tokens of a tree: which tokens are left, and what tree the rest of the answers
+-- make of it. The nodes above the one where it is are listed from the root on.
+use Rattle.std.specs.Prelude.{◌≡◌, ℕ, ◌+◌, ◌<◌, List, [], ◌∷◌, ◌++◌, take, drop, length, Option}
+use Rattle.std.specs.Prelude.{Some, None, Vec, slice_get}
+use Rattle.std.specs.List.{flat_map}
+use Rattle.rowan_green.specs.declared.utility_types.NodeOrToken.TheVariants.{Node, Token}
+use Rattle.rowan_green.specs.Path.{tokens}
+use Rattle.rowan_green.specs.Sizes.{terms_size}
+use Rattle.rowan_green.specs.Term.{TokenTerm, NodeTerm, Term, node_of, node_kind, node_children}
+use Rattle.rowan_edit.specs.declared.rewriting.Rewrite.{Rewrite}
+use Rattle.rowan_edit.specs.declared.rewriting.draft.Draft.{Draft}
+use Rattle.rowan_edit.specs.declared.rewriting.pass.Pass.{Pass}
+use Rattle.rowan_edit.specs.declared.rewriting.pass.Left.{Left}
+use Rattle.rowan_edit.specs.declared.rewriting.pass.Left.TheVariants.{ToParent, Tree}
+use Rattle.rowan_edit.specs.Rewriting.{in_place, first_answer, rewritten}
+
+-- ---- one node
+
+abbrev pub items_or : {Z : Type 0} → Option (Vec Term Z) → List Term → List Term
+items_or None kept = kept
+items_or (Some new) kept = new.items
+
+-- what came in the place of the children before the one whose turn it is
+abbrev pub done : Draft → List Term
+done d = items_or d.changed (take d.next (node_children d.node.now))
+
+-- the new node, or else the old one
+abbrev pub closed : NodeTerm → Option NodeTerm → NodeTerm
+closed old None = old
+closed old (Some new) = new
+
+-- the children from the one on whose turn it is, and those behind it
+abbrev pub to_do : Draft → List Term
+to_do d = drop d.next (node_children d.node.now)
+
+abbrev pub behind : Draft → List Term
+behind d = drop (d.next + 1) (node_children d.node.now)
+
+abbrev pub tokens_in : List Term → List TokenTerm
+tokens_in ts = flat_map tokens ts
+
+-- what comes in the place of these children
+abbrev pub rewritten_child : Term → List Rewrite → List Term
+rewritten_child (Node n) answers = Node (rewritten n answers) ∷ []
+rewritten_child (Token t) answers = in_place t (first_answer answers)
+
+abbrev pub rewritten_list : List Term → List Rewrite → List Term
+rewritten_list [] answers = []
+rewritten_list (t ∷ ts) answers =
+    rewritten_child t answers ++ rewritten_list ts (drop (length (tokens t)) answers)
+
+-- the node, once the answers have come
+abbrev pub completed : Draft → List Rewrite → NodeTerm
+completed d answers = node_of (node_kind d.node.now) (done d ++ rewritten_list (to_do d) answers)
+
+-- ---- the nodes above
+
+-- the tokens behind these nodes, after those inside
+abbrev pub tokens_behind : List Draft → List TokenTerm → List TokenTerm
+tokens_behind [] inside = inside
+tokens_behind (d ∷ ds) inside = tokens_behind ds inside ++ tokens_in (behind d)
+
+-- the tree round a node, which the answers for the tokens inside it make
+abbrev pub whole : List Draft → (List Rewrite → NodeTerm) → List TokenTerm → List Rewrite → NodeTerm
+whole [] inner inside answers = inner answers
+whole (d ∷ ds) inner inside answers = node_of (node_kind d.node.now)
+    (done d ++ Node (whole ds inner inside answers)
+    ∷ rewritten_list (behind d) (drop (length (tokens_behind ds inside)) answers))
+
+-- the first of these nodes, or else the one below them
+abbrev pub top : List Draft → NodeTerm → NodeTerm
+top [] n = n
+top (d ∷ ds) n = d.node.now
+
+-- the child whose turn it is in each node is the next node
+abbrev pub AreOpen : List Draft → NodeTerm → Type 0
+AreOpen [] n = Unit {0}
+AreOpen (d ∷ ds) n =
+    (slice_get (node_children d.node.now) d.next ≡ Some (Node (top ds n))) × AreOpen ds n
+
+abbrev pub work_behind : List Draft → ℕ
+work_behind [] = 0
+work_behind (d ∷ ds) = terms_size (behind d) + 1 + work_behind ds
+
+-- ---- the pass
+
+abbrev pub IsPass : Pass → Type 0
+IsPass p = AreOpen p.above.items p.inner.node.now
+
+abbrev pub child_of : Pass → Option Term
+child_of p = slice_get (node_children p.inner.node.now) p.inner.next
+
+-- the tokens that are left
+abbrev pub left_of : Pass → List TokenTerm
+left_of p = tokens_behind p.above.items (tokens_in (to_do p.inner))
+
+-- the tree, once the answers for them have come
+abbrev pub tree_of : Pass → List Rewrite → NodeTerm
+tree_of p answers = whole p.above.items (completed p.inner) (tokens_in (to_do p.inner)) answers
+
+abbrev pub work_left : Pass → ℕ
+work_left p = work_behind p.above.items + (terms_size (to_do p.inner) + 1)
+
+-- the pass goes on, and no token has had its turn
+pub record Continues (old new : Pass) : Type 0 where
+  pub pass : IsPass new
+  pub left : left_of old ≡ left_of new
+  pub tree : (more : List Rewrite) → tree_of old more ≡ tree_of new more
+  pub work : work_left new < work_left old
+
+-- a token has had its turn, with this answer
+pub record Takes (t : TokenTerm) (answer : Rewrite) (old new : Pass) : Type 0 where
+  pub pass : IsPass new
+  pub left : left_of old ≡ t ∷ left_of new
+  pub tree : (more : List Rewrite) → tree_of old (answer ∷ more) ≡ tree_of new more
+  pub work : work_left new < work_left old
+
+-- the pass is at its end, with this root
+pub record Ends (old : Pass) (root : NodeTerm) : Type 0 where
+  pub left : left_of old ≡ []
+  pub tree : (more : List Rewrite) → tree_of old more ≡ root
+
+-- what comes of a pass when a node is done
+abbrev pub Leaves : Pass → Left → Type 0
+Leaves old (ToParent new) = Continues old new
+Leaves old (Tree root) = Ends old root

@@ -1,0 +1,248 @@
+//! An editor of the tree of a cursor.
+ghost use Rattle.std.specs.Prelude.{◌≡◌, ◌≢◌, ◌+◌, [], Some, None, IfOk, IfErr, OnOk, OnErr};
+ghost use Rattle.rowan_green.specs.declared.utility_types.NodeOrToken.TheVariants.{Node};
+ghost use Rattle.rowan_green.specs.Fits.{FitsNode};
+ghost use Rattle.rowan_cursor.specs.Cursor.{index};
+ghost use Rattle.rowan_cursor.specs.Moves.{place_of, parent, child_count};
+ghost use Rattle.rowan_edit.specs.Changes.{changes_of};
+ghost use Rattle.rowan_edit.specs.Cursors.{AtChild, WhyNotTaken, WhyNotTakenAt};
+ghost use Rattle.rowan_edit.specs.Edit.{Edit, edited};
+ghost use Rattle.rowan_edit.specs.Limits.{WhyNotEdited};
+ghost use Rattle.rowan_edit.specs.Plan.{with_edit};
+
+use crate::changes::Edited;
+use crate::green_editor::GreenEditor;
+use crate::refusal::Refusal;
+use rowan_cursor::cursor::{ElementCalls, SyntaxElement, SyntaxNode};
+use rowan_green::fault::Fault;
+use rowan_green::green::GreenElement;
+use std::alloc::Global;
+use std::marker::Model;
+use std::ops::Range;
+
+/// Edits of the tree of a cursor, which are made together, in one pass. Elements are named by
+/// cursors of the tree as it was given, whatever else is edited.
+#[derive(Drop)]
+pub struct Editor {
+    alloc: Global,
+    green: GreenEditor,
+}
+
+impl Model for Editor {
+    ghost use Rattle.rowan_edit.specs.Plan.{Plan};
+    ghost use Rattle.rowan_edit.specs.PlanCode.{coded_plan};
+
+    ghost Value = { Plan };
+
+    ghost coded = { coded_plan };
+
+    ghost view = { λ e. e.green };
+}
+
+impl Editor {
+    /// An editor of the whole tree that a node is in, which has no edits yet. Refused only for want
+    /// of memory.
+    pub fn new(alloc: Global, node: &SyntaxNode) -> Result<Editor, Fault>
+        ensures ok { IfOk result (λ e. e ≡ record { root = node.now.root; edits = [] }) }
+        ensures err { IfErr result (λ e. e ≡ Fault.Memory) }
+    {
+        let top = node.tree_top()?;
+        let green = GreenEditor::new(alloc, top.green())?;
+        Ok(Editor { alloc, green })
+    }
+
+    /// Puts elements in place of the children of a node from one index to another, the one at the
+    /// end not included. Refused with `OtherTree` where the tree has no node of this kind and
+    /// length of text at the node's place, and else as `GreenEditor::splice` is.
+    pub fn splice(
+        &mut self,
+        parent: &SyntaxNode,
+        children: Range<usize>,
+        new: Vec<GreenElement>,
+    ) -> Result<(), Refusal>
+        ensures ok { let edit : Edit = record {
+          parent = parent.now.path;
+          start = children.start;
+          end = children.end;
+          new = new.items;
+        } in
+            OnOk result (self.new ≡ with_edit self.old edit) }
+        ensures err { let edit : Edit = record {
+          parent = parent.now.path;
+          start = children.start;
+          end = children.end;
+          new = new.items;
+        } in
+            IfErr result (WhyNotTaken self.old parent.now edit) }
+        ensures unchanged { OnErr result (self.new ≡ self.old) }
+    {
+        let Ok(path) = path_to(self.alloc, parent) else {
+            return Err(Refusal::Memory);
+        };
+        if !self.green.has_node_like(&path, parent.green()) {
+            return Err(Refusal::OtherTree);
+        }
+        self.green.splice(&path, children, new)
+    }
+
+    /// Puts elements in place of one. Refused with `Root` of the root, and else as `splice` is.
+    pub fn replace(
+        &mut self,
+        element: &SyntaxElement,
+        new: Vec<GreenElement>,
+    ) -> Result<(), Refusal>
+        ensures ok { OnOk result (AtChild (place_of element.now) (λ path i.
+            self.new ≡ with_edit self.old
+            (record { parent = path; start = i; end = i + 1; new = new.items }))) }
+        ensures err { IfErr result (WhyNotTakenAt self.old (place_of element.now) (λ path i.
+            record { parent = path; start = i; end = i + 1; new = new.items })) }
+        ensures unchanged { OnErr result (self.new ≡ self.old) }
+    {
+        let child = child_at(element)?;
+        self.splice(&child.parent, child.start..child.end, new)
+    }
+
+    /// Takes an element away. Refused as `replace` is.
+    pub fn delete(&mut self, element: &SyntaxElement) -> Result<(), Refusal>
+        ensures ok { OnOk result (AtChild (place_of element.now) (λ path i.
+            self.new ≡ with_edit self.old
+            (record { parent = path; start = i; end = i + 1; new = [] }))) }
+        ensures err { IfErr result (WhyNotTakenAt self.old (place_of element.now) (λ path i.
+            record { parent = path; start = i; end = i + 1; new = [] })) }
+        ensures unchanged { OnErr result (self.new ≡ self.old) }
+    {
+        self.replace(element, Vec::new(self.alloc))
+    }
+
+    /// Puts elements before one, behind those that were put there earlier. Refused as `replace` is.
+    pub fn insert_before(
+        &mut self,
+        element: &SyntaxElement,
+        new: Vec<GreenElement>,
+    ) -> Result<(), Refusal>
+        ensures ok { OnOk result (AtChild (place_of element.now) (λ path i.
+            self.new ≡ with_edit self.old
+            (record { parent = path; start = i; end = i; new = new.items }))) }
+        ensures err { IfErr result (WhyNotTakenAt self.old (place_of element.now) (λ path i.
+            record { parent = path; start = i; end = i; new = new.items })) }
+        ensures unchanged { OnErr result (self.new ≡ self.old) }
+    {
+        let child = child_at(element)?;
+        self.splice(&child.parent, child.start..child.start, new)
+    }
+
+    /// Puts elements behind one, and behind those that were put there earlier. Refused as `replace`
+    /// is.
+    pub fn insert_after(
+        &mut self,
+        element: &SyntaxElement,
+        new: Vec<GreenElement>,
+    ) -> Result<(), Refusal>
+        ensures ok { OnOk result (AtChild (place_of element.now) (λ path i.
+            self.new ≡ with_edit self.old
+            (record { parent = path; start = i + 1; end = i + 1; new = new.items }))) }
+        ensures err { IfErr result (WhyNotTakenAt self.old (place_of element.now) (λ path i.
+            record { parent = path; start = i + 1; end = i + 1; new = new.items })) }
+        ensures unchanged { OnErr result (self.new ≡ self.old) }
+    {
+        let child = child_at(element)?;
+        self.splice(&child.parent, child.end..child.end, new)
+    }
+
+    /// Puts elements before the first child of a node. Refused as `splice` is.
+    pub fn prepend(&mut self, parent: &SyntaxNode, new: Vec<GreenElement>) -> Result<(), Refusal>
+        ensures ok { let edit : Edit = record {
+          parent = parent.now.path;
+          start = 0;
+          end = 0;
+          new = new.items;
+        } in OnOk result (self.new ≡ with_edit self.old edit) }
+        ensures err { let edit : Edit = record {
+          parent = parent.now.path;
+          start = 0;
+          end = 0;
+          new = new.items;
+        } in IfErr result (WhyNotTaken self.old parent.now edit) }
+        ensures unchanged { OnErr result (self.new ≡ self.old) }
+    {
+        self.splice(parent, 0..0, new)
+    }
+
+    /// Puts elements behind the last child of a node. Refused as `splice` is.
+    pub fn append(&mut self, parent: &SyntaxNode, new: Vec<GreenElement>) -> Result<(), Refusal>
+        ensures ok { let count = child_count parent.now.root parent.now.path in
+            let edit : Edit = record {
+              parent = parent.now.path;
+              start = count;
+              end = count;
+              new = new.items;
+            } in OnOk result (self.new ≡ with_edit self.old edit) }
+        ensures err { let count = child_count parent.now.root parent.now.path in
+            let edit : Edit = record {
+              parent = parent.now.path;
+              start = count;
+              end = count;
+              new = new.items;
+            } in IfErr result (WhyNotTaken self.old parent.now edit) }
+        ensures unchanged { OnErr result (self.new ≡ self.old) }
+    {
+        let count = parent.green().children().len();
+        self.splice(parent, count..count, new)
+    }
+
+    /// The tree with all edits made, and the change that each of them makes in the text. Refused
+    /// with `TextTooLong` or `TooManyChildren` where a node of that tree would pass a limit, and
+    /// else only for want of memory.
+    pub fn finish(self) -> Result<Edited, Fault>
+        ensures green { IfOk result (λ e. Node e.green ≡ edited (Node self.root) self.edits) }
+        ensures changes { IfOk result (λ e. e.changes ≡ changes_of (Node self.root) self.edits) }
+        ensures fits { IfOk result (λ e. FitsNode e.green) }
+        ensures err { IfErr result (WhyNotEdited (edited (Node self.root) self.edits)) }
+    {
+        self.green.finish()
+    }
+}
+
+/// A child by its parent and the indexes before and behind it.
+#[derive(Drop)]
+struct Child {
+    parent: SyntaxNode,
+    start: usize,
+    end: usize,
+}
+
+/// The child that an element is. Refused with `Root` of the root.
+fn child_at(element: &SyntaxElement) -> Result<Child, Refusal>
+    ensures parent { IfOk result (λ c. parent (place_of element.now) ≡ Some c.parent) }
+    ensures start { IfOk result (λ c. c.start ≡ index (place_of element.now)) }
+    ensures end { IfOk result (λ c. c.end ≡ c.start + 1) }
+    ensures err { IfErr result (λ e. e ≢ Refusal.Memory
+        → (e ≡ Refusal.Root) × (parent (place_of element.now) ≡ None)) }
+{
+    let Ok(found) = element.parent() else {
+        return Err(Refusal::Memory);
+    };
+    let Some(parent) = found else {
+        return Err(Refusal::Root);
+    };
+    let start = element.index();
+    // No node has so many children that there is no next index.
+    let Some(end) = start.checked_add(1) else {
+        return Err(Refusal::Memory);
+    };
+    Ok(Child { parent, start, end })
+}
+
+/// The path of a node: the indexes on the way down to it.
+fn path_to(alloc: Global, node: &SyntaxNode) -> Result<Vec<usize>, Fault>
+    ensures { IfOk result (λ path. path.items ≡ node.now.path) }
+{
+    let mut path = Vec::new(alloc);
+    let mut at = node.clone()?;
+    while let Some(parent) = at.parent()? {
+        path.push(at.index())?;
+        at = parent;
+    }
+    path.reverse();
+    Ok(path)
+}

@@ -1,0 +1,287 @@
+//! An editor of a green tree.
+ghost use Rattle.std.specs.Prelude.{◌≡◌, List, [], false, IfOk, IfErr, OnOk, OnErr};
+ghost use Rattle.std.specs.Prelude.{◌≢◌, ◌≤◌, ◌+◌, true, length, take, drop, Some, IfSome, IsNone};
+ghost use Rattle.std.specs.List.{AllByRecursion};
+ghost use Rattle.rowan_green.specs.declared.utility_types.NodeOrToken.TheVariants.{Node};
+ghost use Rattle.rowan_green.specs.Fits.{FitsNode, byte_limit};
+ghost use Rattle.rowan_green.specs.Path.{subterm, offset};
+ghost use Rattle.rowan_green.specs.Search.{child_start};
+ghost use Rattle.rowan_green.specs.Term.{NodeTerm, node_children, node_len};
+ghost use Rattle.rowan_edit.specs.Changes.{changes_of};
+ghost use Rattle.rowan_edit.specs.Edit.{Edit, edited, conflicts, ends_before};
+ghost use Rattle.rowan_edit.specs.Plan.{with_edit, IsOf, WhyRefused, EndInTurn, HasConflict};
+ghost use Rattle.rowan_edit.specs.GreenEditor.{edit_of, edits_of, IsPlaceFor, IsEditIn};
+ghost use Rattle.rowan_edit.specs.Limits.{WhyNotEdited};
+
+use crate::changes::{Changes, Edited};
+use crate::edit::{Splice, changes_of};
+use crate::refusal::Refusal;
+use crate::zipper::Zipper;
+use rowan_green::fault::Fault;
+use rowan_green::green::{GreenElement, GreenNode};
+use rowan_green::text::{TextRange, TextSize};
+use rowan_green::utility_types::NodeOrToken;
+use std::alloc::Global;
+use std::marker::Model;
+use std::ops::Range;
+
+/// Edits of one green tree, which are made together, in one pass. All places are those of the tree
+/// as it was given, whatever else is edited.
+#[derive(Drop)]
+pub struct GreenEditor {
+    alloc: Global,
+    root: GreenNode,
+    edits: Vec<Splice>,
+}
+
+impl Model for GreenEditor {
+    ghost use Rattle.rowan_edit.specs.Plan.{Plan};
+    ghost use Rattle.rowan_edit.specs.PlanCode.{coded_plan};
+
+    ghost Value = { Plan };
+
+    ghost coded = { coded_plan };
+
+    ghost use Rattle.rowan_edit.specs.GreenEditor.{edits_of, AreKept};
+
+    ghost view = { λ e. record { root = e.root; edits = edits_of e.edits.items } };
+
+    ghost invariant = { λ e. AreKept e.root e.edits.items };
+}
+
+impl GreenEditor {
+    /// An editor of a tree, which has no edits yet. Refused only for want of memory.
+    pub fn new(alloc: Global, root: &GreenNode) -> Result<GreenEditor, Fault>
+        ensures ok { IfOk result (λ e. e ≡ record { root = root.now; edits = [] }) }
+        ensures err { IfErr result (λ e. e ≡ Fault.Memory) }
+    {
+        Ok(GreenEditor {
+            alloc,
+            root: root.clone()?,
+            edits: Vec::new(alloc),
+        })
+    }
+
+    /// Puts elements in place of the children of a node from one index to another, the one at the
+    /// end not included. The node is the one at a path: the indexes, among all children, on the way
+    /// from the root down to it. Elements that come into one gap keep the order in which they are
+    /// given.
+    pub fn splice(
+        &mut self,
+        parent: &[usize],
+        children: Range<usize>,
+        new: Vec<GreenElement>,
+    ) -> Result<(), Refusal>
+        ensures ok { let edit : Edit = record {
+          parent = parent.now;
+          start = children.start;
+          end = children.end;
+          new = new.items;
+        } in OnOk result (self.new ≡ with_edit self.old edit) }
+        ensures place { let edit : Edit = record {
+          parent = parent.now;
+          start = children.start;
+          end = children.end;
+          new = new.items;
+        } in OnOk result (IsOf self.old.root edit) }
+        ensures apart { let edit : Edit = record {
+          parent = parent.now;
+          start = children.start;
+          end = children.end;
+          new = new.items;
+        } in
+            OnOk result (AllByRecursion (λ e. conflicts e edit ≡ false) self.old.edits) }
+        ensures err { let edit : Edit = record {
+          parent = parent.now;
+          start = children.start;
+          end = children.end;
+          new = new.items;
+        } in IfErr result (WhyRefused self.old edit) }
+        ensures unchanged { OnErr result (self.new ≡ self.old) }
+    {
+        let edit = edit_in(self.alloc, &self.root, parent, children, new)?;
+        let Some(index) = place_for(&self.edits, &edit) else {
+            return Err(Refusal::Conflict);
+        };
+        self.edits.insert(index, edit)?;
+        Ok(())
+    }
+
+    /// Whether a node of the kind and with the length of text of another one stands at a path.
+    pub(crate) fn has_node_like(&self, path: &[usize], node: &GreenNode) -> bool
+        ensures { subterm (Node self.now.root) path.now ≡ Some (Node node.now) → result ≡ true }
+    {
+        let Some(found) = place_at(&self.root, path) else {
+            return false;
+        };
+        found.node.kind() == node.kind() && found.node.text_len() == node.text_len()
+    }
+
+    /// The tree with all edits made, and the change that each of them makes in the text. Refused
+    /// with `TextTooLong` or `TooManyChildren` where a node of that tree would pass a limit, and
+    /// else only for want of memory.
+    pub fn finish(self) -> Result<Edited, Fault>
+        ensures green { IfOk result (λ e. Node e.green ≡ edited (Node self.root) self.edits) }
+        ensures changes { IfOk result (λ e. e.changes ≡ changes_of (Node self.root) self.edits) }
+        ensures fits { IfOk result (λ e. FitsNode e.green) }
+        ensures err { IfErr result (WhyNotEdited (edited (Node self.root) self.edits)) }
+    {
+        let alloc = self.alloc;
+        let list = changes_of(alloc, &self.edits)?;
+        let green = self.new_root()?;
+        let changes = Changes::new(alloc, list)?;
+        Ok(Edited { green, changes })
+    }
+
+    // The root of the tree with all edits made.
+    fn new_root(self) -> Result<GreenNode, Fault>
+        ensures ok { IfOk result (λ n. Node n ≡ edited (Node self.root) self.edits) }
+        ensures fits { IfOk result FitsNode }
+        ensures err { IfErr result (WhyNotEdited (edited (Node self.root) self.edits)) }
+    {
+        let GreenEditor {
+            alloc,
+            root,
+            mut edits,
+        } = self;
+        let mut zipper = Zipper::new(alloc, &root);
+        while let Some(edit) = edits.pop() {
+            let Splice {
+                parent,
+                start,
+                end,
+                range: _,
+                new,
+            } = edit;
+            zipper = zipper.go_to(alloc, &parent, end)?;
+            zipper = zipper.splice(start, end, new)?;
+        }
+        zipper.close()
+    }
+}
+
+/// An edit of a tree. Refused with `NotFound` where the tree has no such place, and with `Memory`.
+fn edit_in(
+    alloc: Global,
+    root: &GreenNode,
+    parent: &[usize],
+    children: Range<usize>,
+    new: Vec<GreenElement>,
+) -> Result<Splice, Refusal>
+    ensures ok { let edit : Edit = record {
+      parent = parent.now;
+      start = children.start;
+      end = children.end;
+      new = new.items;
+    } in IfOk result (IsEditIn root.now edit) }
+    ensures err { (edits : List Edit) → let edit : Edit = record {
+      parent = parent.now;
+      start = children.start;
+      end = children.end;
+      new = new.items;
+    } in IfErr result (WhyRefused (record { root = root.now; edits = edits }) edit) }
+{
+    let Some(place) = place_at(root, parent) else {
+        return Err(Refusal::NotFound);
+    };
+    if children.start > children.end || children.end > place.node.children().len() {
+        return Err(Refusal::NotFound);
+    }
+    let parent = Vec::from_slice(alloc, parent)?;
+    Ok(Splice {
+        parent,
+        start: children.start,
+        end: children.end,
+        range: place.range_of(children),
+        new,
+    })
+}
+
+/// A node of a tree, and where its text starts in that of the root.
+#[derive(Clone, Copy)]
+struct Place<'tree> {
+    node: &'tree GreenNode,
+    start: TextSize,
+}
+
+impl Place<'_> {
+    /// Where the children from one index to another lie in the text of the root.
+    fn range_of(&self, children: Range<usize>) -> TextRange
+        requires order { children.start ≤ children.end }
+        requires fits { self.now.start + node_len self.now.node.now ≤ byte_limit }
+        ensures { let all = node_children self.now.node.now in result ≡ record {
+          start = self.now.start + child_start all children.start;
+          end = self.now.start + child_start all children.end;
+        } }
+    {
+        let start = start_of_child(self.node, children.start);
+        let end = start_of_child(self.node, children.end);
+        TextRange::new(
+            TextRange::at(self.start, start).end(),
+            TextRange::at(self.start, end).end(),
+        )
+    }
+}
+
+/// How many bytes of a node's text stand before the child at an index: all, if none is there.
+fn start_of_child(node: &GreenNode, index: usize) -> TextSize
+    ensures { result ≡ child_start (node_children node.now) index }
+{
+    match node.child_ref(index) {
+        Some(child) => child.0,
+        None => node.text_len(),
+    }
+}
+
+/// The node at a path.
+fn place_at<'tree>(root: &'tree GreenNode, path: &[usize]) -> Option<Place<'tree>>
+    ensures some { IfSome result (λ p. subterm (Node root.now) path.now ≡ Some (Node p.node.now)) }
+    ensures start { IfSome result (λ p. p.start ≡ offset (Node root.now) path.now) }
+    ensures fits { IfSome result (λ p. p.start + node_len p.node.now ≤ byte_limit) }
+    ensures none { IsNone result → (n : NodeTerm)
+        → subterm (Node root.now) path.now ≢ Some (Node n) }
+{
+    // A tree is within the limits, and with it each offset of the text.
+    let _text_len = root.text_len();
+    let mut node = root;
+    let mut start = TextSize::from(0);
+    for index in path {
+        let Some(found) = node.child_ref(*index) else {
+            return None;
+        };
+        let NodeOrToken::Node(child) = found.1 else {
+            return None;
+        };
+        start = TextRange::at(start, found.0).end();
+        node = child;
+    }
+    Some(Place { node, start })
+}
+
+/// How many edits end before another one begins, which they are asked by halves.
+fn place_among(edits: &[Splice], edit: &Splice) -> usize
+    requires { EndInTurn (edits_of edits.now) }
+    ensures within { result ≤ length edits.now }
+    ensures before { AllByRecursion (λ e. ends_before e (edit_of edit.now) ≡ true)
+        (edits_of (take result edits.now)) }
+    ensures behind { AllByRecursion (λ e. ends_before e (edit_of edit.now) ≡ false)
+        (edits_of (drop result edits.now)) }
+{
+    edits.partition_point(|other| other.ends_before(edit))
+}
+
+/// Where another edit comes among edits that stand in order. `None` where it conflicts with one.
+fn place_for(edits: &[Splice], edit: &Splice) -> Option<usize>
+    requires { EndInTurn (edits_of edits.now) }
+    ensures some { IfSome result (IsPlaceFor edits.now (edit_of edit.now)) }
+    ensures none { IsNone result → HasConflict (edits_of edits.now) (edit_of edit.now) }
+{
+    let index = place_among(edits, edit);
+    let Some(next) = edits.get(index) else {
+        return Some(index);
+    };
+    if edit.ends_before(next) {
+        return Some(index);
+    }
+    None
+}

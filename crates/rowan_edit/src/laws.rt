@@ -1,0 +1,79 @@
+//! Laws of edits, each as the contract of a function that does nothing.
+ghost use Rattle.std.specs.Prelude.{◌≡◌, ◌≤◌, ◌<◌, ◌+◌, ℕ, List, [], ◌∷◌, ◌++◌, length};
+ghost use Rattle.std.specs.Prelude.{true, false, Some, ◌↔◌, IsPermutation};
+ghost use Rattle.std.specs.List.{AllByRecursion};
+ghost use Rattle.rowan_green.specs.declared.utility_types.NodeOrToken.TheVariants.{Node};
+ghost use Rattle.rowan_green.specs.Fits.{Fits};
+ghost use Rattle.rowan_green.specs.Path.{Path, subterm, put, range, shifted};
+ghost use Rattle.rowan_green.specs.Replacements.{Replacement, Makes};
+ghost use Rattle.rowan_green.specs.Term.{NodeTerm, Term, term_text, term_len, node_children};
+ghost use Rattle.rowan_edit.specs.Changes.{changes_of, edits_before, old_bytes, new_bytes};
+ghost use Rattle.rowan_edit.specs.Changes.{moved_through};
+ghost use Rattle.rowan_edit.specs.Edit.{Edit, edited, edited_once, ends_before};
+ghost use Rattle.rowan_edit.specs.Edit.{conflicts, EditsOverlap};
+ghost use Rattle.rowan_edit.specs.Moved.{moved_by, IsUntouchedBy};
+ghost use Rattle.rowan_edit.specs.Orders.{AreReplacements};
+ghost use Rattle.rowan_edit.specs.Plan.{Plan, EndInTurn, AreInOrder, with_edit};
+ghost use Rattle.rowan_edit.specs.TextWith.{text_with};
+
+/// An element that no edit takes away, and in which none stands, is in the edited tree as it was.
+pub fn untouched_elements_stay()
+    ensures { (t : Term) (es : List Edit) (p : Path) (u : Term) → EndInTurn es
+        → AllByRecursion (λ e. IsUntouchedBy e p) es → subterm t p ≡ Some u
+        → subterm (edited t es) (moved_by es p) ≡ Some u }
+{}
+
+/// The range of such an element is moved by the differences of the edits that end before it: by as
+/// many bytes as they make the text longer or shorter.
+pub fn untouched_ranges_are_shifted()
+    ensures { (root : NodeTerm) (es : List Edit) (p : Path) (u : Term) → AreInOrder root es
+        → AllByRecursion (λ e. IsUntouchedBy e p) es → subterm (Node root) p ≡ Some u
+        → let before = changes_of (Node root) (edits_before p es) in
+        range (edited (Node root) es) (moved_by es p)
+        ≡ shifted (old_bytes before) (new_bytes before) (range (Node root) p) }
+{}
+
+/// The range of such an element that has text is where the changes of the edits move it.
+pub fn changes_move_untouched_ranges()
+    ensures { (root : NodeTerm) (es : List Edit) (p : Path) (u : Term) → AreInOrder root es
+        → AllByRecursion (λ e. IsUntouchedBy e p) es → subterm (Node root) p ≡ Some u
+        → 0 < term_len u → Fits (edited (Node root) es)
+        → moved_through (changes_of (Node root) es) (range (Node root) p)
+        ≡ Some (range (edited (Node root) es) (moved_by es p)) }
+{}
+
+/// Of two edits of which only the first ends before the other begins, either may be added first.
+pub fn the_order_of_edits_says_nothing()
+    ensures { (plan : Plan) (e : Edit) (f : Edit) → e.start ≤ e.end → ends_before e f ≡ true
+        → ends_before f e ≡ false
+        → with_edit (with_edit plan e) f ≡ with_edit (with_edit plan f) e }
+{}
+
+/// The new text is the old one, with the range that each edit has in the old text replaced by the
+/// texts of its new elements.
+pub fn the_text_is_spliced()
+    ensures { (root : NodeTerm) (es : List Edit) → AreInOrder root es
+        → term_text (edited (Node root) es) ≡ text_with (Node root) es }
+{}
+
+/// An edit that puts one element in place of one child is the replacement at the child's path.
+pub fn one_for_one_is_a_replacement()
+    ensures { (t : Term) (p : Path) (i : ℕ) (u : Term) (n : NodeTerm)
+        → subterm t p ≡ Some (Node n) → i < length (node_children n)
+        → edited_once t (record { parent = p; start = i; end = i + 1; new = u ∷ [] })
+        ≡ put t (p ++ i ∷ []) u }
+{}
+
+/// Edits that each put one element in place of one child make the tree that the replacements at
+/// the children's paths make, one after the other in any order.
+pub fn replacements_may_come_in_any_order()
+    ensures { (root : NodeTerm) (es : List Edit) (rs : List Replacement) (ss : List Replacement)
+        → AreInOrder root es → AreReplacements es rs → IsPermutation rs ss
+        → Makes (Node root) ss (edited (Node root) es) }
+{}
+
+/// Two edits conflict exactly where both take away one child, or one of them is inside of what the
+/// other takes away.
+pub fn conflicts_are_overlaps()
+    ensures { (e : Edit) (f : Edit) → (conflicts e f ≡ true) ↔ EditsOverlap e f }
+{}
