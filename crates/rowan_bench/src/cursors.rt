@@ -1,6 +1,7 @@
 //! Trees as tables: filling one, a walk through all of it, and random moves.
 
 use crate::draws::Draws;
+use crate::{borrowed, tree_cursors};
 use anyhow::Result;
 use rowan::cursor::{ElementCalls, SyntaxElement, SyntaxNode};
 use rowan::{Fault, GreenNode, NodeOrToken, TextSize};
@@ -23,6 +24,16 @@ pub enum Operation {
     Move,
     /// Moves are made from a root that is there, between nodes.
     Nodes,
+    /// The same walk by borrowed cursors.
+    WalkByRefs,
+    /// All nodes and tokens by loops over the borrowed children of each node.
+    LoopsByRefs,
+    /// The same walk by a cursor that costs no table.
+    TreeWalk,
+    /// The moves between nodes and tokens by borrowed cursors.
+    MoveByRefs,
+    /// The moves between nodes by borrowed cursors.
+    NodesByRefs,
 }
 
 impl Operation {
@@ -34,6 +45,11 @@ impl Operation {
             "walk" => Some(Operation::Walk),
             "move" => Some(Operation::Move),
             "nodes" => Some(Operation::Nodes),
+            "tree_walk" => Some(Operation::TreeWalk),
+            "walk_by_refs" => Some(Operation::WalkByRefs),
+            "loops_by_refs" => Some(Operation::LoopsByRefs),
+            "move_by_refs" => Some(Operation::MoveByRefs),
+            "nodes_by_refs" => Some(Operation::NodesByRefs),
             _ => None,
         }
     }
@@ -48,7 +64,7 @@ pub struct Visited {
 
 /// One of the moves that are drawn.
 #[derive(Clone, Copy)]
-enum Move {
+pub enum Move {
     Parent,
     FirstChild,
     LastChild,
@@ -107,7 +123,7 @@ fn make_moves(root: &SyntaxNode, moves: &[Move]) -> Result<Visited, Fault> {
 
 /// One of the moves between nodes that are drawn.
 #[derive(Clone, Copy)]
-enum NodeMove {
+pub enum NodeMove {
     Parent,
     NextSibling,
     FirstChild,
@@ -200,9 +216,14 @@ fn next_of(place: &SyntaxElement) -> Result<Option<SyntaxElement>, Fault> {
 enum Turn {
     Fill,
     Whole,
+    TreeWalk,
     Walk(SyntaxNode),
     Move(SyntaxNode, Vec<Move>),
     Nodes(SyntaxNode, Vec<NodeMove>),
+    WalkByRefs(SyntaxNode),
+    LoopsByRefs(SyntaxNode),
+    MoveByRefs(SyntaxNode, Vec<Move>),
+    NodesByRefs(SyntaxNode, Vec<NodeMove>),
 }
 
 /// What a turn made.
@@ -215,11 +236,20 @@ enum Made {
 impl Turn {
     fn new(alloc: Global, green: &GreenNode, operation: Operation) -> Result<Turn, Fault> {
         match operation {
-            Operation::Fill => Ok(Turn::Fill),
-            Operation::Whole => Ok(Turn::Whole),
-            Operation::Walk => Ok(Turn::Walk(root_of(alloc, green)?)),
-            Operation::Move => Ok(Turn::Move(root_of(alloc, green)?, drawn_moves(alloc)?)),
-            Operation::Nodes => Ok(Turn::Nodes(root_of(alloc, green)?, drawn_node_moves(alloc)?)),
+            Operation::Fill => return Ok(Turn::Fill),
+            Operation::Whole => return Ok(Turn::Whole),
+            Operation::TreeWalk => return Ok(Turn::TreeWalk),
+            _ => (),
+        }
+        let root = root_of(alloc, green)?;
+        match operation {
+            Operation::Move => Ok(Turn::Move(root, drawn_moves(alloc)?)),
+            Operation::Nodes => Ok(Turn::Nodes(root, drawn_node_moves(alloc)?)),
+            Operation::WalkByRefs => Ok(Turn::WalkByRefs(root)),
+            Operation::LoopsByRefs => Ok(Turn::LoopsByRefs(root)),
+            Operation::MoveByRefs => Ok(Turn::MoveByRefs(root, drawn_moves(alloc)?)),
+            Operation::NodesByRefs => Ok(Turn::NodesByRefs(root, drawn_node_moves(alloc)?)),
+            _ => Ok(Turn::Walk(root)),
         }
     }
 
@@ -227,9 +257,18 @@ impl Turn {
         match self {
             Turn::Fill => Ok(Made::Root(root_of(alloc, green)?)),
             Turn::Whole => Ok(Made::Visited(walk(&root_of(alloc, green)?)?)),
+            Turn::TreeWalk => Ok(Made::Visited(tree_cursors::walk(alloc, green)?)),
             Turn::Walk(root) => Ok(Made::Visited(walk(root)?)),
             Turn::Move(root, moves) => Ok(Made::Visited(make_moves(root, moves.as_slice())?)),
             Turn::Nodes(root, moves) => Ok(Made::Visited(make_node_moves(root, moves.as_slice())?)),
+            Turn::WalkByRefs(root) => Ok(Made::Visited(borrowed::walk(root.as_ref()))),
+            Turn::LoopsByRefs(root) => Ok(Made::Visited(borrowed::loops(root.as_ref()))),
+            Turn::MoveByRefs(root, moves) => {
+                Ok(Made::Visited(borrowed::make_moves(root.as_ref(), moves.as_slice())))
+            }
+            Turn::NodesByRefs(root, moves) => {
+                Ok(Made::Visited(borrowed::make_node_moves(root.as_ref(), moves.as_slice())))
+            }
         }
     }
 }

@@ -1,9 +1,10 @@
 //! Replacements: one of them, made often, and many, one after the other.
 use crate::{turns, walks};
 use anyhow::Result;
-use rowan::cursor::{SyntaxNode, SyntaxToken};
+use rowan::cursor::{SyntaxElement, SyntaxNode, SyntaxToken};
 use rowan::script::{Report, Step, trace};
 use rowan::{Fault, GreenElement, GreenNode, GreenToken, NodeOrToken, SyntaxKind, TextSize};
+use rowan_edit::{Editor, Refusal};
 use std::alloc::Global;
 use std::time::Duration;
 
@@ -29,6 +30,10 @@ pub enum Operation {
     Cursors,
     /// Tokens are replaced in the green trees, with a cursor at the last root.
     Green,
+    /// Tokens are replaced together, by an editor.
+    Editor,
+    /// The same, with a cursor at the new root.
+    EditorRoot,
 }
 
 impl Operation {
@@ -40,6 +45,8 @@ impl Operation {
             "trace" => Some(Operation::Trace),
             "cursors" => Some(Operation::Cursors),
             "green" => Some(Operation::Green),
+            "editor" => Some(Operation::Editor),
+            "editor_root" => Some(Operation::EditorRoot),
             _ => None,
         }
     }
@@ -169,6 +176,21 @@ fn replace_by_green(alloc: Global, tree: &GreenNode, edits: &[Edit]) -> Result<G
     Ok(root.green().clone()?)
 }
 
+/// Finds the tokens, collects the edits and makes them together. Where two are of one token, the first is made.
+fn replace_by_editor(alloc: Global, root: &SyntaxNode, edits: &[Edit]) -> Result<GreenNode, Fault> {
+    let mut editor = Editor::new(alloc, root)?;
+    for edit in edits {
+        if let Some(old) = token_at(root, edit.offset)? {
+            let new = vec![in alloc; GreenElement::from(edit.token.clone()?)]?;
+            match editor.replace(&SyntaxElement::from(old), new) {
+                Err(Refusal::Memory) => return Err(Fault::Memory),
+                _ => (),
+            }
+        }
+    }
+    Ok(editor.finish()?.green)
+}
+
 /// The tree with a token in place of what the places lead to. Each node on the way is made anew.
 fn put(tree: &GreenNode, path: &[usize], token: &GreenToken) -> Result<GreenNode, Fault> {
     let Some((place, below)) = path.split_first() else {
@@ -190,6 +212,8 @@ enum Turn {
     Trace(SyntaxNode, Vec<Step>),
     Cursors(SyntaxNode, Vec<Edit>),
     Green(GreenNode, Vec<Edit>),
+    Editor(SyntaxNode, Vec<Edit>),
+    EditorRoot(SyntaxNode, Vec<Edit>),
 }
 
 impl Turn {
@@ -220,6 +244,8 @@ impl Turn {
         match operation {
             Operation::Trace => Ok(Turn::Trace(root, steps_of(alloc, edits.as_slice())?)),
             Operation::Cursors => Ok(Turn::Cursors(root, edits)),
+            Operation::Editor => Ok(Turn::Editor(root, edits)),
+            Operation::EditorRoot => Ok(Turn::EditorRoot(root, edits)),
             _ => Ok(Turn::Green(root.green().clone()?, edits)),
         }
     }
@@ -239,6 +265,13 @@ impl turns::Turn for Turn {
                 Ok(Some(replace_by_cursors(alloc, root, edits.as_slice())?))
             }
             Turn::Green(tree, edits) => Ok(Some(replace_by_green(alloc, tree, edits.as_slice())?)),
+            Turn::Editor(root, edits) => {
+                Ok(Some(replace_by_editor(alloc, root, edits.as_slice())?))
+            }
+            Turn::EditorRoot(root, edits) => {
+                let tree = replace_by_editor(alloc, root, edits.as_slice())?;
+                Ok(Some(SyntaxNode::new_root(alloc, tree)?.green().clone()?))
+            }
         }
     }
 }

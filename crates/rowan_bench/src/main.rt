@@ -1,6 +1,7 @@
 //! Measures what the library does with large trees and nodes. Without arguments it prints how it is called.
 #![tactic(auto)]
 
+mod borrowed;
 mod children;
 mod cursors;
 mod depth;
@@ -9,6 +10,7 @@ mod edits;
 mod printed;
 mod reparse;
 mod timed;
+mod tree_cursors;
 mod turns;
 mod typed;
 mod walks;
@@ -33,12 +35,13 @@ usage: rowan_bench depth parse|compare|hash|show LEVELS
        rowan_bench search shared|own CHILDREN TIMES
        rowan_bench reach shared|own CHILDREN TIMES
        rowan_bench edit shared|own CHILDREN TIMES
-       rowan_bench cursors fill|whole|walk|move|nodes TURNS
+       rowan_bench cursors fill|whole|walk|tree_walk|move|nodes TURNS
+       rowan_bench cursors walk_by_refs|loops_by_refs|move_by_refs|nodes_by_refs TURNS
        rowan_bench walks events|offset|cover|copy|find|equal TURNS
        rowan_bench typed raw|walk|pointers TURNS
-       rowan_bench edits replace|root|trace|cursors|green TURNS
+       rowan_bench edits replace|root|trace|cursors|green|editor|editor_root TURNS
        rowan_bench printed debug_tree|json|value TURNS
-       rowan_bench reparse list|table|whole TURNS
+       rowan_bench reparse list|table|tree_cursor|whole TURNS
 
 depth   parses that many lists, one in the other, and then
           parse    drops the tree
@@ -67,8 +70,10 @@ cursors parses the s-expressions of standard input, and then in each turn
           fill     makes a cursor at the root
           whole    makes one, walks through the tree, and drops it
           walk     walks through the tree from a cursor that is there
+          tree_walk walks through it by a cursor that costs no table
           move     makes 1,000,000 moves from it between nodes and tokens, drawn from five
           nodes    makes 1,000,000 moves from it between nodes, drawn from three
+          ..._by_refs does the same by borrowed cursors; loops_by_refs walks through the tree by loops over children
 walks   parses the s-expressions of standard input, makes a cursor at the root, and then in each turn
           events   goes through all events of a walk with tokens
           offset   searches the tokens at 10,000 offsets, which are drawn
@@ -86,6 +91,8 @@ edits   parses the s-expressions of standard input, and then in each turn
           trace    replaces tokens at 1,000 offsets, which are drawn, one after the other, by one trace
           cursors  makes the same replacements, with a cursor at each new root
           green    makes them in green trees alone, and then a cursor at the last root
+          editor   collects them by cursors at the first root, and makes them together
+          editor_root does so, and makes a cursor at the new root
 printed parses the s-expressions of standard input, makes a cursor at the root, and then in each turn
           debug_tree  prints the tree, a line for each node and token
           json        makes its compact JSON
@@ -93,6 +100,7 @@ printed parses the s-expressions of standard input, makes a cursor at the root, 
 reparse parses the s-expressions of standard input, and then in each turn
           list     parses a list of 100 bytes or more in the middle anew, 1,000 times, by a cursor that is there
           table    finds it, parses it anew and makes a cursor at the new root, 10 times, each in the tree of the time before
+          tree_cursor finds it, parses it anew and goes on in the new tree, 10 times, by a cursor that costs no table
           whole    parses the whole text anew";
 
 fn main(rt: HostRuntime) -> ExitCode {
@@ -247,7 +255,7 @@ fn edit(rt: &HostRuntime, words: &[String]) -> Result<()> {
 
 fn move_cursors(rt: &HostRuntime, words: &[String]) -> Result<()> {
     let operation = cursors::Operation::from_word(word_at(words, 1)).context(
-        "fill, whole, walk, move or nodes is missing",
+        "what is done by cursors is missing",
     )?;
     let turns = number_at(words, 2)?;
     let text = io::read_to_string(rt.alloc(), rt.reader())?;
@@ -288,7 +296,7 @@ fn walk_typed(rt: &HostRuntime, words: &[String]) -> Result<()> {
 
 fn replace(rt: &HostRuntime, words: &[String]) -> Result<()> {
     let operation = edits::Operation::from_word(word_at(words, 1)).context(
-        "replace, root, trace, cursors or green is missing",
+        "replace, root, trace, cursors, green, editor or editor_root is missing",
     )?;
     let turns = number_at(words, 2)?;
     let text = io::read_to_string(rt.alloc(), rt.reader())?;
@@ -312,7 +320,7 @@ fn print(rt: &HostRuntime, words: &[String]) -> Result<()> {
 
 fn parse_anew(rt: &HostRuntime, words: &[String]) -> Result<()> {
     let operation = reparse::Operation::from_word(word_at(words, 1)).context(
-        "list, table or whole is missing",
+        "list, table, tree_cursor or whole is missing",
     )?;
     let turns = number_at(words, 2)?;
     let text = io::read_to_string(rt.alloc(), rt.reader())?;

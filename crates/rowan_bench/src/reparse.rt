@@ -1,5 +1,5 @@
 //! A list in the middle of a text, parsed anew.
-use crate::turns;
+use crate::{tree_cursors, turns};
 use anyhow::Result;
 use rowan::ast::AstNode;
 use rowan::{Fault, GreenNode, SyntaxNode, TextSize};
@@ -23,6 +23,8 @@ pub enum Operation {
     List,
     /// The list is found, and parsed anew, and a cursor is made at the new root.
     Table,
+    /// The list is found, parsed anew and found in the new tree, without a table.
+    TreeCursor,
     /// The whole text is parsed anew.
     Whole,
 }
@@ -33,6 +35,7 @@ impl Operation {
         match word {
             "list" => Some(Operation::List),
             "table" => Some(Operation::Table),
+            "tree_cursor" => Some(Operation::TreeCursor),
             "whole" => Some(Operation::Whole),
             _ => None,
         }
@@ -95,12 +98,27 @@ fn parse_in_each(
     Ok(root.green().clone()?)
 }
 
+/// The same by cursors that cost no table.
+fn parse_by_tree_cursors(
+    alloc: Global,
+    root: &GreenNode,
+    offset: TextSize,
+    text: &str,
+) -> Result<GreenNode, Fault> {
+    let mut tree = root.clone()?;
+    for _ in 0..TREES {
+        tree = tree_cursors::parse_anew(alloc, &tree, offset, LEAST, text)?;
+    }
+    Ok(tree)
+}
+
 /// What a turn of an operation needs, which is made before the time is taken.
 #[derive(Drop)]
 enum Turn {
     Nothing,
     List(List, String),
     Table(SyntaxNode<Lang>, TextSize, String),
+    TreeCursor(GreenNode, TextSize, String),
     Whole(String),
 }
 
@@ -115,6 +133,7 @@ impl Turn {
         match operation {
             Operation::List => Ok(Turn::List(list, text)),
             Operation::Table => Ok(Turn::Table(root, offset, text)),
+            Operation::TreeCursor => Ok(Turn::TreeCursor(tree.clone()?, offset, text)),
             Operation::Whole => {
                 let tree = sexp::reparse_list(alloc, &list, text.as_str())?;
                 Ok(Turn::Whole(text_of(alloc, &tree)?))
@@ -130,6 +149,9 @@ impl turns::Turn for Turn {
             Turn::List(list, text) => Ok(Some(parse_often(alloc, list, text.as_str())?)),
             Turn::Table(root, offset, text) => {
                 Ok(Some(parse_in_each(alloc, root, *offset, text.as_str())?))
+            }
+            Turn::TreeCursor(tree, offset, text) => {
+                Ok(Some(parse_by_tree_cursors(alloc, tree, *offset, text.as_str())?))
             }
             Turn::Whole(text) => Ok(Some(sexp::parse(alloc, text.as_str())?.green().clone()?)),
         }

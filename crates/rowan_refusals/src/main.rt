@@ -12,8 +12,11 @@ mod calls;
 mod cases;
 mod edits;
 mod making;
+mod many_edits;
 mod moving;
+mod parses;
 mod pointers;
+mod refs;
 mod reparses;
 mod searches;
 mod sessions;
@@ -25,9 +28,12 @@ mod traces;
 mod transcript;
 mod trees;
 mod typed;
+mod typed_refs;
 mod walks;
 
 use cases::CASES;
+use many_edits::run_edits;
+use parses::run_parses;
 use reparses::REPARSES;
 use state::State;
 use std::process::ExitCode;
@@ -48,7 +54,8 @@ fn run_cases(log: &Transcript<'_>) -> Result<(), Stop> {
     for case in CASES.into_iter().chain(REPARSES) {
         run_case(log, case)?;
     }
-    Ok(())
+    run_parses(log)?;
+    run_edits(log)
 }
 
 fn run_case(log: &Transcript<'_>, case: Case) -> Result<(), Stop> {

@@ -26,12 +26,20 @@ pub enum Make {
     Replaced,
     /// The same, by a typed cursor.
     TypedReplaced,
+    /// The same, by a borrowed cursor.
+    RefReplaced,
+    /// The same, by a typed cursor that is borrowed.
+    TypedRefReplaced,
     /// A cursor at the root of the tree.
     Root,
     /// A cursor at the root of a copy of the node where the case stands.
     Subtree,
+    /// The same, by a borrowed cursor.
+    RefSubtree,
     /// A typed cursor at the root of a copy of that node.
     TypedSubtree,
+    /// The same, by a borrowed cursor.
+    TypedRefSubtree,
     /// The same by a wrapper, of a list.
     ListSubtree,
     /// The number of tokens of a text.
@@ -64,6 +72,8 @@ pub enum Make {
     Shown,
     /// A copy of the text that the case reads.
     Copy,
+    /// The same, by a borrowed text.
+    RefCopy,
     /// The first of these calls, so many of them, as a script.
     Script(&'static [Call], usize),
     /// The steps of a trace.
@@ -90,9 +100,13 @@ impl Make {
             Make::Edited(Edit::Splice(_, _)) => "splice_children",
             Make::Replaced => "replace_with",
             Make::TypedReplaced => "typed replace_with",
+            Make::RefReplaced => "replace_with by ref",
+            Make::TypedRefReplaced => "typed replace_with by ref",
             Make::Root => "new_root",
             Make::Subtree => "clone_subtree",
+            Make::RefSubtree => "clone_subtree by ref",
             Make::TypedSubtree => "typed clone_subtree",
+            Make::TypedRefSubtree => "typed clone_subtree by ref",
             Make::ListSubtree => "clone_subtree of a list",
             Make::ParsedRoot => "root",
             Make::Lexed(_) => "lex",
@@ -109,6 +123,7 @@ impl Make {
             Make::Text => "to_string",
             Make::Shown => "to_string of a tree, with a list",
             Make::Copy => "to_text",
+            Make::RefCopy => "to_text by ref",
             Make::Script(_, _) => "script",
             Make::Steps(_) => "steps",
             Make::Words(_) => "arguments",

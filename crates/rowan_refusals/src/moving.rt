@@ -1,6 +1,7 @@
 //! Moves of cursors, and lists of what is around them.
 ghost use Rattle.std.specs.Iterator.{IsFinite};
 
+use crate::refs;
 use crate::transcript::{Stop, Transcript};
 use rowan::cursor::{ElementCalls, SyntaxElement, SyntaxNode, SyntaxToken};
 use rowan::script::element_at;
@@ -116,9 +117,10 @@ impl Listing {
     /// Says which elements these are. An element that has no such call has none.
     pub fn tell(self, log: &Transcript<'_>, from: &SyntaxElement) -> Result<(), Stop> {
         match from {
-            NodeOrToken::Node(node) => self.tell_at_node(log, node),
-            NodeOrToken::Token(token) => self.tell_at_token(log, token),
+            NodeOrToken::Node(node) => self.tell_at_node(log, node)?,
+            NodeOrToken::Token(token) => self.tell_at_token(log, token)?,
         }
+        refs::tell_list(log, self, from)
     }
 
     fn tell_at_node(self, log: &Transcript<'_>, node: &SyntaxNode) -> Result<(), Stop> {
@@ -184,5 +186,6 @@ pub fn compare(
 ) -> Result<(), Stop> {
     log.tell("indexes", &(one.index(), other.index()))?;
     log.tell("equal", &(one == other))?;
-    log.tell("hashed equally", &(hash_of(one) == hash_of(other)))
+    log.tell("hashed equally", &(hash_of(one) == hash_of(other)))?;
+    refs::compare(log, one, other)
 }

@@ -2,7 +2,7 @@
 
 use crate::transcript::{Stop, Transcript};
 use rowan::ast::{AstChildren, AstNode, AstPtr, SyntaxNodePtr, support};
-use rowan::{Steps, SyntaxNode, TextRange, TextSize};
+use rowan::{Steps, SyntaxNode, SyntaxNodeRef, TextRange, TextSize};
 use rowan_tool::sexp::{Atom, Lang, List, Root, Sexp, SyntaxKind};
 
 /// Says where the pointer to a node leads, and where it is once so many bytes stand in place of a
@@ -22,7 +22,17 @@ pub fn tell_pointer(
     log.tell("after_edit", &pointer.after_edit(replaced, new_len))?;
     let mut steps = Steps::new();
     let found = pointer.try_to_node_counted(&root, &mut steps)?;
-    log.tell("visits", &(found.is_some(), steps.visits()))
+    log.tell("visits", &(found.is_some(), steps.visits()))?;
+    tell_pointer_of_ref(log, node.as_ref())
+}
+
+/// Says where the pointer to a borrowed node leads.
+fn tell_pointer_of_ref(log: &Transcript<'_>, node: SyntaxNodeRef<'_, Lang>) -> Result<(), Stop> {
+    let root = node.tree_top();
+    let pointer = SyntaxNodePtr::from_ref(node);
+    log.tell("by ref", &pointer)?;
+    log.tell("by ref", &pointer.try_to_node_ref(root))?;
+    log.tell("by ref", &pointer.to_node_ref(node))
 }
 
 /// Says what the wrappers of a node are, what is below them, and what number the node reads.
@@ -96,7 +106,16 @@ fn tell_support(log: &Transcript<'_>, node: &SyntaxNode<Lang>) -> Result<(), Sto
     tell_wrapped(log, "first list", support::child::<List>(node)?)?;
     tell_sexps(log, support::children::<Sexp>(node))?;
     let blank = support::token(node, SyntaxKind::WHITESPACE)?;
-    log.tell("first white space", &blank)
+    log.tell("first white space", &blank)?;
+    tell_support_of_ref(log, node.as_ref())
+}
+
+fn tell_support_of_ref(log: &Transcript<'_>, node: SyntaxNodeRef<'_, Lang>) -> Result<(), Stop> {
+    tell_wrapped(log, "by ref", support::child_of::<List>(node)?)?;
+    for sexp in support::children_of::<Sexp>(node) {
+        log.tell("by ref", sexp?.syntax())?;
+    }
+    log.tell("by ref", &support::token_of(node, SyntaxKind::WHITESPACE))
 }
 
 fn tell_sexps(log: &Transcript<'_>, sexps: AstChildren<Sexp>) -> Result<(), Stop> {

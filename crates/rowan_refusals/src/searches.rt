@@ -1,6 +1,7 @@
 //! Searches by place, in green nodes and from cursors.
 
 use crate::transcript::{Stop, Transcript};
+use crate::{refs, typed_refs};
 use rowan::cursor::{SyntaxElement, SyntaxNode};
 use rowan::{Fault, GreenNode, NodeOrToken, Steps, TextRange, TextSize};
 use rowan_tool::sexp::Lang;
@@ -50,10 +51,11 @@ impl Search {
             return Err(Stop::Refused(Fault::NotFound));
         };
         match self {
-            Search::ChildAt(start, end) => tell_child(log, node, range(start, end)?),
-            Search::Covering(start, end) => tell_covering(log, node, range(start, end)?),
-            Search::TokensAt(offset) => tell_tokens(log, node, TextSize::from(offset)),
+            Search::ChildAt(start, end) => tell_child(log, node, range(start, end)?)?,
+            Search::Covering(start, end) => tell_covering(log, node, range(start, end)?)?,
+            Search::TokensAt(offset) => tell_tokens(log, node, TextSize::from(offset))?,
         }
+        refs::tell_search(log, self, node.as_ref())
     }
 }
 
@@ -64,10 +66,11 @@ impl Search {
             return Err(Stop::Refused(Fault::NotFound));
         };
         match self {
-            Search::ChildAt(start, end) => tell_typed_child(log, node, range(start, end)?),
-            Search::Covering(start, end) => tell_typed_covering(log, node, range(start, end)?),
-            Search::TokensAt(offset) => tell_typed_tokens(log, node, TextSize::from(offset)),
+            Search::ChildAt(start, end) => tell_typed_child(log, node, range(start, end)?)?,
+            Search::Covering(start, end) => tell_typed_covering(log, node, range(start, end)?)?,
+            Search::TokensAt(offset) => tell_typed_tokens(log, node, TextSize::from(offset))?,
         }
+        typed_refs::tell_search(log, self, node.as_ref())
     }
 }
 

@@ -15,6 +15,7 @@ use crate::traces::{Stride, tell_trace};
 use crate::transcript::{Stop, Transcript};
 use crate::typed::{tell_conversions, tell_moves};
 use crate::walks::{tell_clones, tell_typed};
+use crate::{refs, typed_refs};
 use rowan::ast::AstNode;
 use rowan::cursor::{SyntaxElement, SyntaxNode};
 use rowan::{
@@ -77,7 +78,7 @@ impl State {
                     &index_at(self.tree()?, start, end),
                 )
             }
-            Step::Look(way) => log.tell(way.name(), &way.make(self.place()?)),
+            Step::Look(way) => self.look(log, way),
             Step::Go(way) => self.go(log, way),
             Step::GoToRoot(number) => self.go_to_root(log, number),
             Step::List(listing) => listing.tell(log, self.place()?),
@@ -138,9 +139,15 @@ impl State {
             Make::Edited(edit) => Ok(Made::Edited(edit.make(alloc, self.tree()?, self.token()?)?)),
             Make::Replaced => Ok(Made::Edited(self.replace()?)),
             Make::TypedReplaced => Ok(Made::Edited(self.replace_typed()?)),
+            Make::RefReplaced => Ok(Made::Edited(self.replace_by_ref()?)),
+            Make::TypedRefReplaced => Ok(Made::Edited(self.replace_by_typed_ref()?)),
             Make::Root => Ok(Made::Cursor(SyntaxNode::new_root(alloc, self.tree()?.clone()?)?)),
             Make::Subtree => Ok(Made::Cursor(self.subtree()?)),
+            Make::RefSubtree => Ok(Made::Cursor(self.node_here()?.as_ref().clone_subtree()?)),
             Make::TypedSubtree => Ok(Made::Syntax(self.typed_node()?.clone_subtree()?)),
+            Make::TypedRefSubtree => {
+                Ok(Made::Syntax(self.typed_node()?.as_ref().clone_subtree()?))
+            }
             Make::ListSubtree => Ok(Made::Syntax(self.list_subtree()?)),
             Make::Lexed(text) => Ok(Made::Count(lex(alloc, text)?.len())),
             Make::Parsed(text) => Ok(Made::Parse(parse(alloc, text)?)),
@@ -157,6 +164,7 @@ impl State {
             Make::Text => Ok(Made::Text(self.syntax()?.to_string(alloc)?)),
             Make::Shown => Ok(Made::Text(self.tree()?.to_string(alloc)?)),
             Make::Copy => Ok(Made::Text(self.text()?.to_text()?)),
+            Make::RefCopy => Ok(Made::Text(self.text()?.as_ref().to_text()?)),
             Make::Script(calls, count) => self.set_script(calls, count),
             Make::Steps(strides) => self.set_steps(strides),
             Make::Words(words) => self.set_words(words),
@@ -187,6 +195,20 @@ impl State {
 
     fn replace_typed(&self) -> Result<GreenNode, Fault> {
         match self.typed_place()? {
+            NodeOrToken::Node(node) => node.replace_with(self.tree()?.clone()?),
+            NodeOrToken::Token(token) => token.replace_with(self.token()?.clone()?),
+        }
+    }
+
+    fn replace_by_ref(&self) -> Result<GreenNode, Fault> {
+        match refs::borrowed(self.place()?) {
+            NodeOrToken::Node(node) => node.replace_with(self.tree()?.clone()?),
+            NodeOrToken::Token(token) => token.replace_with(self.token()?.clone()?),
+        }
+    }
+
+    fn replace_by_typed_ref(&self) -> Result<GreenNode, Fault> {
+        match typed_refs::borrowed(&self.typed_place()?) {
             NodeOrToken::Node(node) => node.replace_with(self.tree()?.clone()?),
             NodeOrToken::Token(token) => token.replace_with(self.token()?.clone()?),
         }
@@ -320,6 +342,12 @@ impl State {
         tell_trace(log, &start, &mut self.steps)
     }
 
+    /// Says where a move leads.
+    fn look(&self, log: &Transcript<'_>, way: Move) -> Result<(), Stop> {
+        log.tell(way.name(), &way.make(self.place()?))?;
+        refs::tell_move(log, way, self.place()?)
+    }
+
     /// Goes where a move leads.
     fn go(&mut self, log: &Transcript<'_>, way: Move) -> Result<(), Stop> {
         let found = self.target_of(way)?;
@@ -337,8 +365,10 @@ impl State {
 
     /// Reads the text of the place.
     fn read(&mut self, log: &Transcript<'_>) -> Result<(), Stop> {
-        let text = self.node_here()?.text()?;
+        let node = self.node_here()?;
+        let text = node.text()?;
         log.tell("text", &text)?;
+        log.tell("by ref", &node.as_ref().text())?;
         self.text = Some(text);
         Ok(())
     }
@@ -347,6 +377,7 @@ impl State {
     fn cut(&mut self, log: &Transcript<'_>, slice: Slice) -> Result<(), Stop> {
         let part = slice.cut(self.text()?)?;
         log.tell("slice", &part)?;
+        log.tell("by ref", &slice.cut_ref(&self.text()?.as_ref()))?;
         self.text = Some(part);
         Ok(())
     }
@@ -356,7 +387,8 @@ impl State {
         let NodeOrToken::Node(root) = self.root(number)? else {
             return Err(Stop::Refused(Fault::NotFound));
         };
-        log.tell("same text", &(*self.text()? == root.text()?))
+        log.tell("same text", &(*self.text()? == root.text()?))?;
+        log.tell("by ref", &(self.text()?.as_ref() == root.as_ref().text()))
     }
 
     /// Where a move from the place leads.

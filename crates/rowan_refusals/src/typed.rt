@@ -2,6 +2,7 @@
 
 use crate::moving::{self, Move, tell_each};
 use crate::transcript::{Stop, Transcript};
+use crate::typed_refs;
 use rowan::cursor::{self, ElementCalls};
 use rowan::{
     Direction, Fault, NodeOrToken, SyntaxElement, SyntaxNode, SyntaxToken, TypedElementCalls,
@@ -9,7 +10,7 @@ use rowan::{
 use rowan_tool::sexp::Lang;
 
 /// The moves that are made from each element.
-const MOVES: [Move; 14] = [
+pub const MOVES: [Move; 14] = [
     Move::TreeTop,
     Move::Parent,
     Move::FirstChild,
@@ -26,8 +27,8 @@ const MOVES: [Move; 14] = [
     Move::PrevToken,
 ];
 
-/// Says where the moves from an element lead, by the calls of the node or the token and by those of
-/// the element.
+/// Says where the moves from an element lead, by the calls of the node or the token, by those of
+/// the element, and by borrowed cursors.
 pub fn tell_moves(log: &Transcript<'_>, element: &SyntaxElement<Lang>) -> Result<(), Stop> {
     for way in MOVES {
         log.tell(way.name(), &make(way, element))?;
@@ -37,9 +38,10 @@ pub fn tell_moves(log: &Transcript<'_>, element: &SyntaxElement<Lang>) -> Result
     }
     tell_each(log, "ancestor", element.ancestors())?;
     match element {
-        NodeOrToken::Node(node) => log.tell("text", &node.text()),
-        NodeOrToken::Token(token) => tell_lists_at_token(log, token),
+        NodeOrToken::Node(node) => log.tell("text", &node.text())?,
+        NodeOrToken::Token(token) => tell_lists_at_token(log, token)?,
     }
+    typed_refs::tell_moves(log, element)
 }
 
 /// Where a move leads. It leads nowhere from an element that has no such call.

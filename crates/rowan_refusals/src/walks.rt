@@ -2,6 +2,7 @@
 
 use crate::moving::tell_each;
 use crate::transcript::{Stop, Transcript};
+use crate::{refs, typed_refs};
 use rowan::cursor::{SyntaxElement, SyntaxNode};
 use rowan::{Direction, Fault, NodeOrToken};
 use rowan_tool::sexp::Lang;
@@ -29,9 +30,10 @@ impl Walk {
             return Err(Stop::Refused(Fault::NotFound));
         };
         match self {
-            Walk::Nodes(calls) => tell_preorder(log, node, calls),
-            Walk::WithTokens(calls) => tell_preorder_with_tokens(log, node, calls),
+            Walk::Nodes(calls) => tell_preorder(log, node, calls)?,
+            Walk::WithTokens(calls) => tell_preorder_with_tokens(log, node, calls)?,
         }
+        refs::tell_walk(log, self, node.as_ref())
     }
 }
 
@@ -117,5 +119,6 @@ pub fn tell_typed(log: &Transcript<'_>, node: &rowan::SyntaxNode<Lang>) -> Resul
     log.tell("next", &walk.next())?;
     log.tell("next", &walk.next())?;
     walk.skip_subtree();
-    tell_each(log, "rest", walk)
+    tell_each(log, "rest", walk)?;
+    typed_refs::tell_lists(log, node.as_ref())
 }

@@ -1,0 +1,109 @@
+//! Cases of many edits of one tree in one pass, and of a cursor that costs no table.
+
+use crate::cases::SUM;
+use crate::edits::leaf;
+use crate::parses::ask;
+use crate::searches::range;
+use crate::shape::Shape;
+use crate::transcript::{Phase, Stop, Transcript};
+use rowan::cursor::{SyntaxElement, SyntaxNode};
+use rowan::{Fault, GreenElement, GreenNode, GreenToken, SyntaxKind, TextSize};
+use rowan_edit::{Edited, Editor, GreenEditor, Refusal, Rewrite, TreeCursor, rewrite_tokens};
+use rowan_tool::sexp::parse;
+use std::alloc::Global;
+use std::ops::Range;
+
+/// What is edited, and the token that is put there.
+#[derive(Drop)]
+struct Subject {
+    alloc: Global,
+    tree: GreenNode,
+    root: SyntaxNode,
+    token: GreenToken,
+}
+
+pub fn run_edits(log: &Transcript<'_>) -> Result<(), Stop> {
+    log.case("many edits of the sum")?;
+    log.phase(Phase::Making)?;
+    let subject = ask(log, "a tree, with drops", || make_subject(log.alloc()))?;
+    let edited = ask(log, "GreenEditor, with drops", || by_paths(&subject))?;
+    tell(log, &edited)?;
+    let edited = ask(log, "Editor, with drops", || by_cursors(&subject))?;
+    tell(log, &edited)?;
+    let rewritten = ask(log, "rewrite_tokens, with drops", || rewritten(&subject))?;
+    log.tell("tree", &Shape(&rewritten))?;
+    let replaced = ask(log, "TreeCursor, with drops", || replaced(&subject))?;
+    log.tell("tree", &Shape(&replaced))?;
+    log.phase(Phase::Moving)?;
+    log.tell("moved", &edited.changes.moved(range(3, 11)?))?;
+    log.tell("moved", &edited.changes.moved(range(12, 14)?))?;
+    log.phase(Phase::Dropping)
+}
+
+fn tell(log: &Transcript<'_>, edited: &Edited) -> Result<(), Stop> {
+    log.tell("tree", &Shape(&edited.green))?;
+    log.tell("changes", &edited.changes.as_slice())
+}
+
+fn make_subject(alloc: Global) -> Result<Subject, Fault> {
+    let tree = parse(alloc, SUM)?.green().clone()?;
+    let root = SyntaxNode::new_root(alloc, tree.clone()?)?;
+    Ok(Subject {
+        alloc,
+        tree,
+        root,
+        token: GreenToken::new(alloc, SyntaxKind(4), "new")?,
+    })
+}
+
+/// A token is put before the first child, two in place of the inner list, one behind the last child.
+fn by_paths(subject: &Subject) -> Result<Edited, Fault> {
+    let mut editor = GreenEditor::new(subject.alloc, &subject.tree)?;
+    put(&mut editor, subject, 3..4)?;
+    put(&mut editor, subject, 0..0)?;
+    put(&mut editor, subject, 6..6)?;
+    editor.finish()
+}
+
+fn put(editor: &mut GreenEditor, subject: &Subject, children: Range<usize>) -> Result<(), Fault> {
+    let new = vec![in subject.alloc; leaf(&subject.token)?, leaf(&subject.token)?]?;
+    taken(editor.splice(&[0], children, new))
+}
+
+fn taken(answer: Result<(), Refusal>) -> Result<(), Fault> {
+    match answer {
+        Ok(()) => Ok(()),
+        Err(Refusal::Memory) => Err(Fault::Memory),
+        Err(_) => Err(Fault::NotFound),
+    }
+}
+
+/// A token is put before the first token of the tree, and one in place of the last.
+fn by_cursors(subject: &Subject) -> Result<Edited, Fault> {
+    let mut editor = Editor::new(subject.alloc, &subject.root)?;
+    let first = subject.root.first_token()?.ok_or(Fault::NotFound)?;
+    let last = subject.root.last_token()?.ok_or(Fault::NotFound)?;
+    let new = vec![in subject.alloc; leaf(&subject.token)?]?;
+    taken(editor.replace(&SyntaxElement::from(last), new))?;
+    let new = vec![in subject.alloc; leaf(&subject.token)?]?;
+    taken(editor.insert_before(&SyntaxElement::from(first), new))?;
+    editor.finish()
+}
+
+/// Another token comes in place of each that is one byte long.
+fn rewritten(subject: &Subject) -> Result<GreenNode, Fault> {
+    rewrite_tokens(subject.alloc, &subject.tree, |token, _| {
+        if token.text().len() == 1 {
+            let new = vec![in subject.alloc; leaf(&subject.token)?]?;
+            return Ok(Rewrite::Replace(new));
+        }
+        Ok(Rewrite::Keep)
+    })
+}
+
+/// Another token comes in place of the one in the middle.
+fn replaced(subject: &Subject) -> Result<GreenNode, Fault> {
+    let mut cursor = TreeCursor::new(subject.alloc, &subject.tree);
+    cursor.goto_offset(TextSize::from(7))?;
+    cursor.replace(GreenElement::from(subject.token.clone()?))
+}

@@ -1,0 +1,214 @@
+//! The calls of borrowed cursors, none of which asks for memory.
+ghost use Rattle.std.specs.Iterator.{IsFinite};
+
+use crate::moving::{Listing, Move, hash_of};
+use crate::searches::{Search, range};
+use crate::transcript::{Stop, Transcript};
+use crate::walks::{Walk, WalkCall};
+use rowan::cursor::{
+    ElementRefCalls, SyntaxElement, SyntaxElementRef, SyntaxNodeRef, SyntaxTokenRef,
+};
+use rowan::{NodeOrToken, Steps, TextSize};
+use std::fmt::Debug;
+
+/// The element, borrowed from its tree.
+pub fn borrowed(element: &SyntaxElement) -> SyntaxElementRef<'_> {
+    match element {
+        NodeOrToken::Node(node) => NodeOrToken::Node(node.as_ref()),
+        NodeOrToken::Token(token) => NodeOrToken::Token(token.as_ref()),
+    }
+}
+
+/// Says where a move leads.
+pub fn tell_move(log: &Transcript<'_>, way: Move, from: &SyntaxElement) -> Result<(), Stop> {
+    log.tell("by ref", &target(borrowed(from), way))
+}
+
+fn target<'t>(from: SyntaxElementRef<'t>, way: Move) -> Option<SyntaxElementRef<'t>> {
+    match way {
+        Move::TreeTop => Some(NodeOrToken::Node(from.tree_top())),
+        Move::Parent => as_node(from.parent()),
+        Move::NextSiblingOrToken => from.next_sibling_or_token(),
+        Move::PrevSiblingOrToken => from.prev_sibling_or_token(),
+        _ => match from {
+            NodeOrToken::Node(node) => at_node(way, node),
+            NodeOrToken::Token(token) => at_token(way, token),
+        },
+    }
+}
+
+fn at_node<'t>(way: Move, node: SyntaxNodeRef<'t>) -> Option<SyntaxElementRef<'t>> {
+    match way {
+        Move::FirstChild => as_node(node.first_child()),
+        Move::LastChild => as_node(node.last_child()),
+        Move::FirstChildOrToken => node.first_child_or_token(),
+        Move::LastChildOrToken => node.last_child_or_token(),
+        Move::NextSibling => as_node(node.next_sibling()),
+        Move::PrevSibling => as_node(node.prev_sibling()),
+        Move::FirstToken => as_token(node.first_token()),
+        Move::LastToken => as_token(node.last_token()),
+        Move::ElementAt(path) => element_at(node, path),
+        _ => None,
+    }
+}
+
+fn at_token<'t>(way: Move, token: SyntaxTokenRef<'t>) -> Option<SyntaxElementRef<'t>> {
+    match way {
+        Move::NextToken => as_token(token.next_token()),
+        Move::PrevToken => as_token(token.prev_token()),
+        _ => None,
+    }
+}
+
+fn element_at<'t>(node: SyntaxNodeRef<'t>, path: &[usize]) -> Option<SyntaxElementRef<'t>> {
+    let mut here = NodeOrToken::Node(node);
+    for index in path {
+        here = match here {
+            NodeOrToken::Node(parent) => parent.child_or_token_at_index(*index)?,
+            NodeOrToken::Token(_) => return None,
+        };
+    }
+    Some(here)
+}
+
+fn as_node<'t>(found: Option<SyntaxNodeRef<'t>>) -> Option<SyntaxElementRef<'t>> {
+    Some(NodeOrToken::Node(found?))
+}
+
+fn as_token<'t>(found: Option<SyntaxTokenRef<'t>>) -> Option<SyntaxElementRef<'t>> {
+    Some(NodeOrToken::Token(found?))
+}
+
+/// Says which elements a list has.
+pub fn tell_list(log: &Transcript<'_>, listing: Listing, from: &SyntaxElement) -> Result<(), Stop> {
+    match (borrowed(from), listing) {
+        (NodeOrToken::Node(node), Listing::Children) => tell_children(log, node),
+        (NodeOrToken::Node(node), Listing::ChildrenWithTokens) => {
+            tell_all(log, node.children_with_tokens())
+        }
+        (NodeOrToken::Node(node), Listing::Ancestors) => tell_all(log, node.ancestors()),
+        (NodeOrToken::Node(node), Listing::Siblings(way)) => tell_all(log, node.siblings(way)),
+        (NodeOrToken::Node(node), Listing::SiblingsWithTokens(way)) => {
+            tell_all(log, node.siblings_with_tokens(way))
+        }
+        (NodeOrToken::Node(node), Listing::Descendants) => tell_all(log, node.descendants()),
+        (NodeOrToken::Node(node), Listing::DescendantsWithTokens) => {
+            tell_all(log, node.descendants_with_tokens())
+        }
+        (NodeOrToken::Token(token), Listing::Ancestors) => tell_all(log, token.ancestors()),
+        (NodeOrToken::Token(token), Listing::SiblingsWithTokens(way)) => {
+            tell_all(log, token.siblings_with_tokens(way))
+        }
+        (NodeOrToken::Token(_), _) => Ok(()),
+    }
+}
+
+/// Says which nodes are children, which children and siblings are of the kind of the node, and
+/// which child is a token of the kind of the first token.
+fn tell_children(log: &Transcript<'_>, node: SyntaxNodeRef<'_>) -> Result<(), Stop> {
+    let kind = node.kind();
+    tell_all(log, node.children())?;
+    tell_all(log, node.children().by_kind(kind))?;
+    log.tell("by ref", &node.first_child_by_kind(kind))?;
+    log.tell("by ref", &node.next_sibling_by_kind(kind))?;
+    log.tell("by ref", &node.to_owned()?)?;
+    match node.first_token() {
+        Some(token) => log.tell("by ref", &node.first_token_of_kind(token.kind())),
+        None => Ok(()),
+    }
+}
+
+/// Says which items an iterator gives.
+pub fn tell_all<T: Debug + Drop, I>(log: &Transcript<'_>, items: I) -> Result<(), Stop>
+where
+    I: Iterator<Item = T> + Drop,
+    requires can { I.can_next items }
+    requires ends { IsFinite (I.remaining items) }
+{
+    for item in items {
+        log.tell("by ref", &item)?;
+    }
+    Ok(())
+}
+
+/// Says what the calls of a walk answer, and then its rest.
+pub fn tell_walk(log: &Transcript<'_>, walk: Walk, node: SyntaxNodeRef<'_>) -> Result<(), Stop> {
+    match walk {
+        Walk::Nodes(calls) => tell_preorder(log, node, calls),
+        Walk::WithTokens(calls) => tell_preorder_with_tokens(log, node, calls),
+    }
+}
+
+fn tell_preorder(
+    log: &Transcript<'_>,
+    node: SyntaxNodeRef<'_>,
+    calls: &[WalkCall],
+) -> Result<(), Stop> {
+    let mut walk = node.preorder();
+    for call in calls {
+        match call {
+            WalkCall::Next => log.tell("by ref", &walk.next())?,
+            WalkCall::Skip => walk.skip_subtree(),
+        }
+    }
+    tell_all(log, walk)
+}
+
+fn tell_preorder_with_tokens(
+    log: &Transcript<'_>,
+    node: SyntaxNodeRef<'_>,
+    calls: &[WalkCall],
+) -> Result<(), Stop> {
+    let mut walk = node.preorder_with_tokens();
+    for call in calls {
+        match call {
+            WalkCall::Next => log.tell("by ref", &walk.next())?,
+            WalkCall::Skip => walk.skip_subtree(),
+        }
+    }
+    tell_all(log, walk)
+}
+
+/// Says what a search finds.
+pub fn tell_search(
+    log: &Transcript<'_>,
+    search: Search,
+    node: SyntaxNodeRef<'_>,
+) -> Result<(), Stop> {
+    match search {
+        Search::ChildAt(start, end) => {
+            let range = range(start, end)?;
+            let mut steps = Steps::new();
+            let found = node.child_or_token_at_range_counted(range, &mut steps);
+            log.tell("by ref", &(found, steps.comparisons()))
+        }
+        Search::Covering(start, end) => {
+            let range = range(start, end)?;
+            if !node.text_range().contains_range(range) {
+                return Ok(());
+            }
+            log.tell("by ref", &node.covering_element(range))
+        }
+        Search::TokensAt(offset) => {
+            let offset = TextSize::from(offset);
+            if !node.text_range().contains_inclusive(offset) {
+                return Ok(());
+            }
+            log.tell("by ref", &node.token_at_offset(offset))
+        }
+    }
+}
+
+/// Says how two elements are alike.
+pub fn compare(
+    log: &Transcript<'_>,
+    one: &SyntaxElement,
+    other: &SyntaxElement,
+) -> Result<(), Stop> {
+    let (one, other) = (borrowed(one), borrowed(other));
+    log.tell("by ref, equal", &(one == other))?;
+    log.tell(
+        "by ref, hashed equally",
+        &(hash_of(&one) == hash_of(&other)),
+    )
+}
