@@ -1,0 +1,20 @@
+//! From a grammar of nodes to the kinds, wrappers and accessors of a language, as source text.
+#![tactic(auto)]
+
+mod accessors;
+mod calls;
+mod checks;
+mod ends;
+mod grammar;
+mod kinds;
+mod lexer;
+mod names;
+mod nodes;
+mod parser;
+mod place;
+mod reach;
+mod specs;
+mod writer;
+mod written;
+
+pub use written::{File, MARK, MARK_ANTT, Summary, Written, generate};
