@@ -8,7 +8,9 @@ use Rattle.rowan_green.specs.declared.green.node.GreenNodeHead.{GreenNodeHead}
 use Rattle.rowan_green.specs.declared.green.node.GreenChild.{GreenChild}
 use Rattle.rowan_green.specs.declared.green.node.GreenChild.TheVariants.{Node, Token}
 use Rattle.rowan_green.specs.declared.utility_types.NodeOrToken.TheVariants as element
+use base.Stored.{Gv}
 use Rattle.rowan_green.specs.Term.{NodeTerm, Term, node_of, sum_of_lens, term_len}
+use Rattle.rowan_green.specs.Coding.{coded_node}
 use Rattle.rowan_green.specs.Fits.{AreWithin, AllFit}
 use Rattle.rowan_green.specs.Search.{child_start, child_end}
 use Rattle.rowan_green.specs.Span.{Span}
@@ -36,6 +38,10 @@ Stored = HeaderSlice GreenNodeHead GreenChild Global
 abbrev pub node_view : Stored → NodeTerm
 node_view f = node_of f.head.kind.0 (map child_term f.tail.items)
 
+-- what a block is labelled by: its node, as a ghost value
+abbrev pub node_label : NodeTerm → Gv
+node_label = coded_node.code
+
 -- each child's offset is the sum of the lengths before it
 abbrev pub HasOffsetsFrom : ℕ → List GreenChild → Type 0
 HasOffsetsFrom at [] = Unit {0}
@@ -54,3 +60,4 @@ pub record AreSound (len : ℕ) (cs : List GreenChild) : Type 0 where
 pub record IsSound (c : Counted Stored) : Type 0 where
   pub headed : IsHeaded front_words child_words c
   pub sound : AreSound c.value.head.text_len c.value.tail.items
+  pub labelled : c.label ≡ node_label (node_view c.value)

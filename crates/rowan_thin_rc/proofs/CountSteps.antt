@@ -9,12 +9,13 @@ use base.Fraction.{full_share}
 use base.FractionLaws.{Counts}
 use base.Share
 use base.Mask.{every}
+use base.Stored.{Gv}
 use mir.Syntax.{Ty, Tys, Sym, Args, w32, a_type, ty_int, ty_ptr, ty_struct, tcons, tnil}
 use mir.Val.{Val, Vals, vint, vstruct, vcons, vnil, of_list}
 use mir.Raw.{raw as bare}
 use base.Logic.{SProp, ent, sep, all, wand, via, mono_r, never, id⊢, apply∗}
-use base.Fml.{Fml, Lft, Incl, Incl-trans, Key, Share, ftrue, fsep, fhide, fat, froom, flft, fdead}
-use base.Fml.{fbor, fobor, ftok}
+use base.Fml.{Fml, Lft, Incl, Incl-trans, Key, Mask, Share, ftrue, fsep, fex, fhide, fat, froom}
+use base.Fml.{flft, fdead, fbor, fobor, fres, ftok}
 use contract.BorrowLft.{meet_⊑_left, meet_⊑_right}
 use prog.Model.{fields_at, rooms_at}
 use types.Logic.{Logic, sem}
@@ -23,7 +24,7 @@ use types.Kit.{Item, Goal, Seq, Step, Soaks, step, ‵, raw, some, later, given,
 use types.Kit.{qed, by, move, drop, use1, use2, use3, pick, learn, await, group, split, split3}
 use types.Kit.{join, frame, assume, fsplit, fsplit3, fjoin, fjoin3, fpick, fpack, feq_i, feq_l}
 use types.Kit.{flt_i, flt_l, rewrite, updating, now, done}
-use types.Tokens.{shr_bor-open, obor_close, lft_end, lent_back as had_back}
+use types.Tokens.{shr_bor-open, obor_close, lft_end, name_new, lent_back as had_back}
 use types.Within.{tokens_halve}
 use types.Na.{na_inv_dup}
 use types.RcWeak as rc
@@ -31,11 +32,10 @@ use denote.RcWeak as handles
 use denote.RattleType.{RattleType, Valss}
 use denote.Memory.{cell_at, part_at, hidden_shr}
 use denote.Copied.{Copied, plain_Copied, Struct-Copied}
-use denote.RawPtr.{Ptr, RawPtr, block_ptr, ptr_val, coded_ptr, ptr_own, rawptr_pure, block_of}
-use denote.RawPtr.{count_of, in_a_block, ◌+ₚ◌}
+use denote.RawPtr.{Ptr, RawPtr, block_ptr, ptr_val, coded_ptr, ptr_own, rawptr_pure}
+use denote.RawPtr.{in_a_block, ◌+ₚ◌}
 use denote.Opens.{Shut, unhide}
 use denote.Param.{layouts}
-use denote.Sharing.{some as for_some}
 use denote.Steps.{nothing, looks, shuts}
 use denote.Struct.Struct.{Shape, Struct, within}
 use denote.Struct.Laws.{RawPtr-laws}
@@ -48,7 +48,7 @@ use Rattle.std_alloc.proofs.BoxSteps.Steps.{el_out, el_in}
 use Rattle.std_alloc.proofs.RcSteps.{Good, word, word_ty}
 use Rattle.rowan_thin_rc.specs.Counting.{count_at, one_weak, count_box_type, value_offset}
 use Rattle.rowan_thin_rc.specs.Counting.{value_owns, fields_rejoin, value_and_block, value_shared}
-use Rattle.rowan_thin_rc.specs.Counting.{counted_owns}
+use Rattle.rowan_thin_rc.specs.Counting.{mark, counted_owns, counted_shares}
 
 -- the parameter alone, under std's short names
 abbrev pub of : (Y : RattleType) → Laws Y → Bx
@@ -109,8 +109,9 @@ module _ (E : Bx) (ν : Sym) where
         (𝓛.laws.at_raw q' (word_ty ν) b o (word c)) $ word_made c t $ move t (1 ∷ 0 ∷ []) $
         shuts t z Word q' (c, tt) (word c ∷ []) b o $ s)
 
+-- the two lifetimes, and the block's name
 abbrev pub Id : Type 0
-Id = ℕ × ℕ
+Id = ℕ × ℕ × ℕ
 
 abbrev pub cell : ℕ → ℕ → ℕ → Fml
 cell b o n = fat full_share (ty_int w32) b (o + 0) (vint w32 n)
@@ -127,8 +128,8 @@ module _ (E : Bx) where
 
 -- `Types/RcWeak.antt`'s words at the block c and the value x
 module _ (E : Bx) (c : Ptr) (x : X E) where
-  abbrev pub key : Key
-  key = (block_of c, count_of c)
+  abbrev pub key : Id → Key
+  key a = (a.2, 0)
 
   abbrev pub lies : Fml
   lies = value_owns (R E) c x
@@ -139,26 +140,41 @@ module _ (E : Bx) (c : Ptr) (x : X E) where
   abbrev pub sees : Lft → Fml
   sees = value_shared (R E) c x
 
-  abbrev pub counted : Fml
+  -- what the name records
+  abbrev pub marked : Gv → ℕ → Fml
+  marked m γ = fres γ (mark c m)
+
+  -- what every owner sees and knows
+  abbrev pub knows : Gv → Id → Fml
+  knows m a = fsep (marked m a.2) (sees (a.0 ∷ []))
+
+  abbrev pub counted : Gv → Fml
   counted = counted_owns (R E) c x
 
   abbrev pub box : Id → Fml
-  box = rc.box 32 key (count_at c) one_weak there ftrue ftrue
+  box a = rc.box 32 (key a) (count_at c) one_weak there ftrue ftrue (a.0, a.1)
 
   abbrev pub value : Id → Bool → ℕ → Fml
-  value = rc.value 32 key (count_at c) one_weak there ftrue ftrue
+  value a = rc.value 32 (key a) (count_at c) one_weak there ftrue ftrue (a.0, a.1)
 
   abbrev pub weaks : Id → ℕ → Fml
-  weaks = rc.weaks 32 key (count_at c) one_weak there ftrue ftrue
+  weaks a = rc.weaks 32 (key a) (count_at c) one_weak there ftrue ftrue (a.0, a.1)
 
-  abbrev pub handle : Id → Fml
-  handle = handles.handle 32 key (count_at c) one_weak there ftrue ftrue sees (λ a. a.0)
+  abbrev pub handle : ℕ → ℕ × ℕ → Fml
+  handle γ = handles.handle 32 (γ, 0) (count_at c) one_weak there ftrue ftrue sees (λ i. i.0)
 
-  abbrev pub lent : Lft → Fml
-  lent = for_some Id (handles.lent 32 key (count_at c) one_weak there ftrue ftrue sees (λ a. a.0))
+  abbrev pub named : Gv → ℕ → Fml
+  named m γ = fsep (marked m γ) (fex (ℕ × ℕ) (handle γ))
+
+  abbrev pub lent : Gv → Lft → Fml
+  lent = counted_shares (R E) c x
+
+  abbrev pub ClosesIn : {M : Type 1} {𝓤 : Ura M} (𝓛 : Logic 𝓤) → Id → Mask → Item 𝓤
+  ClosesIn 𝓛 a m =
+      raw (rc.Shut 32 (key a) (count_at c) one_weak there ftrue ftrue 𝓛 (a.0, a.1) m)
 
   abbrev pub Closes : {M : Type 1} {𝓤 : Ura M} (𝓛 : Logic 𝓤) → Id → Item 𝓤
-  Closes 𝓛 a = raw (rc.Shut 32 key (count_at c) one_weak there ftrue ftrue 𝓛 a every)
+  Closes 𝓛 a = ClosesIn 𝓛 a every
 
   abbrev pub Back : {M : Type 1} {𝓤 : Ura M} (𝓛 : Logic 𝓤) → Sym → Lft → Share → ℕ → ℕ → ℕ → Share
       → Share → Item 𝓤
@@ -174,25 +190,29 @@ module _ (E : Bx) {M : Type 1} {𝓤 : Ura M} (𝓛 : Logic 𝓤) (c : Ptr) (x :
       (Lends-lies 𝓛 (R E) E.row.lives (c +ₚ value_at E) x ((param_laws 0 E.row E.laws).shares 𝓛 x))
 
   -- the first owner's count
-  pub counts : (μ : Lft) (q : Share) → Incl μ E.row.lives
+  pub counts : (m : Gv) (μ : Lft) (q : Share) → Incl μ E.row.lives
       → ent 𝓤 (sep 𝓤 (sem 𝓛 (fsep (count_at c 1) (there E c x))) (A.lft μ q))
-      (H.⇛ (sep 𝓤 (sem 𝓛 (counted E c x)) (A.lft μ q)))
-  counts μ q inc =
+      (H.⇛ (sep 𝓤 (sem 𝓛 (counted E c x m)) (A.lft μ q)))
+  counts m μ q inc =
       qed 𝓛 (‵ (fsep (count_at c 1) (there E c x)) ∷ ‵ (flft μ q) ∷ []) ∵
-      updating ! $ fsplit ! $ nothing ! $ nothing ! $ fpack ! (1 ≡ 1) (λ _. ftrue) refl $
+      updating ! $ name_new ! tt (mark c m) (λ γ.
+      use1 𝓛 (‵ (marked E c x m γ)) (𝓛.names.obs-res γ (mark c m)) $ move ! (1 ∷ []) $ drop ! $
+      move ! (1 ∷ []) $ fsplit ! $ nothing ! $ nothing ! $ fpack ! (1 ≡ 1) (λ _. ftrue) refl $
       move ! (2 ∷ 0 ∷ 3 ∷ 1 ∷ []) $ group ! 4 $
       use1 𝓛 (later
-      (some (λ (a : Id). ‵ (rc.part 32 a.0) ⊛ ‵ (box E c x a)
-      ⊛ ‵ (fbor (a.0 ∷ []) (there E c x)))))
-      (rc.rc_new 32 (key E c x) (count_at c) one_weak (there E c x) ftrue ftrue 𝓛 (lit< tt)) $
-      await ! tt $ pick ! (λ a. split3 ! $ fpick ! (λ e. fpick ! (λ one.
-      move ! (0 ∷ 3 ∷ []) $ join ! $ move ! (2 ∷ 0 ∷ []) $
-      use2 𝓛 (later (‵ (sees E c x (a.0 ∷ [])) ⊛ ‵ (flft (a.0 ∷ []) e) ⊛ ‵ (flft μ q)))
-      (lends (a.0 ∷ []) ((a.0 ∷ [], e) ∷ (μ, q) ∷ []) (Incl-trans (meet_⊑_right (a.0 ∷ []) μ) inc)
-      (meet_⊑_left (a.0 ∷ []) μ)) $ await ! tt $ split3 ! $
-      move ! (1 ∷ []) $ use1 𝓛 (‵ (rc.part 32 a.0)) (rc.part_in 32 𝓛 a.0 e one) $
+      (some (λ (i : ℕ × ℕ). ‵ (rc.part 32 i.0) ⊛ ‵ (box E c x (i.0, i.1, γ))
+      ⊛ ‵ (fbor (i.0 ∷ []) (there E c x)))))
+      (rc.rc_new 32 (γ, 0) (count_at c) one_weak (there E c x) ftrue ftrue 𝓛 (lit< tt)) $
+      await ! tt $ pick ! (λ i. split3 ! $ fpick ! (λ e. fpick ! (λ one.
+      -- [the token; the invariant; the borrow; what the name records; μ's token]
+      move ! (0 ∷ 4 ∷ []) $ join ! $ move ! (2 ∷ 0 ∷ []) $
+      use2 𝓛 (later (‵ (sees E c x (i.0 ∷ [])) ⊛ ‵ (flft (i.0 ∷ []) e) ⊛ ‵ (flft μ q)))
+      (lends (i.0 ∷ []) ((i.0 ∷ [], e) ∷ (μ, q) ∷ []) (Incl-trans (meet_⊑_right (i.0 ∷ []) μ) inc)
+      (meet_⊑_left (i.0 ∷ []) μ)) $ await ! tt $ split3 ! $
+      move ! (1 ∷ []) $ use1 𝓛 (‵ (rc.part 32 i.0)) (rc.part_in 32 𝓛 i.0 e one) $
       move ! (0 ∷ 3 ∷ 1 ∷ []) $ fjoin3 ! $
-      fpack ! Id (handle E c x) a $ now ! $ done !)))
+      fpack ! (ℕ × ℕ) (handle E c x γ) i $ move ! (2 ∷ 0 ∷ []) $ fjoin ! $
+      fpack ! ℕ (named E c x m) γ $ now ! $ done !))))
 
 module _ (E : Bx) {M : Type 1} {𝓤 : Ura M} (𝓛 : Logic 𝓤) (ν : Sym) (b o : ℕ) where
   open 𝓛 use {H}
@@ -240,8 +260,9 @@ module _ (E : Bx) (c : Ptr) (x : X E) {M : Type 1} {𝓤 : Ura M} {𝓛 : Logic 
       → Step K 𝓛 (‵ (box E c x a) ∷ ‵ (box E c x a) ∷ Γ) G (‵ (box E c x a) ∷ Γ) G
   box_twice t a =
       step (λ s. use1 𝓛 (‵ (box E c x a) ⊛ ‵ (box E c x a))
-      (na_inv_dup 𝓛 (key E c x)
-      (rc.Inv 32 (key E c x) (count_at c) one_weak (there E c x) ftrue ftrue a)) $ split t $ s)
+      (na_inv_dup 𝓛 (key E c x a)
+      (rc.Inv 32 (key E c x a) (count_at c) one_weak (there E c x) ftrue ftrue (a.0, a.1))) $
+      split t $ s)
 
 module _ (E : Bx) (c : Ptr) (x : X E) {M : Type 1} {𝓤 : Ura M} {𝓛 : Logic 𝓤} {K : Type 0}
     {Γ : List (Item 𝓤)} {G : Goal 𝓤 𝓛.H} where
@@ -251,7 +272,8 @@ module _ (E : Bx) (c : Ptr) (x : X E) {M : Type 1} {𝓤 : Ura M} {𝓛 : Logic 
       → Step K 𝓛 (‵ (ftok every) ∷ ‵ (there E c x) ∷ Γ) G (‵ (value E c x a true 1)
       ∷ ‵ (rc.part 32 a.0) ∷ ‵ (weaks E c x a 1) ∷ Closes E c x 𝓛 a ∷ Γ) G
   alone t a z = let I : Fml =
-      rc.Inv 32 (key E c x) (count_at c) one_weak (there E c x) ftrue ftrue a in step (λ next.
+      rc.Inv 32 (key E c x a) (count_at c) one_weak (there E c x) ftrue ftrue (a.0, a.1) in
+      step (λ next.
       fsplit3 t $ move t (0 ∷ 3 ∷ []) $
       use2 𝓛 (‵ (flft (a.0 ∷ []) full_share)) (rc.whole 32 𝓛 a.0) $ lft_end t z $
       use1 𝓛 (‵ (fdead (a.0 ∷ [])) ⊛ ‵ (fdead (a.0 ∷ []))) (𝓛.lfts.dead_dup (a.0 ∷ [])) $ split t $
@@ -259,7 +281,8 @@ module _ (E : Bx) (c : Ptr) (x : X E) {M : Type 1} {𝓤 : Ura M} {𝓛 : Logic 
       move t (3 ∷ []) $ fsplit t $ move t (0 ∷ 4 ∷ []) $
       use2 𝓛 (‵ (flft (a.1 ∷ []) full_share)) (rc.whole 32 𝓛 a.1) $ lft_end t z $
       move t (3 ∷ 0 ∷ []) $ fjoin t $
-      fpack t Bool (rc.state 32 (key E c x) (count_at c) one_weak (there E c x) ftrue ftrue a)
+      fpack t Bool
+      (rc.state 32 (key E c x a) (count_at c) one_weak (there E c x) ftrue ftrue (a.0, a.1))
       false $ move t (0 ∷ 3 ∷ []) $
       use2 𝓛 (later (‵ (ftok every))) (apply∗ 𝓤 (sem 𝓛 I) (H.⇛ (𝓛.A.tok every))) $ await t z $
       move t (1 ∷ []) $ drop t $ next)
@@ -268,36 +291,41 @@ module _ (E : Bx) (c : Ptr) (x : X E) {M : Type 1} {𝓤 : Ura M} {𝓛 : Logic 
     {Γ : List (Item 𝓤)} {G : Goal 𝓤 𝓛.H} where
   open 𝓛 use {H}
 
-  -- [the share; the invariant; what every owner sees]
+  -- [the share; the invariant; what every owner sees and knows]
   pub counted_had : K
-      → ((a : Id) (s : Share) → Counts 32 s 1 → Seq K 𝓛 (‵ (flft (a.0 ∷ []) s) ∷ ‵ (box E c x a)
-      ∷ ‵ (sees E c x (a.0 ∷ [])) ∷ Γ) G)
-      → Seq K 𝓛 (‵ (counted E c x) ∷ Γ) G
-  counted_had t k = fpick t (λ a. fsplit3 t $ fpick t (λ s. fpick t (λ one. k a s one)))
+      → {m : Gv} → ((a : Id) (s : Share) → Counts 32 s 1 → Seq K 𝓛 (‵ (flft (a.0 ∷ []) s)
+      ∷ ‵ (box E c x a) ∷ ‵ (knows E c x m a) ∷ Γ) G)
+      → Seq K 𝓛 (‵ (counted E c x m) ∷ Γ) G
+  counted_had t k =
+      fpick t (λ γ. fsplit t $ move t (1 ∷ []) $ fpick t (λ i. fsplit3 t $
+      move t (3 ∷ 2 ∷ []) $ fjoin t $ move t (1 ∷ 2 ∷ 0 ∷ []) $
+      fpick t (λ s. fpick t (λ one. k (i.0, i.1, γ) s one))))
 
-  pub owner_made : K → (ν : Sym) (a : Id)
-      → Step K 𝓛 (‵ (fsep ((Word E ν).own_val (c, tt) (word c ∷ [])) (counted E c x)) ∷ Γ) G
-      (‵ (rc.part 32 a.0) ∷ ‵ (box E c x a) ∷ ‵ (sees E c x (a.0 ∷ [])) ∷ Γ) G
-  owner_made t ν a = step (λ s. fjoin3 t $ fpack t Id (handle E c x) a $ word_made E ν c t $
-      fjoin t $ s)
+  pub owner_made : K → (ν : Sym) (a : Id) {m : Gv}
+      → Step K 𝓛 (‵ (fsep ((Word E ν).own_val (c, tt) (word c ∷ [])) (counted E c x m)) ∷ Γ) G
+      (‵ (rc.part 32 a.0) ∷ ‵ (box E c x a) ∷ ‵ (knows E c x m a) ∷ Γ) G
+  owner_made t ν a {m} = step (λ s. move t (2 ∷ []) $ fsplit t $ move t (2 ∷ 3 ∷ 1 ∷ []) $ fjoin3 t $
+      fpack t (ℕ × ℕ) (handle E c x a.2) (a.0, a.1) $ move t (1 ∷ 0 ∷ []) $ fjoin t $
+      fpack t ℕ (named E c x m) a.2 $ word_made E ν c t $ fjoin t $ s)
 
   module _ (ν : Sym) (κ : Lft) (q : Share) (b o : ℕ) where
     -- [the share; the invariant; the word; the way back; the invariant; what every owner sees]
-    pub lent_out : K → Soaks G
+    pub lent_out : K → Soaks G → {m : Gv}
         → ((a : Id) (s q' : Share) → Seq K 𝓛 (‵ (flft (a.0 ∷ []) s) ∷ ‵ (box E c x a)
         ∷ ‵ (fat q' (word_ty ν) b o (word c)) ∷ Back E c x 𝓛 ν κ q b o a.0 s q'
-        ∷ ‵ (box E c x a) ∷ ‵ (sees E c x (a.0 ∷ [])) ∷ Γ) G)
-        → Seq K 𝓛 (‵ (hidden_shr (Word E ν) κ (c, tt) b o) ∷ ‵ (fhide (lent E c x κ)) ∷ ‵ (flft κ q)
+        ∷ ‵ (box E c x a) ∷ ‵ (knows E c x m a) ∷ Γ) G)
+        → Seq K 𝓛 (‵ (hidden_shr (Word E ν) κ (c, tt) b o) ∷ ‵ (fhide (lent E c x m κ)) ∷ ‵ (flft κ q)
         ∷ Γ) G
     lent_out t z k =
         move t (2 ∷ []) $
         use1 𝓛 (‵ (flft κ (Share.left q)) ⊛ ‵ (flft κ (Share.right q))) (𝓛.lfts.lft_split κ q) $
         split t $ move t (2 ∷ 1 ∷ []) $ reads E ν c t z b o (λ q'.
         move t (3 ∷ []) $ unhide t $
-        fpick t (λ a. fsplit3 t $ move t (0 ∷ 5 ∷ []) $
-        shr_bor-open t z (tokens_halve 𝓛 (a.0 ∷ [])) (λ s.
+        fpick t (λ γ. fsplit t $ move t (1 ∷ []) $ fpick t (λ i. fsplit3 t $
+        move t (3 ∷ 2 ∷ []) $ fjoin t $ move t (1 ∷ 2 ∷ 0 ∷ []) $ let a : Id = (i.0, i.1, γ) in
+        move t (0 ∷ 5 ∷ []) $ shr_bor-open t z (tokens_halve 𝓛 (a.0 ∷ [])) (λ s.
         move t (0 ∷ 5 ∷ []) $ join t $ move t (2 ∷ []) $ box_twice E c x t a $
-        move t (3 ∷ 0 ∷ 5 ∷ 2 ∷ 1 ∷ 4 ∷ []) $ k a s q')))
+        move t (3 ∷ 0 ∷ 5 ∷ 2 ∷ 1 ∷ 4 ∷ []) $ k a s q'))))
 
     pub lent_back : K → Soaks G → (i : ℕ) (s q' : Share)
         → Step K 𝓛 (‵ (flft κ q) ∷ Γ) G (‵ (flft (i ∷ []) s) ∷ ‵ (fat q' (word_ty ν) b o (word c))
@@ -309,17 +337,17 @@ module _ (E : Bx) (c : Ptr) (x : X E) {M : Type 1} {𝓤 : Ura M} {𝓛 : Logic 
 
   module _ (a : Id) where
     -- [the count; the value; the one weak; what shuts; the share]
-    pub opens_strong : K → Soaks G → (s : Share)
+    pub opens_in : K → Soaks G → (m : Mask) → m (key E c x a) ≡ true → (s : Share)
         → ((n b o : ℕ) → c ≡ block_ptr b o → n < 2 ^ 32 → 0 < n → Seq K 𝓛
-        (‵ (cell b o n) ∷ ‵ (value E c x a true n) ∷ ‵ (weaks E c x a 1) ∷ Closes E c x 𝓛 a
+        (‵ (cell b o n) ∷ ‵ (value E c x a true n) ∷ ‵ (weaks E c x a 1) ∷ ClosesIn E c x 𝓛 a m
         ∷ ‵ (flft (a.0 ∷ []) s) ∷ Γ) G)
-        → Seq K 𝓛 (‵ (box E c x a) ∷ ‵ (flft (a.0 ∷ []) s) ∷ ‵ (ftok every) ∷ Γ) G
-    opens_strong t z s k =
+        → Seq K 𝓛 (‵ (box E c x a) ∷ ‵ (flft (a.0 ∷ []) s) ∷ ‵ (ftok m) ∷ Γ) G
+    opens_in t z m has s k =
         use3 𝓛 (later
         (some (λ (u : ℕ × ℕ). ‵ (count_at c u.0) ⊛ ‵ (one_weak u.1) ⊛ ‵ (value E c x a true u.0)
-        ⊛ ‵ (weaks E c x a u.1) ⊛ ‵ (flft (a.0 ∷ []) s) ⊛ Closes E c x 𝓛 a)))
-        (rc.open_strong 32 (key E c x) (count_at c) one_weak (there E c x) ftrue ftrue 𝓛 a every
-        refl s) $ await t z $ pick t (λ u.
+        ⊛ ‵ (weaks E c x a u.1) ⊛ ‵ (flft (a.0 ∷ []) s) ⊛ ClosesIn E c x 𝓛 a m)))
+        (rc.open_strong 32 (key E c x a) (count_at c) one_weak (there E c x) ftrue ftrue 𝓛
+        (a.0, a.1) m has s) $ await t z $ pick t (λ u.
         split3 t $ move t (2 ∷ []) $ split3 t $ move t (2 ∷ []) $ split t $ move t (5 ∷ []) $
         fpick t (λ em. drop t $
         rewrite t 3 (λ (j : ℕ). ‵ (weaks E c x a j)) em refl $ move t (4 ∷ []) $
@@ -327,34 +355,46 @@ module _ (E : Bx) (c : Ptr) (x : X E) {M : Type 1} {𝓤 : Ura M} {𝓛 : Logic 
         flt_l t (λ fn.
         move t (3 ∷ []) $
         use1 𝓛 (given (0 < u.0) (‵ (value E c x a true u.0)))
-        (rc.strong_some 32 (key E c x) (count_at c) one_weak (there E c x) ftrue ftrue 𝓛 a
-        u.0) $ learn t (λ some'.
+        (rc.strong_some 32 (key E c x a) (count_at c) one_weak (there E c x) ftrue ftrue 𝓛
+        (a.0, a.1) u.0) $ learn t (λ some'.
         move t (1 ∷ 0 ∷ 4 ∷ 3 ∷ 2 ∷ []) $ k u.0 b o e fn some')))))
+
+    pub opens_strong : K → Soaks G → (s : Share)
+        → ((n b o : ℕ) → c ≡ block_ptr b o → n < 2 ^ 32 → 0 < n → Seq K 𝓛
+        (‵ (cell b o n) ∷ ‵ (value E c x a true n) ∷ ‵ (weaks E c x a 1) ∷ Closes E c x 𝓛 a
+        ∷ ‵ (flft (a.0 ∷ []) s) ∷ Γ) G)
+        → Seq K 𝓛 (‵ (box E c x a) ∷ ‵ (flft (a.0 ∷ []) s) ∷ ‵ (ftok every) ∷ Γ) G
+    opens_strong t z = opens_in t z every refl
+
+    pub shut_in : K → Soaks G → (m : Mask) (n b o : ℕ) → c ≡ block_ptr b o → n < 2 ^ 32
+        → Step K 𝓛 (‵ (ftok m) ∷ Γ) G (‵ (cell b o n) ∷ ‵ (value E c x a true n)
+        ∷ ‵ (weaks E c x a 1) ∷ ClosesIn E c x 𝓛 a m ∷ Γ) G
+    shut_in t z m n b o e fn = step (λ next.
+        flt_i t n (2 ^ 32) fn $ fjoin t $ rewrite t 0 (λ (r : Ptr). ‵ (count_at r n)) (sym e) refl $
+        nothing t $ fpack t (1 ≡ 1) (λ _. ftrue) refl $ move t (1 ∷ 0 ∷ []) $ group t 5 $
+        use1 𝓛 (later (‵ (ftok m)))
+        (rc.shut 32 (key E c x a) (count_at c) one_weak (there E c x) ftrue ftrue 𝓛 (a.0, a.1) m
+        true n 1) $ await t z $ next)
 
     pub shut : K → Soaks G → (n b o : ℕ) → c ≡ block_ptr b o → n < 2 ^ 32
         → Step K 𝓛 (‵ (ftok every) ∷ Γ) G (‵ (cell b o n) ∷ ‵ (value E c x a true n)
         ∷ ‵ (weaks E c x a 1) ∷ Closes E c x 𝓛 a ∷ Γ) G
-    shut t z n b o e fn = step (λ next.
-        flt_i t n (2 ^ 32) fn $ fjoin t $ rewrite t 0 (λ (r : Ptr). ‵ (count_at r n)) (sym e) refl $
-        nothing t $ fpack t (1 ≡ 1) (λ _. ftrue) refl $ move t (1 ∷ 0 ∷ []) $ group t 5 $
-        use1 𝓛 (later (‵ (ftok every)))
-        (rc.shut 32 (key E c x) (count_at c) one_weak (there E c x) ftrue ftrue 𝓛 a every true n
-        1) $ await t z $ next)
+    shut t z = shut_in t z every
 
     pub more : K → (n : ℕ) → n + 1 < 2 ^ 32
         → Step K 𝓛 (‵ (value E c x a true (n + 1)) ∷ ‵ (rc.part 32 a.0) ∷ Γ) G
         (‵ (value E c x a true n) ∷ Γ) G
     more t n f =
         step (λ next. use1 𝓛 (‵ (value E c x a true (n + 1)) ⊛ ‵ (rc.part 32 a.0))
-        (rc.more 32 (key E c x) (count_at c) one_weak (there E c x) ftrue ftrue 𝓛 a n f) $ split t $
-        next)
+        (rc.more 32 (key E c x a) (count_at c) one_weak (there E c x) ftrue ftrue 𝓛 (a.0, a.1) n f) $
+        split t $ next)
 
     pub less : K → (n : ℕ) → 1 < n
         → Step K 𝓛 (‵ (value E c x a true (n - 1)) ∷ Γ) G (‵ (value E c x a true n)
         ∷ ‵ (rc.part 32 a.0) ∷ Γ) G
     less t n many =
         use2 𝓛 (‵ (value E c x a true (n - 1)))
-        (rc.less 32 (key E c x) (count_at c) one_weak (there E c x) ftrue ftrue 𝓛 a n many)
+        (rc.less 32 (key E c x a) (count_at c) one_weak (there E c x) ftrue ftrue 𝓛 (a.0, a.1) n many)
 
     -- the last owner: [the value's cell; what it owns; the rejoin; the thread's token]
     pub value_out : K → Soaks G → (n b o : ℕ) → n ≡ 1 → c ≡ block_ptr b o

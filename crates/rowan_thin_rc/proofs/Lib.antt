@@ -1,4 +1,5 @@
 pub mod CountSteps
+pub mod Named
 pub mod Walks
 pub mod Rooms
 pub mod Lodging

@@ -3,8 +3,9 @@
 //! It differs from the kit's `Rc` in two ways. It has no second count, for weak owners. And the
 //! caller makes the block, so more may lie behind the value in the same block. The functions that
 //! use raw pointers have proofs by hand, since the borrow checker does not follow raw pointers.
-ghost use Rattle.std.specs.Prelude.{◌≡◌, ⊤, IfSome};
-ghost use Rattle.rowan_thin_rc.specs.Counting.{room_owns, counted_owns, counted_shares};
+ghost use Rattle.std.specs.Prelude.{◌≡◌, ◌≢◌, ⊤, true, false, IfSome};
+ghost use base.Stored.{Gv};
+ghost use Rattle.rowan_thin_rc.specs.Counting.{room_owns, counted_owns, counted_shares, coded_label};
 
 use std::alloc::AllocError;
 use std::marker::Model;
@@ -46,12 +47,14 @@ impl<T> Model for Room<T> {
 pub struct Counted<T> {
     pub ptr: *const CountBox<T>,
     pub ghost value: { T },
+    /// A value that the maker of the first owner chooses. All owners of a block have the same.
+    pub ghost label: { Gv } by { coded_label },
 }
 
 impl<T> Model for Counted<T> {
-    ghost also_owns = { λ r. counted_owns T.row r.ptr r.value };
+    ghost also_owns = { λ r. counted_owns T.row r.ptr r.value r.label };
 
-    ghost also_shares = { λ r _ κ. counted_shares T.row r.ptr r.value κ };
+    ghost also_shares = { λ r _ κ. counted_shares T.row r.ptr r.value r.label κ };
 }
 
 impl<T> Room<T> {
@@ -74,7 +77,8 @@ impl<T> Counted<T> {
 
     /// The first owner, which writes the value into the room.
     pub fn from_room(room: Room<T>, value: T) -> Counted<T>
-        ensures { (result.value ≡ value) × (result.ptr ≡ room.ptr) }
+        ghost label: { Gv }
+        ensures { (result.value ≡ value) × (result.ptr ≡ room.ptr) × (result.label ≡ label) }
     {
         let Room { ptr } = room;
         unsafe {
@@ -92,7 +96,7 @@ impl<T> Counted<T> {
 
     /// One more owner. `None` if there are 4,294,967,295 of them already.
     pub fn try_clone(&self) -> Option<Counted<T>>
-        ensures { IfSome result (λ c. (c.value ≡ self.now.value) × (c.ptr ≡ self.now.ptr)) }
+        ensures { IfSome result (λ c. c ≡ self.now) }
     {
         let ptr = self.ptr.cast_mut();
         unsafe {
@@ -103,6 +107,25 @@ impl<T> Counted<T> {
             (*ptr).count = n + 1;
         }
         Some(Counted { ptr })
+    }
+
+    /// Whether both own one block. A count is never 0 while an owner lives. So a 0 is written
+    /// through one owner, and where the other reads it, both have one count. The count is then
+    /// restored.
+    pub fn same_block(&self, other: &Counted<T>) -> bool
+        ensures same { result ≡ true → (self.now.ptr ≡ other.now.ptr)
+            × (self.now.label ≡ other.now.label) }
+        ensures apart { result ≡ false → self.now.ptr ≢ other.now.ptr }
+    {
+        let here = self.ptr.cast_mut();
+        let there = other.ptr;
+        unsafe {
+            let kept = (*here).count;
+            (*here).count = 0;
+            let seen = (*there).count;
+            (*here).count = kept;
+            seen == 0
+        }
     }
 
     /// Gives this owner up. The last owner gets the value, and the room that the value had.

@@ -5,6 +5,7 @@
 ghost use Rattle.std.specs.Prelude.{◌≡◌, ◌+◌, ◌*◌, ◌-◌, ◌^◌, ◌<◌, ◌≤◌, [], length, take, drop};
 ghost use Rattle.std.specs.Prelude.{IfOk, IfErr, IfSome, OnErr, OnOk};
 ghost use Rattle.std.specs.Vec.{vec_len, vec_capacity, vec_ptr};
+ghost use base.Stored.{Gv};
 ghost use denote.RawPtr.{◌+ₚ◌};
 ghost use Rattle.rowan_thin_rc.specs.Ownership.{front_size};
 ghost use Rattle.rowan_thin_rc.specs.Shape.{Fits, IsHeaded, IsOpen, IsInPlace, HasRoomFor};
@@ -107,11 +108,12 @@ impl<H, T, A: Allocator> Open<H, T, A> {
 
     /// The first owner of the block, with this head. The block has no room to spare.
     pub fn close(self, head: H, front: usize, item: usize) -> ThinRc<H, T, A>
+        ghost label: { Gv }
         requires fits { Fits (slice_row H.row T.row A.row A.Allocator) T.row front item }
         requires parts { IsOpen front item self }
         requires exact { vec_capacity self.list ≡ room_of (vec_len self.list) }
         ensures { IsHeaded front item result × (head_of result ≡ head)
-            × (items_of result ≡ self.list.items) }
+            × (items_of result ≡ self.list.items) × (result.label ≡ label) }
     {
         let Open {
             room,
@@ -190,10 +192,11 @@ impl<H, T, A: Allocator> HeaderSlice<H, T, A> {
         front: usize,
         item: usize,
     ) -> Result<ThinRc<H, T, A>, H>
+        ghost label: { Gv }
         requires fits { Fits (slice_row H.row T.row A.row A.Allocator) T.row front item }
         requires first { first ≤ vec_len items.old }
         ensures ok { IfOk result (λ c. IsHeaded front item c × (head_of c ≡ head)
-            × (items_of c ≡ drop first items.old.items)) }
+            × (items_of c ≡ drop first items.old.items) × (c.label ≡ label)) }
         ensures left { OnOk result (items.new.items ≡ take first items.old.items) }
         ensures in_place { IsInPlace items.old items.new }
         ensures err { OnErr result (items.new ≡ items.old) }

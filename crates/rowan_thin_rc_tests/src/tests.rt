@@ -103,3 +103,43 @@ fn no_block_is_too_large(rt: HostRuntime) -> Result<(), AllocError> {
         }
     }
 }
+
+/// A node over the leaves 0, 1 and so on.
+fn over_leaves(alloc: Global, count: u32) -> Result<Node, AllocError> {
+    let mut list = Loose::with_capacity(alloc, 4)?;
+    for k in 0..count {
+        list.push(Child::Leaf(k))?;
+    }
+    let head = Head {
+        kind: 1,
+        text_len: 0,
+    };
+    Node::from_last(alloc, head, &mut list, 0)
+}
+
+#[test]
+fn a_block_is_the_same_as_that_of_its_clones_alone(rt: HostRuntime) -> Result<(), AllocError> {
+    let node = over_leaves(rt.alloc(), 3)?;
+    let copy = node.clone()?;
+    let equal = over_leaves(rt.alloc(), 3)?;
+    assert!(rt; node.data.same_block(&node.data));
+    assert!(rt; node.data.same_block(&copy.data));
+    assert!(rt; copy.data.same_block(&node.data));
+    assert!(rt; !node.data.same_block(&equal.data));
+    assert!(rt; !equal.data.same_block(&copy.data));
+    Ok(())
+}
+
+#[test]
+fn a_block_that_was_asked_about_keeps_its_owners(rt: HostRuntime) -> Result<(), AllocError> {
+    let node = over_leaves(rt.alloc(), 3)?;
+    let copy = node.clone()?;
+    assert!(rt; node.data.same_block(&copy.data));
+    drop(copy);
+    assert!(rt; leaf_sum(&node) == 3);
+    let again = node.clone()?;
+    drop(node);
+    assert!(rt; again.data.same_block(&again.data));
+    assert!(rt; leaf_sum(&again) == 3);
+    Ok(())
+}

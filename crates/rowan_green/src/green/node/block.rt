@@ -1,5 +1,6 @@
 //! The block of a node that is being made, whose children go straight into the memory that the node
 //! will have, and how a block is dropped.
+ghost use base.Stored.{Gv};
 ghost use Rattle.std.specs.Prelude.{◌≡◌, ◌<◌, ◌≤◌, [], ◌∷◌, ◌++◌, length, take, max, OnOk, OnErr};
 ghost use Rattle.std.specs.Prelude.{IfOk, IfSome, IsNone};
 ghost use Rattle.std.specs.Vec.{vec_len, vec_capacity};
@@ -180,7 +181,9 @@ impl ChildBlock {
         mut self,
         head: GreenNodeHead,
     ) -> Result<ThinRc<GreenNodeHead, GreenChild, Global>, AllocError>
+        ghost label: { Gv }
         ensures shape { IfOk result (IsHeaded front_words child_words) }
+        ensures label { IfOk result (λ c. c.label ≡ label) }
         ensures parts { IfOk result (λ c. (head_of c ≡ head)
             × (items_of c ≡ self.block.list.items)) }
     {

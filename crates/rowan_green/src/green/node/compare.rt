@@ -1,5 +1,5 @@
 //! When two green nodes are equal: where they have the same kind and equal children.
-ghost use Rattle.std.specs.Prelude.{◌≡◌, ◌+◌, ◌<◌, ◌≤◌, ◌&&◌};
+ghost use Rattle.std.specs.Prelude.{◌≡◌, ◌+◌, ◌<◌, ◌≤◌, ◌&&◌, true};
 
 use super::{GreenChild, GreenNode, MAX_RECURSION};
 use crate::utility_types::NodeOrToken;
@@ -29,6 +29,13 @@ impl PartialEq for GreenNode {
 }
 
 impl GreenNode {
+    // Whether both are one block.
+    fn is_shared_with(&self, other: &GreenNode) -> bool
+        ensures { result ≡ true → self.now ≡ other.now }
+    {
+        self.data.same_block(&other.data)
+    }
+
     ghost use Rattle.rowan_green.specs.Term.{node_size};
     ghost use Rattle.rowan_green.specs.Same.{same_node};
     ghost use Rattle.rowan_green.specs.Unread.{same_pairs, pairs_size};
@@ -48,6 +55,9 @@ impl GreenNode {
         ensures smaller { pairs_size rest.new.items
             < pairs_size rest.old.items + node_size self.now }
     {
+        if self.is_shared_with(other) {
+            return true;
+        }
         if self.kind() != other.kind() {
             return false;
         }

@@ -252,3 +252,18 @@ compare::GreenNodePartialEq::eq-loop-pair-preserved t c = record {
         c.in-Some.ensures.items,
   );
 }
+
+pub GreenNode::is_same_but_for-returns-then-is_shared_with-clause-same :
+    goal.GreenNode::is_same_but_for-returns-then-is_shared_with-clause-same
+GreenNode::is_same_but_for-returns-then-is_shared_with-clause-same t c =
+    ap (λ r. r && same_pairs c.args.rest.now.items)
+    (sym ((same_node-decides c.args.self.now c.args.other.now).1
+    (c.is_shared_with.ensures c.if-is_shared_with.true)))
+
+some_size : (n : NodeTerm) → 0 < node_size n
+some_size (node k f) = omega arith
+
+pub GreenNode::is_same_but_for-returns-then-is_shared_with-clause-smaller :
+    goal.GreenNode::is_same_but_for-returns-then-is_shared_with-clause-smaller
+GreenNode::is_same_but_for-returns-then-is_shared_with-clause-smaller t c =
+    omega (arith, some_size c.args.self.now)

@@ -107,7 +107,7 @@ module _ (E : Bx) {M : Type 1} {𝓤 : Ura M} (𝓛 : Logic 𝓤) (at_mem : Memo
         qed 𝓛 (((‵ (flft κ q) ⊛ others)
         ⊛ ‵ (owns (types_at (ended E).signature.params z.0.0) z.0.3 (us, tt))) ∷ asked ∷ []) ∵
         split ! $ split ! $ move ! (2 ∷ []) $ fsplit ! $ fsplit ! $ keep ! (1 ∷ 3 ∷ 4 ∷ []) $
-        use1 𝓛 (‵ (hidden_shr (Word E (ν E)) κ (c, tt) b o) ⊛ ‵ (fhide (lent E c x κ))) (id⊢ 𝓤 _) $
+        use1 𝓛 (‵ (hidden_shr (Word E (ν E)) κ (c, tt) b o) ⊛ ‵ (fhide (lent E c x z.0.3.0.now.label κ))) (id⊢ 𝓤 _) $
         split ! $ move ! (1 ∷ []) $ drop ! $
         enter ! C Λ (fn' E) us _ $ alloc_all ! (λ l. pass_all ! refl ((tt, tt), tt) $
         let En : Env 𝓤 H = env (fn' E).locals l in

@@ -6,6 +6,7 @@ use mir.Syntax.{Fn, Sym, w32, ty_int}
 use mir.Val.{Val, vint}
 use base.Logic.{SProp, ent, never, id⊢}
 use base.Fml.{Lft, Share, ftrue, fsep, froom, flft}
+use base.Stored.{Gv}
 use prog.Wp.{Env, Calls, Loops, WpFn, Tables}
 use contract.BorrowLft.{◌⊑◌}
 use types.Kit.{Item, ⋆, ‵, raw, later, ◌⊛◌, at_ret, ◌$◌, ◌∵◌, !, qed, by, move, keep, use1, use2}
@@ -93,6 +94,9 @@ module _ (E : Bx) {M : Type 1} {𝓤 : Ura M} (𝓛 : Logic 𝓤) (at_mem : Memo
     abbrev x : X E
     x = z.0.3.1.0
 
+    abbrev m : Gv
+    m = z.1
+
     abbrev κ : Lft
     κ = z.0.0.0
 
@@ -123,7 +127,7 @@ module _ (E : Bx) {M : Type 1} {𝓤 : Ura M} (𝓛 : Logic 𝓤) (at_mem : Memo
         sets ! (agg ! (and_then ! (get ! refl) (no_more !))) refl (word-Good (ν E) c) $ group ! 2 $
         use1 𝓛 (‵ (fsep (count_at c 1) (there E c x)))
         (block_made E 𝓛 (RB.the_type (R E)).name b o x v) $
-        use2 𝓛 (later (‵ (counted E c x) ⊛ ‵ (flft κ q))) (counts E 𝓛 c x κ q lt) $ await ! tt $
+        use2 𝓛 (later (‵ (counted E c x m) ⊛ ‵ (flft κ q))) (counts E 𝓛 c x m κ q lt) $ await ! tt $
         split ! $
         word_made E (ν E) c ! $ fjoin ! $
         returns ! (look_at ! 0 refl) $ free_all ! refl $ nothing ! $ move ! (2 ∷ 0 ∷ []) $ join ! $
@@ -131,8 +135,9 @@ module _ (E : Bx) {M : Type 1} {𝓤 : Ura M} (𝓛 : Logic 𝓤) (at_mem : Memo
         suffices ! _ (ends_at 𝓛 (ended E) (stayed E) held z (word c) (record {
           ptr = c;
           value = x;
+          label = m;
         }) (tt, (tt, tt)) (tt, (tt, tt))) $
-        says ! (refl, sym e) $ nothing ! $ nothing ! $ fjoin ! $ nothing ! $ fjoin ! $ join ! $
+        says ! (refl, sym e, refl) $ nothing ! $ nothing ! $ fjoin ! $ nothing ! $ fjoin ! $ join ! $
         move ! (1 ∷ 0 ∷ []) $ join ! $ done !)
 
     walks : ent 𝓤 ((walk_of 𝓛 (ended E) (stayed E) held).pre z)

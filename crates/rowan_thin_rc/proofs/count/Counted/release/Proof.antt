@@ -114,7 +114,7 @@ module _ (E : Bx) {M : Type 1} {𝓤 : Ura M} (𝓛 : Logic 𝓤) (at_mem : Memo
     toks = ‵ (flft z.0.0.0 z.0.1.0) ⊛ ‵ ftrue
 
     abbrev Had : List (Item 𝓤)
-    Had = ‵ (counted E c x) ∷ toks ∷ ‵ (ftok every) ∷ []
+    Had = ‵ (counted E c x z.0.3.0.label) ∷ toks ∷ ‵ (ftok every) ∷ []
 
     walk : ent 𝓤 (⋆ 𝓛 Had) (WpFn 𝓤 H C Λ (fn' E) (word c ∷ []) (Post us))
     walk =

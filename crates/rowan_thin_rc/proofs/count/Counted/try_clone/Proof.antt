@@ -127,7 +127,7 @@ module _ (E : Bx) {M : Type 1} {𝓤 : Ura M} (𝓛 : Logic 𝓤) (at_mem : Memo
         ∷ (‵ (ftok every) ⊛ asked) ∷ []) ∵
         split ! $ split ! $ move ! (3 ∷ []) $ split ! $ move ! (4 ∷ []) $ fsplit ! $ fsplit ! $
         keep ! (1 ∷ 5 ∷ 3 ∷ 6 ∷ []) $
-        use1 𝓛 (‵ (hidden_shr (Word E (ν E)) κ (c, tt) b o) ⊛ ‵ (fhide (lent E c x κ))) (id⊢ 𝓤 _) $
+        use1 𝓛 (‵ (hidden_shr (Word E (ν E)) κ (c, tt) b o) ⊛ ‵ (fhide (lent E c x z.0.3.0.now.label κ))) (id⊢ 𝓤 _) $
         split ! $
         enter ! C Λ (fn' E) us _ $ alloc_all ! (λ l. pass_all ! refl ((tt, tt), tt) $
         let En : Env 𝓤 H = env (fn' E).locals l in
@@ -159,7 +159,7 @@ module _ (E : Bx) {M : Type 1} {𝓤 : Ura M} (𝓛 : Logic 𝓤) (at_mem : Memo
         (after_seq 𝓤 H (Wp 𝓤 H C Λ En (after 3 (fn' E).body) (at_return 𝓤 H En (Post us)))
         (at_return 𝓤 H En (Post us))))) $
         let f₁ : n + 1 < 2 ^ 32 = omega (arith, is_not n (2 ^ 32 - 1) room) in
-        let made : (Out E).Denot = record { ptr = c; value = x } in
+        let made : (Out E).Denot = record { ptr = c; value = x; label = z.0.3.0.now.label } in
         sets ! (bin ! (get ! refl) (lit ! tt) (record { fits = f₁ })) refl (
           tt,
           record {
@@ -182,7 +182,7 @@ module _ (E : Bx) {M : Type 1} {𝓤 : Ura M} (𝓛 : Logic 𝓤) (at_mem : Memo
         returns ! (look_at ! 0 refl) $ free_all ! refl $ keep ! (0 ∷ 1 ∷ 3 ∷ 2 ∷ []) $
         suffices ! _ (ends_at 𝓛 (ended E) (stayed E) held (At us) (live 1 (vcons (word c) vnil))
         (Some made) (tt, tt) (tt, tt)) $ nothing ! $ nothing ! $ fjoin ! $ join ! $
-        move ! (1 ∷ 2 ∷ []) $ join ! $ join ! $ frame ! $ says ! (refl, refl) $ done !))))
+        move ! (1 ∷ 2 ∷ []) $ join ! $ join ! $ frame ! $ says ! refl $ done !))))
 
   meets : (𝓣 : Tables 𝓤 H)
       → Meets 𝓛 (ended E).signature (WpFn 𝓤 H 𝓣.C 𝓣.Λ (fn' E)) (closing 𝓛 (ended E) held)

@@ -7,7 +7,7 @@ use base.Logic.{SProp, ent, via, fst∗, snd∗, never, id⊢}
 use base.Fml.{Lft, Share, ftrue, fat, flft, fhide}
 use prog.Wp.{Env, Calls, Loops, WpFn, Tables}
 use types.Kit.{Item, ‵, raw, ◌⊛◌, at_ret, ◌$◌, ◌∵◌, !, qed, move, keep, drop, use1, split, join}
-use types.Kit.{fsplit, fjoin, feq_i, rewrite, suffices, done}
+use types.Kit.{fsplit, fjoin, fpick, feq_i, rewrite, suffices, done}
 use types.Run.{stop, hop, fld, addr, of_opd, first, blocks, exec, returns, enter}
 use types.Part.{look_in, sub, whole}
 use types.ByLocal.{alloc_all, pass_all, free_all, look_at, get, through, sets, sets_last, env}
@@ -41,7 +41,7 @@ use denote.Struct.Lending.{lent_at_shr_laws}
 use Rattle.std_alloc.proofs.VecSteps.Shapes.{after}
 use Rattle.std_alloc.proofs.BoxSteps.Form.{Bx, X, R}
 use Rattle.std_alloc.proofs.RcSteps.{word, word_ty}
-use Rattle.rowan_thin_rc.proofs.CountSteps.{of, args₁, Word, reads, read, value_at, key, there}
+use Rattle.rowan_thin_rc.proofs.CountSteps.{of, args₁, Word, reads, read, value_at, there}
 use Rattle.rowan_thin_rc.proofs.CountSteps.{sees, lent}
 use Rattle.rowan_thin_rc.specs.contracts.count.Counted as RC
 use Rattle.rowan_thin_rc.specs.contracts.count.Counted.value as F
@@ -113,10 +113,11 @@ module _ (E : Bx) {M : Type 1} {𝓤 : Ura M} (𝓛 : Logic 𝓤) (at_mem : Memo
         qed 𝓛 (((‵ (flft κ q) ⊛ others)
         ⊛ ‵ (owns (types_at (ended E).signature.params z.0.0) z.0.3 (us, tt))) ∷ asked ∷ []) ∵
         split ! $ split ! $ move ! (2 ∷ []) $ fsplit ! $ fsplit ! $ keep ! (1 ∷ 3 ∷ 4 ∷ []) $
-        use1 𝓛 (‵ (hidden_shr (Word E (ν E)) κ (c, tt) b o) ⊛ ‵ (fhide (lent E c x κ))) (id⊢ 𝓤 _) $
+        use1 𝓛 (‵ (hidden_shr (Word E (ν E)) κ (c, tt) b o) ⊛ ‵ (fhide (lent E c x z.0.3.0.now.label κ))) (id⊢ 𝓤 _) $
         split ! $ move ! (1 ∷ []) $ unhide ! $
+        fpick ! (λ γ. fsplit ! $ drop ! $
         use1 𝓛 (‵ (sees E c x κ))
-        (rc_sees 32 (key E c x) (count_at c) one_weak (there E c x) ftrue ftrue (sees E c x) 𝓛
+        (rc_sees 32 (γ, 0) (count_at c) one_weak (there E c x) ftrue ftrue (sees E c x) 𝓛
         (lent_at_shr_laws (R E) E.laws.shr_laws (c +ₚ value_at E) x) κ) $
         in_a_block ! c (λ r. lent_at (R E) (r +ₚ value_at E) x κ)
         (fst∗ 𝓤 (never 𝓤) (sem 𝓛 (shared_of (R E) x 0 0 κ))) (λ cb co e. fsplit ! $ drop ! $
@@ -145,7 +146,7 @@ module _ (E : Bx) {M : Type 1} {𝓤 : Ura M} (𝓛 : Logic 𝓤) (at_mem : Memo
           now = x;
         }) (tt, tt) (tt, tt)) $
         says ! refl $ nothing ! $ nothing ! $ fjoin ! $ join ! $ move ! (1 ∷ 2 ∷ []) $ join ! $
-        join ! $ done !)))
+        join ! $ done !))))
 
   meets : (𝓣 : Tables 𝓤 H)
       → Meets 𝓛 (ended E).signature (WpFn 𝓤 H 𝓣.C 𝓣.Λ (fn' E)) (closing 𝓛 (ended E) held)

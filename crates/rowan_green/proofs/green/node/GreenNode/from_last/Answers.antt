@@ -1,7 +1,7 @@
 use Rattle.std.proofs.Common.{map, ◌∙◌, ap, sym, subst}
 use Rattle.rowan_green.specs.Fits.{AreWithin}
 use Rattle.rowan_green.specs.Term.{node_of}
-use Rattle.rowan_green.specs.View.{child_term, AreSound}
+use Rattle.rowan_green.specs.View.{child_term, node_label, AreSound}
 use Rattle.rowan_green.proofs.ChildList.{take-children, drop-children}
 use Rattle.rowan_green.proofs.green.node.GreenNode.from_last.Goals as goal
 
@@ -13,6 +13,8 @@ invariant_of-result c =
           (sym (ap (λ h. h.text_len) is.1))
           (subst (λ cs. AreSound c.in_ok-text_len.text_len cs) (sym is.2)
           c.in_ok-text_len.ensures.ok);
+      labelled = is.3
+          ∙ sym (λ i. node_label (node_of (is.1 i).kind.0 (map child_term (is.2 i))));
     }
 
 pub returns-in-Ok-clause-ok : goal.returns-in-Ok-clause-ok
