@@ -2,7 +2,7 @@
 
 use crate::calls::Call::{Finish, Start};
 use crate::calls::Way;
-use crate::edits::Edit;
+use crate::edits::{Edit, Source};
 use crate::making::Make;
 use crate::moving::{Listing, Move};
 use crate::searches::Search;
@@ -48,7 +48,7 @@ pub const MAKING: Step = Step::Phase(Phase::Making);
 
 pub const MOVING: Step = Step::Phase(Phase::Moving);
 
-pub const CASES: [Case; 42] = [
+pub const CASES: [Case; 43] = [
     Case {
         name: "math_operations",
         steps: &[Step::Build(&MATH)],
@@ -91,6 +91,23 @@ pub const CASES: [Case; 42] = [
             Step::Make(Make::Edited(Edit::Remove(0))),
             Step::Make(Make::Edited(Edit::Splice(0, 1))),
             Step::Tree,
+        ],
+    },
+    Case {
+        name: "splices_of_uncounted_children",
+        steps: &[
+            Step::Make(Make::Token(1, "a")),
+            Step::Make(Make::Token(1, "b")),
+            Step::Make(Make::Token(1, "c")),
+            Step::Make(Make::Token(1, "d")),
+            Step::Make(Make::Token(1, "e")),
+            Step::Make(Make::Token(1, "f")),
+            Step::Make(Make::Token(1, "g")),
+            Step::Make(Make::Token(1, "h")),
+            Step::Make(Make::Node(7)),
+            Step::Make(Make::Edited(Edit::SpliceSome(Source::Boaster(5)))),
+            Step::Equal,
+            Step::Make(Make::Edited(Edit::SpliceSome(Source::Chain(8)))),
         ],
     },
     Case {

@@ -1,7 +1,7 @@
 //! Values that are made, each in one call that only want of memory refuses.
 
 use crate::calls::Call;
-use crate::edits::Edit;
+use crate::edits::{Edit, Source};
 use crate::shape::Shape;
 use crate::traces::Stride;
 use crate::transcript::{Stop, Transcript};
@@ -88,7 +88,8 @@ pub enum Make {
 
 impl Make {
     /// The name of the call. That of a call which drops large values, too, ends in `with drops`,
-    /// for these requests need no answer.
+    /// for these requests need no answer. That of a call which is to make so many requests and no
+    /// more ends in their number.
     pub fn name(self) -> &'static str {
         match self {
             Make::Tree(_) => "a tree",
@@ -98,6 +99,12 @@ impl Make {
             Make::Edited(Edit::Insert(_)) => "insert_child",
             Make::Edited(Edit::Remove(_)) => "remove_child",
             Make::Edited(Edit::Splice(_, _)) => "splice_children",
+            Make::Edited(Edit::SpliceSome(Source::Boaster(_))) => {
+                "splice_children of none, in 1 request"
+            }
+            Make::Edited(Edit::SpliceSome(Source::Chain(_))) => {
+                "splice_children of a chain, in 3 requests"
+            }
             Make::Replaced => "replace_with",
             Make::TypedReplaced => "typed replace_with",
             Make::RefReplaced => "replace_with by ref",

@@ -1,6 +1,6 @@
 //! Edits: nodes like another one but for some children. The children that stay are shared, and
 //! nothing is copied of their text.
-ghost use Rattle.std.specs.Prelude.{◌≡◌, ◌≢◌, ◌<◌, ◌≤◌, ◌++◌, length, take, drop, map, IfOk, IfErr};
+ghost use Rattle.std.specs.Prelude.{◌≡◌, ◌≢◌, ◌<◌, ◌≤◌, [], ◌++◌, length, take, drop, map, IfOk, IfErr};
 ghost use Rattle.std.specs.Prelude.{OnOk};
 ghost use Rattle.std.specs.Iterator.{IsFiniteIterable};
 ghost use Rattle.rowan_green.specs.Edits.{replaced, inserted, removed, spliced, spliced_so_far};
@@ -12,7 +12,7 @@ ghost use Rattle.rowan_green.specs.Term.{node_children};
 use super::block::ChildBlock;
 use super::{GreenChild, GreenNode, NodeDraft};
 use crate::fault::Fault;
-use crate::green::GreenElement;
+use crate::green::{GreenElement, MAX_CHILDREN};
 use std::alloc::AllocError;
 use std::ops::Range;
 
@@ -56,7 +56,9 @@ impl GreenNode {
         ensures ok { IfOk result (IsEditOf self.now (λ ts. inserted ts index new_child)) }
         ensures err { IfErr result (WhyNoNode (inserted (node_children self.now) index new_child)) }
     {
-        let mut draft = self.draft_before(index, self.child_count() + 1)?;
+        // A block cannot have more room, and `push` says what is wrong with a child too many.
+        let room = (self.child_count() + 1).min(MAX_CHILDREN);
+        let mut draft = self.draft_before(index, room)?;
         draft.push(new_child)?;
         self.finish_after(draft, index)
     }
@@ -97,9 +99,8 @@ impl GreenNode {
     {
         let new_children = replace_with.into_iter();
         let kept = self.child_count() - (range.end - range.start);
-        // Room for the new children, too, as far as the block would get it by growing once.
-        let more = new_children.size_hint().0.min(kept);
-        let mut draft = self.draft_before(range.start, kept.saturating_add(more))?;
+        let block = self.block_for(kept, new_children.size_hint())?;
+        let mut draft = self.draft_in(block, range.start)?;
         for element in new_children {
             draft.push(element)?;
         }
@@ -114,13 +115,41 @@ impl GreenNode {
         self.child_slice().len()
     }
 
+    // A block with room for the children that stay, and for the new ones if the size hint of their
+    // iterator is exact: at most the room that growing once would give. If that allocation fails,
+    // the block has room for the children that stay. Where an iterator gives fewer children than an
+    // exact hint says, `close` allocates once more.
+    fn block_for(&self, kept: usize, new: (usize, Option<usize>)) -> Result<ChildBlock, AllocError>
+        ensures { IfOk result (λ b. b.block.list.items ≡ []) }
+    {
+        let new = match new {
+            (least, Some(most)) if least == most => most.min(kept),
+            _ => 0,
+        };
+        let room = kept.saturating_add(new).min(MAX_CHILDREN);
+        if kept < room {
+            if let Ok(block) = ChildBlock::with_capacity(self.allocator(), room) {
+                return Ok(block);
+            }
+        }
+        ChildBlock::with_capacity(self.allocator(), kept)
+    }
+
     // A draft of the children before an index, with room for this many children.
     fn draft_before(&self, index: usize, room: usize) -> Result<NodeDraft, AllocError>
         requires { index ≤ length (node_children self.now) }
         ensures { IfOk result (λ d. d ≡ take index (node_children self.now)) }
     {
+        self.draft_in(ChildBlock::with_capacity(self.allocator(), room)?, index)
+    }
+
+    // A draft of the children before an index, in a block that has none yet.
+    fn draft_in(&self, mut children: ChildBlock, index: usize) -> Result<NodeDraft, AllocError>
+        requires empty { children.block.list.items ≡ [] }
+        requires index { index ≤ length (node_children self.now) }
+        ensures { IfOk result (λ d. d ≡ take index (node_children self.now)) }
+    {
         let shared = self.child_slice();
-        let mut children = ChildBlock::with_capacity(self.allocator(), room)?;
         for child in shared.split_at(index).0 {
             children.push(child.clone()?)?;
         }

@@ -6,15 +6,15 @@ use Rattle.rowan_green.specs.View.{child_term, AreSound}
 use Rattle.rowan_green.proofs.ChildList.{take-children}
 use Rattle.rowan_green.proofs.SearchLemmas.{offset-is}
 use Rattle.rowan_green.proofs.Sound.{AreSound-take}
-use Rattle.rowan_green.proofs.green.node.GreenNode.draft_before.Goals as goal
-use Rattle.rowan_green.proofs.green.node.GreenNode.draft_before.Goals.{in-Some, in-None}
+use Rattle.rowan_green.proofs.green.node.GreenNode.draft_in.Goals as goal
+use Rattle.rowan_green.proofs.green.node.GreenNode.draft_in.Goals.{in-Some, in-None}
 
 pub split_at-requires : goal.split_at-requires
 split_at-requires c =
     let terms = c.child_slice-shared.ensures.terms in
     omega (
       arith,
-      c.requires,
+      c.requires.index,
       ap length terms,
       length-map c.child_slice-shared.result.now child_term,
     )
