@@ -2,7 +2,7 @@
 //! will have, and how a block is dropped.
 ghost use base.Stored.{Gv};
 ghost use Rattle.std.specs.Prelude.{◌≡◌, ◌<◌, ◌≤◌, [], ◌∷◌, ◌++◌, length, take, max, OnOk, OnErr};
-ghost use Rattle.std.specs.Prelude.{IfOk, IfSome, IsNone};
+ghost use Rattle.std.specs.Prelude.{IfOk, IfSome, IsNone, IsSome};
 ghost use Rattle.std.specs.Vec.{vec_len, vec_capacity};
 ghost use Rattle.rowan_green.specs.NodeBlock.{front_words, child_words};
 ghost use Rattle.rowan_thin_rc.specs.Shape.{IsOpen, IsHeaded, head_of, items_of, room_of};
@@ -21,8 +21,9 @@ pub(crate) struct ChildBlock {
 }
 
 // A loop over a list of the blocks that are still to be dropped, so that a deep tree does not run
-// out of stack. A block whose nodes all have other owners asks for no memory. It stands apart, so
-// that a node's drop stays small where it is inlined.
+// out of stack. The list has at most one block a level of the tree, and a block asks for no memory
+// where no child node of its last owner has nodes of its own. It stands apart, so that a node's drop
+// stays small where it is inlined.
 impl Drop for ChildBlock {
     #[cycle(drop)]
     #[inline(never)]
@@ -39,40 +40,78 @@ impl ChildBlock {
     ghost use Rattle.std.specs.Prelude.{◌+◌};
     ghost use Rattle.rowan_green.specs.Sizes.{children_size, kept_size};
 
-    // Drops the block with its children. Where that was the last owner of a node, the node's own
-    // block is put at the end of the list.
+    // Drops the block with its children, the last one first. Where that was the last owner of a node
+    // with nodes of its own, these come first, and what is left of the block goes to the list.
     #[cycle(drop)]
     fn drop_into(self, rest: &mut Vec<ManuallyDrop<ChildBlock>>)
         ensures { kept_size rest.new.items
             ≤ kept_size rest.old.items + children_size self.block.list.items }
     {
-        let ChildBlock { mut block } = self;
-        while block.list.len() > 0 {
-            match block.list.take_last() {
+        let mut block = self;
+        while let Some(child) = block.pop() {
+            match child {
                 GreenChild::Node { node, .. } => {
-                    if let Some(inner) = node.release() {
-                        inner.put_off(rest);
+                    if let Some(children) = node.release() {
+                        if let Some(inner) = children.drop_tokens() {
+                            block = block.wait_for(inner, rest);
+                        }
                     }
                 }
                 GreenChild::Token { token, .. } => drop(token),
             }
         }
+        block.free();
+    }
+
+    // Drops the tokens behind the last node, and the block itself where no child is a node.
+    fn drop_tokens(self) -> Option<ChildBlock>
+        ensures { IfSome result (λ b. children_size b.block.list.items
+            ≤ children_size self.block.list.items) }
+    {
+        let mut block = self;
+        while let Some(child) = block.pop() {
+            match child {
+                GreenChild::Token { token, .. } => drop(token),
+                node => {
+                    block.push_reserved(node);
+                    return Some(block);
+                }
+            }
+        }
+        block.free();
+        None
+    }
+
+    // Frees a block with no children in it.
+    fn free(self)
+        requires { self.block.list.items ≡ [] }
+    {
+        let ChildBlock { block } = self;
         block.free(FRONT_WORDS, CHILD_WORDS);
     }
 
-    // Puts the block at the end of the list, or drops it where the memory for that is refused.
+    // Puts the block at the end of the list, unless only tokens are left in it, and answers the
+    // block of one of its nodes, which is dropped before it. Where the memory for the list is
+    // refused, that one is dropped at once.
     #[cycle(drop)]
-    fn put_off(self, rest: &mut Vec<ManuallyDrop<ChildBlock>>)
-        ensures { kept_size rest.new.items
-            ≤ kept_size rest.old.items + children_size self.block.list.items + 1 }
+    fn wait_for(self, inner: ChildBlock, rest: &mut Vec<ManuallyDrop<ChildBlock>>) -> ChildBlock
+        ensures within { children_size result.block.list.items
+            ≤ children_size self.block.list.items + children_size inner.block.list.items }
+        ensures smaller { kept_size rest.new.items + children_size result.block.list.items
+            ≤ kept_size rest.old.items + children_size self.block.list.items + 1
+            + children_size inner.block.list.items }
     {
-        // What is put off is dropped when its turn comes.
-        let block = unsafe { ManuallyDrop::new_unchecked(self) };
-        match rest.push(block) {
-            Ok(()) => {}
+        let Some(left) = self.drop_tokens() else {
+            return inner;
+        };
+        // What waits is dropped when its turn comes.
+        let waiting = unsafe { ManuallyDrop::new_unchecked(left) };
+        match rest.push(waiting) {
+            Ok(()) => inner,
             Err(refused) => {
                 let AllocFailed { value } = refused;
-                drop(ManuallyDrop::into_inner(value));
+                drop(inner);
+                ManuallyDrop::into_inner(value)
             }
         }
     }
@@ -129,6 +168,9 @@ impl ChildBlock {
         ensures some { IfSome result (λ child.
             self.old.block.list.items ≡ self.new.block.list.items ++ child ∷ []) }
         ensures none { IsNone result → self.old.block.list.items ≡ [] }
+        ensures empty { IsNone result → self.new.block.list.items ≡ [] }
+        ensures room { IsSome result
+            → vec_len self.new.block.list < vec_capacity self.new.block.list }
     {
         if self.block.list.len() == 0 {
             return None;

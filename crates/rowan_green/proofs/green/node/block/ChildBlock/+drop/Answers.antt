@@ -1,13 +1,16 @@
 use Rattle.std.proofs.Common.{ℕ, ap, arith}
-use Rattle.rowan_thin_rc.proofs.Keeping.{open_in_place}
-use Rattle.rowan_green.specs.declared.green.node.GreenChild.TheVariants.{Node, Token}
+use Rattle.rowan_green.specs.declared.green.node.GreenChild.{GreenChild}
 use Rattle.rowan_green.specs.declared.green.node.block.ChildBlock.{ChildBlock}
-use Rattle.rowan_green.specs.Sizes.{children_size}
+use Rattle.rowan_green.specs.Sizes.{children_size, term_size}
+use Rattle.rowan_green.specs.View.{child_term}
 use Rattle.rowan_green.proofs.Drops.{kept-last, children_size-last}
 use Rattle.rowan_green.proofs.green.node.block.ChildBlock.+drop.Goals as goal
 
 abbrev block_size : ChildBlock → ℕ
 block_size b = children_size b.block.list.items
+
+abbrev child_size : GreenChild → ℕ
+child_size c = term_size (child_term c)
 
 pub drop-drop_into-requires-in-Some : goal.drop-drop_into-requires-in-Some
 drop-drop_into-requires-in-Some t c = (
@@ -43,66 +46,148 @@ drop-loop-block-preserved t c =
       ap block_size c.into_inner.ensures,
     )
 
-pub drop_into-put_off-requires : goal.drop_into-put_off-requires
-drop_into-put_off-requires t c = (
+pub drop_into-wait_for-block-requires : goal.drop_into-wait_for-block-requires
+drop_into-wait_for-block-requires t c = (
   omega (
     arith,
     c.decreases,
-    c.in-Some.ensures,
-    c.loop-block.invariant.within,
-    children_size-last c.take_last.new.self.items c.loop-block.block.list.items
-        (Node c.in-Node.rel_offset c.in-Node.node) c.in-Node.ensures.items,
+    c.in-Some-release.ensures,
+    c.in-Some-drop_tokens.ensures,
+    c.loop-child.invariant.within,
+    children_size-last c.pop.new.self.block.list.items c.loop-child.block.block.list.items
+        c.in-Some.child c.in-Some.ensures.some,
+    ap child_size c.in-Node.is,
   ),
   tt,
 )
 
-pub drop_into-loop-block-preserved-in-Some : goal.drop_into-loop-block-preserved-in-Some
-drop_into-loop-block-preserved-in-Some t c =
-    let e = c.take_last.ensures in
-    let last = children_size-last c.take_last.new.self.items c.loop-block.block.list.items
-    (Node c.in-Node.rel_offset c.in-Node.node) c.in-Node.ensures.items in
+pub drop_into-loop-child-smaller-in-Some-drop_tokens : goal.drop_into-loop-child-smaller-in-Some-drop_tokens
+drop_into-loop-child-smaller-in-Some-drop_tokens t c =
+    omega (
+      arith,
+      c.in-Some-release.ensures,
+      c.in-Some-drop_tokens.ensures,
+      c.wait_for-block.ensures.smaller,
+      children_size-last c.pop.new.self.block.list.items c.loop-child.block.block.list.items
+          c.in-Some.child c.in-Some.ensures.some,
+      ap child_size c.in-Node.is,
+    )
+
+pub drop_into-loop-child-preserved-in-Some-drop_tokens : goal.drop_into-loop-child-preserved-in-Some-drop_tokens
+drop_into-loop-child-preserved-in-Some-drop_tokens t c =
     record {
-      shape = open_in_place c.loop-block.block c.take_last.new.self c.loop-block.invariant.shape
-          (e.capacity, e.in_place);
-      within = omega (arith, c.loop-block.invariant.within, last);
+      within = omega (
+        arith,
+        c.in-Some-release.ensures,
+        c.in-Some-drop_tokens.ensures,
+        c.loop-child.invariant.within,
+        c.wait_for-block.ensures.within,
+        children_size-last c.pop.new.self.block.list.items c.loop-child.block.block.list.items
+            c.in-Some.child c.in-Some.ensures.some,
+        ap child_size c.in-Node.is,
+      );
       smaller = omega (
         arith,
-        c.loop-block.invariant.smaller,
-        last,
-        c.in-Some.ensures,
-        c.put_off.ensures,
+        c.in-Some-release.ensures,
+        c.in-Some-drop_tokens.ensures,
+        c.loop-child.invariant.smaller,
+        c.wait_for-block.ensures.smaller,
+        children_size-last c.pop.new.self.block.list.items c.loop-child.block.block.list.items
+            c.in-Some.child c.in-Some.ensures.some,
+        ap child_size c.in-Node.is,
       );
     }
 
-pub drop_into-loop-block-preserved-in_default : goal.drop_into-loop-block-preserved-in_default
-drop_into-loop-block-preserved-in_default t c =
-    let e = c.take_last.ensures in
-    let last = children_size-last c.take_last.new.self.items c.loop-block.block.list.items
-    (Node c.in-Node.rel_offset c.in-Node.node) c.in-Node.ensures.items in
-    record {
-      shape = open_in_place c.loop-block.block c.take_last.new.self c.loop-block.invariant.shape
-          (e.capacity, e.in_place);
-      within = omega (arith, c.loop-block.invariant.within, last);
-      smaller = omega (arith, c.loop-block.invariant.smaller, last);
-    }
-
-pub drop_into-loop-block-preserved : goal.drop_into-loop-block-preserved
-drop_into-loop-block-preserved t c =
-    let e = c.take_last.ensures in
-    let last = children_size-last c.take_last.new.self.items c.loop-block.block.list.items
-    (Token c.in-Token.rel_offset c.in-Token.token) c.in-Token.ensures.items in
-    record {
-      shape = open_in_place c.loop-block.block c.take_last.new.self c.loop-block.invariant.shape
-          (e.capacity, e.in_place);
-      within = omega (arith, c.loop-block.invariant.within, last);
-      smaller = omega (arith, c.loop-block.invariant.smaller, last);
-    }
-
-pub put_off-returns-in-Ok : goal.put_off-returns-in-Ok
-put_off-returns-in-Ok t c =
+pub drop_into-loop-child-smaller-in_default-drop_tokens : goal.drop_into-loop-child-smaller-in_default-drop_tokens
+drop_into-loop-child-smaller-in_default-drop_tokens t c =
     omega (
       arith,
-      kept-last c.args.rest.now.items c.push.new.self.items c.new_unchecked-block.result
+      children_size-last c.pop.new.self.block.list.items c.loop-child.block.block.list.items
+          c.in-Some.child c.in-Some.ensures.some,
+      ap child_size c.in-Node.is,
+    )
+
+pub drop_into-loop-child-preserved-in_default-drop_tokens : goal.drop_into-loop-child-preserved-in_default-drop_tokens
+drop_into-loop-child-preserved-in_default-drop_tokens t c =
+    record {
+      within = omega (
+        arith,
+        c.loop-child.invariant.within,
+        children_size-last c.pop.new.self.block.list.items c.loop-child.block.block.list.items
+            c.in-Some.child c.in-Some.ensures.some,
+        ap child_size c.in-Node.is,
+      );
+      smaller = omega (
+        arith,
+        c.loop-child.invariant.smaller,
+        children_size-last c.pop.new.self.block.list.items c.loop-child.block.block.list.items
+            c.in-Some.child c.in-Some.ensures.some,
+        ap child_size c.in-Node.is,
+      );
+    }
+
+pub drop_into-loop-child-smaller-in_default-release : goal.drop_into-loop-child-smaller-in_default-release
+drop_into-loop-child-smaller-in_default-release t c =
+    omega (
+      arith,
+      children_size-last c.pop.new.self.block.list.items c.loop-child.block.block.list.items
+          c.in-Some.child c.in-Some.ensures.some,
+      ap child_size c.in-Node.is,
+    )
+
+pub drop_into-loop-child-preserved-in_default-release : goal.drop_into-loop-child-preserved-in_default-release
+drop_into-loop-child-preserved-in_default-release t c =
+    record {
+      within = omega (
+        arith,
+        c.loop-child.invariant.within,
+        children_size-last c.pop.new.self.block.list.items c.loop-child.block.block.list.items
+            c.in-Some.child c.in-Some.ensures.some,
+        ap child_size c.in-Node.is,
+      );
+      smaller = omega (
+        arith,
+        c.loop-child.invariant.smaller,
+        children_size-last c.pop.new.self.block.list.items c.loop-child.block.block.list.items
+            c.in-Some.child c.in-Some.ensures.some,
+        ap child_size c.in-Node.is,
+      );
+    }
+
+pub drop_into-loop-child-smaller : goal.drop_into-loop-child-smaller
+drop_into-loop-child-smaller t c =
+    omega (
+      arith,
+      children_size-last c.pop.new.self.block.list.items c.loop-child.block.block.list.items
+          c.in-Some.child c.in-Some.ensures.some,
+      ap child_size c.in-Token.is,
+    )
+
+pub drop_into-loop-child-preserved : goal.drop_into-loop-child-preserved
+drop_into-loop-child-preserved t c =
+    record {
+      within = omega (
+        arith,
+        c.loop-child.invariant.within,
+        children_size-last c.pop.new.self.block.list.items c.loop-child.block.block.list.items
+            c.in-Some.child c.in-Some.ensures.some,
+        ap child_size c.in-Token.is,
+      );
+      smaller = omega (
+        arith,
+        c.loop-child.invariant.smaller,
+        children_size-last c.pop.new.self.block.list.items c.loop-child.block.block.list.items
+            c.in-Some.child c.in-Some.ensures.some,
+        ap child_size c.in-Token.is,
+      );
+    }
+
+pub wait_for-returns-in-Ok-clause-smaller : goal.wait_for-returns-in-Ok-clause-smaller
+wait_for-returns-in-Ok-clause-smaller t c =
+    omega (
+      arith,
+      c.in-Some.ensures,
+      kept-last c.args.rest.now.items c.push.new.self.items c.new_unchecked-waiting.result
           c.in-Ok.ensures.items,
-      ap block_size c.new_unchecked-block.ensures,
+      ap block_size c.new_unchecked-waiting.ensures,
     )

@@ -1,12 +1,9 @@
 use Rattle.std.proofs.Common.{◌≤◌, ◌+◌, ◌*◌}
-use Rattle.std.specs.Vec.{vec_len}
-use Rattle.rowan_thin_rc.specs.Shape.{IsOpen}
 use Rattle.rowan_green.specs.Sizes.{children_size, kept_size}
-use Rattle.rowan_green.specs.NodeBlock.{front_words, child_words}
 use Rattle.rowan_green.proofs.green.node.block.ChildBlock.+drop.Given as goal
 
-abbrev pub decreases-put_off : goal.decreases-put_off
-decreases-put_off l = 2 * children_size l.self.block.list.items + 2
+abbrev pub decreases-wait_for : goal.decreases-wait_for
+decreases-wait_for l = 2 * children_size l.inner.block.list.items + 2
 
 abbrev pub decreases-drop_into : goal.decreases-drop_into
 decreases-drop_into l = 2 * children_size l.self.block.list.items
@@ -20,13 +17,12 @@ invariant-drop-loop-block l = kept_size l.rest.items ≤ children_size l.fn.self
 abbrev pub decreases-drop-loop-block : goal.decreases-drop-loop-block
 decreases-drop-loop-block l = kept_size l.rest.items
 
-abbrev pub invariant-drop_into-loop-block : goal.invariant-drop_into-loop-block
-invariant-drop_into-loop-block l = record {
-  shape : IsOpen front_words child_words l.block;
-  within : children_size l.block.list.items ≤ children_size l.fn.self.block.list.items;
-  smaller : kept_size l.rest.items + children_size l.block.list.items ≤ kept_size l.fn.rest.items
-      + children_size l.fn.self.block.list.items;
+abbrev pub invariant-drop_into-loop-child : goal.invariant-drop_into-loop-child
+invariant-drop_into-loop-child l = record {
+  within : children_size l.block.block.list.items ≤ children_size l.fn.self.block.list.items;
+  smaller : kept_size l.rest.items + children_size l.block.block.list.items
+      ≤ kept_size l.fn.rest.items + children_size l.fn.self.block.list.items;
 }
 
-abbrev pub decreases-drop_into-loop-block : goal.decreases-drop_into-loop-block
-decreases-drop_into-loop-block l = vec_len l.block.list
+abbrev pub decreases-drop_into-loop-child : goal.decreases-drop_into-loop-child
+decreases-drop_into-loop-child l = kept_size l.rest.items + children_size l.block.block.list.items
