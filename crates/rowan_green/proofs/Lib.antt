@@ -8,6 +8,7 @@ pub mod CountLemmas
 pub mod Drops
 pub mod EditLaws
 pub mod EditLemmas
+pub mod GivesLemmas
 pub mod LeafLaws
 pub mod NumberLemmas
 pub mod OffsetLemmas

@@ -98,3 +98,50 @@ fn cloned_children_give_the_same_rest(rt: HostRuntime) -> Result<(), Fault> {
     assert!(rt; gives(rt.alloc(), copy, &[8, 3])?);
     Ok(())
 }
+
+#[test]
+fn a_child_behind_others_comes_next(rt: HostRuntime) -> Result<(), Fault> {
+    let tree = tree(rt.alloc())?;
+    for (n, kind, left) in [
+        (0, 2, 2),
+        (1, 8, 1),
+        (2, 3, 0),
+        (3, 0, 0),
+        (usize::MAX, 0, 0),
+    ] {
+        let mut children = tree.children();
+        assert!(rt; kind_or_zero(children.nth(n))? == kind);
+        assert!(rt; children.count() == left);
+    }
+    Ok(())
+}
+
+#[test]
+fn a_child_before_others_comes_from_the_back(rt: HostRuntime) -> Result<(), Fault> {
+    let tree = tree(rt.alloc())?;
+    for (n, kind, left) in [
+        (0, 3, 2),
+        (1, 8, 1),
+        (2, 2, 0),
+        (3, 0, 0),
+        (usize::MAX, 0, 0),
+    ] {
+        let mut children = tree.children();
+        assert!(rt; kind_or_zero(children.nth_back(n))? == kind);
+        assert!(rt; children.count() == left);
+    }
+    Ok(())
+}
+
+#[test]
+fn the_last_child_is_of_those_that_are_left(rt: HostRuntime) -> Result<(), Fault> {
+    let tree = tree(rt.alloc())?;
+    assert!(rt; kind_or_zero(tree.children().last())? == 3);
+    let mut children = tree.children();
+    assert!(rt; kind_or_zero(children.nth_back(1))? == 8);
+    assert!(rt; children.clone()?.count() == 1);
+    assert!(rt; kind_or_zero(children.clone()?.last())? == 2);
+    assert!(rt; kind_or_zero(children.nth(0))? == 2);
+    assert!(rt; kind_or_zero(children.last())? == 0);
+    Ok(())
+}

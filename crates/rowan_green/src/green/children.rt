@@ -47,6 +47,76 @@ impl<'a> Children<'a> {
     }
 }
 
+// `Iterator` answers these calls by walking, and its methods are final. These take constant time. A
+// child that is skipped is not shared, so no call fails for it.
+impl<'a> Children<'a> {
+    ghost use Rattle.std.specs.Prelude.{◌-◌, ◌+◌, ◌<◌, ◌≤◌, List, Option, Result, Some, None, OnSome};
+    ghost use Rattle.std.specs.Prelude.{MatchOption, IsTrue, length, take, drop};
+    ghost use Rattle.std.specs.List.{last_or};
+    ghost use Rattle.std.specs.Iterator.{SkipsThenYields, Drains};
+    ghost use Rattle.std.specs.Iterator.Runs.{SomeRun, WholeRun};
+    ghost use Rattle.rowan_green.specs.declared.fault.Fault.{Fault};
+    ghost use Rattle.rowan_green.specs.Gives.{GivesFirst, GivesLast};
+    ghost use Rattle.rowan_green.specs.Term.{Term};
+
+    /// Skips `n` children and gives the next one, in constant time. `None` where at most `n` are
+    /// left, and then nothing is left.
+    pub fn nth(&mut self, n: usize) -> Option<Result<GreenElement, Fault>>
+        ensures gives { GivesFirst (drop n self.old) result self.new }
+
+        // What `Iterator::nth` says.
+        ensures ran { SkipsThenYields GivesFirst self.old n result self.new }
+        ensures progress { OnSome result (length self.new + n < length self.old) }
+        ensures runs { SomeRun GivesFirst self.old (λ p. MatchOption result
+            (IsTrue p.whole × (p.len ≤ n)) (λ x. (p.len ≡ n + 1) × (p.at n ≡ Some x))) }
+    {
+        let (_, rest) = self.rest.split_at(n.min(self.rest.len()));
+        self.rest = rest;
+        self.next()
+    }
+
+    /// Skips `n` children at the back and gives the one before them, in constant time. `None` where
+    /// at most `n` are left, and then nothing is left.
+    pub fn nth_back(&mut self, n: usize) -> Option<Result<GreenElement, Fault>>
+        ensures gives { GivesLast (take (length self.old - n) self.old) result self.new }
+
+        // What `DoubleEndedIterator::nth_back` says.
+        ensures ran { SkipsThenYields GivesLast self.old n result self.new }
+        ensures progress { OnSome result (length self.new + n < length self.old) }
+        ensures runs { SomeRun GivesLast self.old (λ p. MatchOption result
+            (IsTrue p.whole × (p.len ≤ n)) (λ x. (p.len ≡ n + 1) × (p.at n ≡ Some x))) }
+    {
+        let (rest, _) = self.rest.split_at(self.rest.len().saturating_sub(n));
+        self.rest = rest;
+        self.next_back()
+    }
+
+    /// The last child that is left, in constant time.
+    pub fn last(mut self) -> Option<Result<GreenElement, Fault>>
+        ensures gives { (rest : List Term) × GivesLast self.entry result rest }
+
+        // What `Iterator::last` says.
+        ensures ran { (xs : List (Result Term Fault)) × Drains GivesFirst self.entry xs
+            × (result ≡ last_or None xs) }
+        ensures runs { WholeRun GivesFirst self.entry (λ p. MatchOption result (p.len ≡ 0)
+            (λ x. (0 < p.len) × (p.at (p.len - 1) ≡ Some x))) }
+    {
+        self.next_back()
+    }
+
+    /// How many children are left, in constant time.
+    pub fn count(self) -> usize
+        ensures length { result ≡ length self.entry }
+
+        // What `Iterator::count` says.
+        ensures ran { (xs : List (Result Term Fault)) × Drains GivesFirst self.entry xs
+            × (result ≡ length xs) }
+        ensures runs { WholeRun GivesFirst self.entry (λ p. result ≡ p.len) }
+    {
+        self.rest.len()
+    }
+}
+
 impl<'a> Iterator for Children<'a> {
     type Item = Result<GreenElement, Fault>;
 
