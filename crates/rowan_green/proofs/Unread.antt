@@ -8,29 +8,29 @@ use Rattle.std.specs.Bool.{if◌then◌else◌}
 use Rattle.std.specs.Option.{option_to_list, MatchOption}
 use Rattle.std.specs.Borrow.{Bor}
 use Rattle.rowan_green.specs.declared.green.node.GreenChild.{GreenChild}
-use Rattle.rowan_green.specs.Term.{NodeTerm, node_size}
 use Rattle.rowan_green.specs.View.{child_term}
 use Rattle.rowan_green.specs.Sizes.{children_size}
-use Rattle.rowan_green.specs.Same.{same_node}
-use Rattle.rowan_green.specs.Unread.{same_pairs, pairs_size, unread_terms, unread_size, left_terms}
-use Rattle.rowan_green.specs.Unread.{left_size}
+use Rattle.rowan_green.specs.Unread.{same_row, same_rows, row_size, rows_size, unread_terms}
+use Rattle.rowan_green.specs.Unread.{unread_size, left_terms, left_size}
 
 and_swap : (a b c : Bool) → (a && (b && c)) ≡ (b && (a && c))
 and_swap true b c = refl
 and_swap false true c = refl
 and_swap false false c = refl
 
-pub same_pairs-push : (ps : List (Bor NodeTerm × Bor NodeTerm)) (p : Bor NodeTerm × Bor NodeTerm)
-    → same_pairs (ps ++ p ∷ []) ≡ (same_node p.0.now p.1.now && same_pairs ps)
-same_pairs-push [] p = refl
-same_pairs-push (q ∷ ps) p =
-    ap (λ b. same_node q.0.now q.1.now && b) (same_pairs-push ps p)
-    ∙ and_swap (same_node q.0.now q.1.now) (same_node p.0.now p.1.now) (same_pairs ps)
+pub same_rows-push : (rs : List (Bor (List GreenChild) × Bor (List GreenChild)))
+    (r : Bor (List GreenChild) × Bor (List GreenChild))
+    → same_rows (rs ++ r ∷ []) ≡ (same_row r && same_rows rs)
+same_rows-push [] r = refl
+same_rows-push (q ∷ rs) r =
+    ap (λ b. same_row q && b) (same_rows-push rs r)
+    ∙ and_swap (same_row q) (same_row r) (same_rows rs)
 
-pub pairs_size-push : (ps : List (Bor NodeTerm × Bor NodeTerm)) (p : Bor NodeTerm × Bor NodeTerm)
-    → pairs_size (ps ++ p ∷ []) ≡ pairs_size ps + node_size p.0.now
-pairs_size-push [] p = omega arith
-pairs_size-push (q ∷ ps) p = omega (arith, pairs_size-push ps p)
+pub rows_size-push : (rs : List (Bor (List GreenChild) × Bor (List GreenChild)))
+    (r : Bor (List GreenChild) × Bor (List GreenChild))
+    → rows_size (rs ++ r ∷ []) ≡ rows_size rs + row_size r
+rows_size-push [] r = omega arith
+rows_size-push (q ∷ rs) r = omega (arith, rows_size-push rs r)
 
 -- the child at an index, and those behind it
 pub drop-child : (cs : List GreenChild) (i : ℕ) (c : GreenChild) → i < length cs → c ≡ get_or cs i c

@@ -1,26 +1,33 @@
--- What is still to be read of green nodes by a call that goes through them with a list: a
--- comparison with a list of pairs of nodes, and a call that keeps the order with a list of
--- children, of which the last come first.
+-- What is still to be read of green nodes by a call that goes through them with a list of children,
+-- of which the last come first. A comparison has a list of rows: the children of two nodes.
 use Rattle.std.specs.Fmt.{HasWritten, IsPlainFormatter}
 use Rattle.std.specs.declared.fmt.Formatter.{Formatter}
 use Rattle.std.specs.Prelude.{◌≡◌, ℕ, ◌+◌, List, [], ◌∷◌, ◌++◌, Bool, true, ◌&&◌, Option, Some}
 use Rattle.std.specs.Prelude.{None, map}
 use Rattle.std.specs.Borrow.{Bor}
+use lib.Pointwise.{pointwise}
 use Rattle.rowan_green.specs.declared.green.node.GreenChild.{GreenChild}
-use Rattle.rowan_green.specs.Term.{NodeTerm, Term, node_size}
+use Rattle.rowan_green.specs.Term.{Term}
 use Rattle.rowan_green.specs.View.{child_term}
 use Rattle.rowan_green.specs.Sizes.{children_size}
-use Rattle.rowan_green.specs.Same.{same_node}
+use Rattle.rowan_green.specs.Same.{same_term}
 
--- whether the nodes of each pair are the same
-abbrev pub same_pairs : List (Bor NodeTerm × Bor NodeTerm) → Bool
-same_pairs [] = true
-same_pairs (p ∷ ps) = same_node p.0.now p.1.now && same_pairs ps
+-- whether the children of two nodes are the same, pair by pair
+abbrev pub same_row : Bor (List GreenChild) × Bor (List GreenChild) → Bool
+same_row r = pointwise same_term (map child_term r.0.now) (map child_term r.1.now)
 
--- how large the nodes on the left are together
-abbrev pub pairs_size : List (Bor NodeTerm × Bor NodeTerm) → ℕ
-pairs_size [] = 0
-pairs_size (p ∷ ps) = node_size p.0.now + pairs_size ps
+-- whether those of each row are
+abbrev pub same_rows : List (Bor (List GreenChild) × Bor (List GreenChild)) → Bool
+same_rows [] = true
+same_rows (r ∷ rs) = same_row r && same_rows rs
+
+-- how large the children on the left are, with 1 for the row
+abbrev pub row_size : Bor (List GreenChild) × Bor (List GreenChild) → ℕ
+row_size r = children_size r.0.now + 1
+
+abbrev pub rows_size : List (Bor (List GreenChild) × Bor (List GreenChild)) → ℕ
+rows_size [] = 0
+rows_size (r ∷ rs) = row_size r + rows_size rs
 
 -- the children of all lists, those of the last list first
 abbrev pub unread_terms : List (Bor (List GreenChild)) → List Term
