@@ -7,7 +7,7 @@ use rowan::builder::CacheHome;
 use rowan::{Checkpoint, Fault, GreenNode, GreenNodeBuilder, NodeCache};
 
 /// Makes the calls, one after the other. One that is refused for memory is made once more.
-fn make_all<H: CacheHome>(
+pub fn make_all<H: CacheHome>(
     log: &Transcript<'_>,
     builder: &mut GreenNodeBuilder<'_, H>,
     way: Way,

@@ -10,6 +10,7 @@
 mod building;
 mod calls;
 mod cases;
+mod drops;
 mod edits;
 mod making;
 mod many_edits;
@@ -32,6 +33,7 @@ mod typed_refs;
 mod walks;
 
 use cases::CASES;
+use drops::run_drops;
 use many_edits::run_edits;
 use parses::run_parses;
 use reparses::REPARSES;
@@ -55,7 +57,8 @@ fn run_cases(log: &Transcript<'_>) -> Result<(), Stop> {
         run_case(log, case)?;
     }
     run_parses(log)?;
-    run_edits(log)
+    run_edits(log)?;
+    run_drops(log)
 }
 
 fn run_case(log: &Transcript<'_>, case: Case) -> Result<(), Stop> {
