@@ -4,6 +4,8 @@
 #[cfg(test)]
 mod children;
 #[cfg(test)]
+mod depth;
+#[cfg(test)]
 mod edits;
 #[cfg(test)]
 mod equality;
