@@ -6,6 +6,8 @@ mod children;
 #[cfg(test)]
 mod depth;
 #[cfg(test)]
+mod drops;
+#[cfg(test)]
 mod edits;
 #[cfg(test)]
 mod equality;
