@@ -9,6 +9,7 @@ pub mod DraftLemmas
 pub mod FewerLemmas
 pub mod FillLemmas
 pub mod FoldLemmas
+pub mod HashLemmas
 pub mod InnerLemmas
 pub mod LeafLemmas
 pub mod NodeLemmas

@@ -5,7 +5,6 @@ ghost use Rattle.rowan_cursor.specs.Equal.{same_place, fed_place};
 ghost use Rattle.rowan_cursor.specs.TableView.{cursor_of, IsWithin};
 
 use super::Table;
-use rowan_green::utility_types::NodeOrToken;
 use std::fmt;
 use std::hash::{Hash, Hasher};
 
@@ -22,16 +21,18 @@ impl Table {
             && self.element(number) == other.element(other_number)
     }
 
-    /// Feeds a hasher where the text of an element starts, and its green value.
+    /// Feeds a hasher where the text of an element starts, its kind, the length of its text and the
+    /// number of its children, all of which are read without a walk.
     pub(crate) fn hash_element<H: Hasher>(&self, number: usize, state: &mut H)
         requires { IsWithin self.now number }
         ensures { state.new ≡ fold H.write state.old (fed_place (cursor_of self.now number)) }
     {
+        let element = self.element(number);
+        let children = self.child_numbers(number);
         u32::from(self.start(number)).hash(state);
-        match self.element(number) {
-            NodeOrToken::Node(node) => node.hash(state),
-            NodeOrToken::Token(token) => token.hash(state),
-        }
+        element.kind().0.hash(state);
+        u32::from(element.text_len()).hash(state);
+        (children.end - children.start).hash(state);
     }
 
     /// Writes the kind of an element and the range of its text, under the name of a type.
