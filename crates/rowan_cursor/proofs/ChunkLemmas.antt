@@ -1,6 +1,6 @@
 -- Walks over chunks: what is left at a token, and what a step takes from it.
 use Rattle.std.proofs.Common.{◌≡◌, ℕ, ◌+◌, ◌-◌, ◌<◌, ◌≤◌, true, false, cond, List, [], ◌∷◌, ◌++◌}
-use Rattle.std.proofs.Common.{map, length, filter, Option, Some, None, IfSome, inl, inr, refl, sym}
+use Rattle.std.proofs.Common.{map, length, filter, Option, Some, None, IfSome, IfNone, inl, inr, refl, sym}
 use Rattle.std.proofs.Common.{◌∙◌, ap, subst, arith, length-append}
 use Rattle.std.specs.Prelude.{nat_le, ◌&&◌}
 use Rattle.std.specs.List.{concat}
@@ -16,15 +16,17 @@ use Rattle.rowan_green.specs.Term.{NodeTerm, TokenTerm, Term}
 use Rattle.rowan_green.specs.Path.{Path, subterm, len_of, text_of, begins}
 use Rattle.rowan_cursor.specs.declared.table.Table.{Table}
 use Rattle.rowan_cursor.specs.declared.table.chunks.ChunkWalk.{ChunkWalk}
-use Rattle.rowan_cursor.specs.Chunks.{texts_at, remaining_leaves, remaining_texts, IsTokenInside}
-use Rattle.rowan_cursor.specs.Chunks.{MayCut, IsWalk}
+use Rattle.rowan_cursor.specs.Chunks.{texts_at, remaining_leaves, remaining_texts, MayCut}
+use Rattle.rowan_cursor.specs.Chunks.{IsTokenInside, IsWalk}
 use Rattle.rowan_cursor.specs.Moves.{children_of, is_node, is_node_at, first_at}
 use Rattle.rowan_cursor.specs.Pass.{of_some, after, since, since_child, leaf_list, first_inside}
+use Rattle.rowan_cursor.specs.Pass.{ComesNext}
 use Rattle.rowan_cursor.specs.SyntaxText.{token_texts, meets, common_part, cut_chunks}
-use Rattle.rowan_cursor.specs.TableView.{root_of, path_at}
+use Rattle.rowan_cursor.specs.TablePass.{StandsInside, first_token_past}
+use Rattle.rowan_cursor.specs.TableView.{root_of, path_at, entries_of}
 use Rattle.rowan_cursor.proofs.LeafLemmas.{find-first, since_child-none}
 use Rattle.rowan_cursor.proofs.TextLemmas.{texts_at-below}
-use Rattle.rowan_cursor.proofs.TokenLemmas.{all_below, after-outside, found_token}
+use Rattle.rowan_cursor.proofs.TokenLemmas.{all_below, after-outside, found_token, stands_at}
 
 -- Leaves that are left.
 none-first : (qs : List Path) → first_at qs ≡ None → qs ≡ []
@@ -66,6 +68,23 @@ token-left root top p c e h inside =
     ∙ cond-true (begins top p) (p ∷ filter (begins top) ls) (filter (begins top) ls) inside
     ∙ ap (λ us. p ∷ filter (begins top) us) (sym none)
 
+-- the same by the number of the element that a step leads to
+pub left-step : (table : Table) (top n : ℕ) (next : Option ℕ) → IsTokenInside table top n
+    → IfSome next (λ m. ComesNext (root_of table) (path_at table n) (path_at table m))
+    → IfNone next (first_token_past table top n ≡ None)
+    → remaining_leaves table top (Some n) ≡ path_at table n ∷ remaining_leaves table top next
+left-step table top n None is next end =
+    let here = path_at table n in
+    let there = stands_at (entries_of table) table.complete n is.place.within in
+    token-left (root_of table) (path_at table top) here there.0 there.1 is.token is.place.inside
+    ∙ ap (λ qs. here ∷ qs) (nothing_inside (path_at table top)
+    (since_child leaf_list (Some (Node (root_of table))) here 0) end)
+left-step table top n (Some m) is next end =
+    let here = path_at table n in
+    let there = stands_at (entries_of table) table.complete n is.place.within in
+    token-left (root_of table) (path_at table top) here there.0 there.1 is.token is.place.inside
+    ∙ ap (λ qs. here ∷ filter (begins (path_at table top)) qs) (sym (next.same leaf_list))
+
 -- the text of a token is the first of what is left at it
 pub remaining_texts-token : (table : Table) (top n : ℕ) (next : Option ℕ) (t : TokenTerm)
     → remaining_leaves table top (Some n) ≡ path_at table n ∷ remaining_leaves table top next
@@ -74,14 +93,22 @@ pub remaining_texts-token : (table : Table) (top n : ℕ) (next : Option ℕ) (t
 remaining_texts-token table top n next t left at =
     ap (texts_at (root_of table)) left ∙ ap (λ u. text_of u ∷ remaining_texts table top next) at
 
-pub remaining_texts-step : (table : Table) (top n : ℕ) (here next : Option ℕ) (t : TokenTerm)
-    (text : List ℕ) → here ≡ Some n → remaining_leaves table top (Some n)
-    ≡ path_at table n ∷ remaining_leaves table top next
+pub remaining_texts-step : (table : Table) (top m n : ℕ) (here next : Option ℕ) (t : TokenTerm)
+    (text : List ℕ) → here ≡ Some m
+    → remaining_leaves table top (Some n) ≡ remaining_leaves table top (Some m)
+    → remaining_leaves table top (Some n) ≡ path_at table n ∷ remaining_leaves table top next
     → subterm (Node (root_of table)) (path_at table n) ≡ Some (Token t) → text ≡ t.text
     → remaining_texts table top here ≡ text ∷ remaining_texts table top next
-remaining_texts-step table top n here next t text is left at same =
-    ap (remaining_texts table top) is ∙ remaining_texts-token table top n next t left at
+remaining_texts-step table top m n here next t text is found left at same =
+    ap (remaining_texts table top) is ∙ ap (texts_at (root_of table)) (sym found)
+    ∙ remaining_texts-token table top n next t left at
     ∙ ap (λ u. u ∷ remaining_texts table top next) (sym same)
+
+-- where no token is found, no text is left
+pub remaining_texts-end : (table : Table) (top m : ℕ) (here : Option ℕ) → here ≡ Some m
+    → [] ≡ remaining_leaves table top (Some m) → remaining_texts table top here ≡ []
+remaining_texts-end table top m here is none =
+    ap (remaining_texts table top) is ∙ ap (texts_at (root_of table)) (sym none)
 
 -- Chunks that are left.
 pub chunks-skip : (range : Span) (at : ℕ) (text : List ℕ) (texts : List (List ℕ))
@@ -150,9 +177,9 @@ remaining_texts-start table top next left =
 pub walk_step : (table : Table) (walk : ChunkWalk) (next : Option ℕ) (at : ℕ) (text : List ℕ)
     → IsWalk table walk → remaining_texts table walk.slice.node walk.next
     ≡ text ∷ remaining_texts table walk.slice.node next
-    → IfSome next (IsTokenInside table walk.slice.node) → at ≡ walk.at + length text
+    → IfSome next (StandsInside table walk.slice.node) → at ≡ walk.at + length text
     → IsWalk table (record walk { next = next; at = at })
-walk_step table walk next at text w left token there =
+walk_step table walk next at text w left place there =
     let rest = concat (remaining_texts table walk.slice.node next) in
     let cut : (o : ℕ) → MayCut (concat (remaining_texts table walk.slice.node walk.next)) walk.at o
     → MayCut rest at o =
@@ -161,7 +188,7 @@ walk_step table walk next at text w left token there =
     record {
       within = w.within;
       order = w.order;
-      token = token;
+      place = place;
       limit = omega (
         arith,
         w.limit,
@@ -171,6 +198,22 @@ walk_step table walk next at text w left token there =
       );
       start_cut = cut walk.slice.start w.start_cut;
       end_cut = cut walk.slice.end w.end_cut;
+    }
+
+-- a walk to which nothing is left has come to the end
+pub walk_end : (table : Table) (walk : ChunkWalk) → IsWalk table walk
+    → remaining_texts table walk.slice.node walk.next ≡ []
+    → IsWalk table (record walk { next = None })
+walk_end table walk w none =
+    let same : remaining_texts table walk.slice.node walk.next
+    ≡ remaining_texts table walk.slice.node None = none in
+    record {
+      within = w.within;
+      order = w.order;
+      place = tt;
+      limit = subst (λ ts. walk.at + length (concat ts) ≤ byte_limit) same w.limit;
+      start_cut = subst (λ ts. MayCut (concat ts) walk.at walk.slice.start) same w.start_cut;
+      end_cut = subst (λ ts. MayCut (concat ts) walk.at walk.slice.end) same w.end_cut;
     }
 
 pub cut_here : (table : Table) (o : ℕ) (walk : ChunkWalk) (text : List ℕ) (texts : List (List ℕ))

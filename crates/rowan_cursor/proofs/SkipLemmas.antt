@@ -1,13 +1,13 @@
 -- Where a walk over chunks begins: down from child to child, past tokens that end before the slice.
 use Rattle.std.proofs.Common.{◌≡◌, ℕ, zero, suc, ◌+◌, ◌-◌, ◌<◌, ◌≤◌, Bool, true, false, ◌&&◌, List}
-use Rattle.std.proofs.Common.{[], ◌∷◌, ◌++◌, map, length, filter, take, drop, Option, Some, None}
+use Rattle.std.proofs.Common.{cond, [], ◌∷◌, ◌++◌, map, length, filter, take, drop, Option, Some, None}
 use Rattle.std.proofs.Common.{IfSome, inl, inr, refl, sym, ◌∙◌, ap, subst, arith, length-append}
 use Rattle.std.proofs.Common.{append_assoc}
-use Rattle.std.specs.Prelude.{nat_le, slice_get}
+use Rattle.std.specs.Prelude.{nat_le, slice_get, slice_range}
 use Rattle.std.specs.List.{concat}
 use Rattle.std.specs.Str.{IsCharBoundary}
 use Rattle.std.proofs.lemmas.Bool.{cases_lt, cond-true, lt-leb}
-use Rattle.std.proofs.lemmas.List.{map-append, same_from_push}
+use Rattle.std.proofs.lemmas.List.{map-append, same_from_push, take_all, length-drop}
 use Rattle.std.proofs.lemmas.List.Elements.{filter-append}
 use Rattle.std.proofs.lemmas.List.Folds.{concat-append}
 use Rattle.std.proofs.lemmas.List.FromFn.{length-map-range_with_len}
@@ -23,13 +23,15 @@ use Rattle.rowan_green.proofs.Terms.{terms-forest}
 use Rattle.rowan_cursor.specs.declared.table.Table.{Table}
 use Rattle.rowan_cursor.specs.declared.table.chunks.ChunkWalk.{ChunkWalk}
 use Rattle.rowan_cursor.specs.declared.table.slice.Slice.{Slice}
-use Rattle.rowan_cursor.specs.Chunks.{texts_at, remaining_leaves, remaining_texts, IsTokenInside}
-use Rattle.rowan_cursor.specs.Chunks.{MayCut, IsWalk, SkipsTo, span_of, slice_of}
+use Rattle.rowan_cursor.specs.Chunks.{texts_at, remaining_leaves, remaining_texts, MayCut, IsWalk}
+use Rattle.rowan_cursor.specs.Chunks.{SkipsTo, span_of, slice_of, walk_at, WalksOver}
+use Rattle.rowan_cursor.specs.Chunks.{remaining_chunks}
 use Rattle.rowan_cursor.specs.Equal.{start_of}
 use Rattle.rowan_cursor.specs.Moves.{children_of, child_count, child_paths, is_node}
 use Rattle.rowan_cursor.specs.Pass.{Lists, below_children, after, since, leaf_list}
 use Rattle.rowan_cursor.specs.Search.{IsChildBefore}
-use Rattle.rowan_cursor.specs.SyntaxText.{chunks, meets, cut_chunks, IsBorder, IsTextSlice}
+use Rattle.rowan_cursor.specs.SyntaxText.{chunks, meets, common_part, cut_chunks, slice_len}
+use Rattle.rowan_cursor.specs.SyntaxText.{IsBorder, IsTextSlice}
 use Rattle.rowan_cursor.specs.Table.{IsTable, IsRow, entry_path, Facts}
 use Rattle.rowan_cursor.specs.TableView.{IsWithin, root_of, path_at, cursor_of, entries_of}
 use Rattle.rowan_cursor.proofs.ChunkLemmas.{remaining_texts-start, chunks-skip, cut-back, len-text}
@@ -38,6 +40,7 @@ use Rattle.rowan_cursor.proofs.OffsetLemmas.{Fill, row-fills, leaves-fill}
 use Rattle.rowan_cursor.proofs.PathLemmas.{offset-child, node_len-children, subterm_of-append}
 use Rattle.rowan_cursor.proofs.PathLemmas.{begins-self}
 use Rattle.rowan_cursor.proofs.RowLemmas.{row-get}
+use Rattle.rowan_cursor.proofs.SliceLemmas.{cut_chunks-joined}
 use Rattle.rowan_cursor.proofs.TableLemmas.{slice_get-some, is_entry}
 use Rattle.rowan_cursor.proofs.TextLemmas.{map_same, text-tokens}
 use Rattle.rowan_cursor.proofs.TokenLemmas.{begins-longer, inside-child, since-node, apart_paths}
@@ -306,40 +309,33 @@ chunks-skip_all range at (text ∷ texts) rest h =
     ∙ chunks-skip_all range (at + length text) texts rest (λ l. omega (arith, len, early))
     ∙ ap (λ k. cut_chunks range k rest) there
 
-pub walk_from : (table : Table) (walk : ChunkWalk) (n : ℕ)
-    → SkipsTo table walk.slice.start walk.slice.node n
-    → IsTextSlice (slice_of table walk.slice)
-    → IfSome walk.next (IsTokenInside table walk.slice.node)
-    → remaining_leaves table walk.slice.node walk.next
-    ≡ remaining_leaves table walk.slice.node (Some n) → walk.at ≡ start_of (cursor_of table n)
-    → IsWalk table walk
-walk_from table walk n s slice token left at =
+pub walk_from : (table : Table) (slice : Slice) (n x : ℕ) → SkipsTo table x slice.node n
+    → IsTextSlice (slice_of table slice) → IsWalk table (walk_at table slice n)
+walk_from table slice n x s is =
     let root = root_of table in
-    let top = walk.slice.node in
+    let top = slice.node in
     let e = slice_get-some (entries_of table) top s.place.top_within in
     let entry = is_entry (entries_of table) table.complete top e.0 e.1 in
     let u = subterm (Node root) (path_at table top) in
-    let rest = remaining_texts table top walk.next in
-    let same : rest ≡ remaining_texts table top (Some n) = ap (texts_at root) left in
+    let rest = remaining_texts table top (Some n) in
+    let start = start_of (cursor_of table top) in
+    let here = start_of (cursor_of table n) in
     let text : text_of u ≡ concat s.texts ++ concat rest =
-    sym (text-tokens u) ∙ ap concat (sym (remaining_texts-start table top (Some top) refl) ∙ s.parts
-    ∙ ap (λ us. s.texts ++ us) (sym same)) ∙ concat-append s.texts rest in
-    let there : start_of (cursor_of table top) + length (concat s.texts) ≡ walk.at =
-    omega (arith, at, s.start) in
-    let cut : (o : ℕ) → IsBorder (text_of u) (o - start_of (cursor_of table top))
-    → MayCut (concat rest) walk.at o =
+    sym (text-tokens u) ∙ ap concat (sym (remaining_texts-start table top (Some top) refl) ∙ s.parts)
+    ∙ concat-append s.texts rest in
+    let there : start + length (concat s.texts) ≡ here = omega (arith, s.start) in
+    let cut : (o : ℕ) → IsBorder (text_of u) (o - start) → MayCut (concat rest) here o =
     λ o b. (
-    let whole : MayCut (concat s.texts ++ concat rest) (start_of (cursor_of table top)) o =
+    let whole : MayCut (concat s.texts ++ concat rest) start o =
     record {
-      border = λ l h. subst (λ v. IsCharBoundary v (o - start_of (cursor_of table top))) text
-          (b (omega (arith, l)));
+      border = λ l h. subst (λ v. IsCharBoundary v (o - start)) text (b (omega (arith, l)));
     } in
     subst (λ k. MayCut (concat rest) k o) there
-    (cut-back (concat s.texts) (concat rest) (start_of (cursor_of table top)) o whole)) in
+    (cut-back (concat s.texts) (concat rest) start o whole)) in
     record {
       within = s.place.top_within;
-      order = slice.order;
-      token = token;
+      order = is.order;
+      place = s.place;
       limit = omega (
         arith,
         ap length text,
@@ -349,25 +345,73 @@ walk_from table walk n s slice token left at =
         entry.start,
         entry.end,
       );
-      start_cut = cut walk.slice.start slice.start_border;
-      end_cut = cut walk.slice.end slice.end_border;
+      start_cut = cut slice.start is.start_border;
+      end_cut = cut slice.end is.end_border;
     }
 
-pub chunks_from : (table : Table) (slice : Slice) (n : ℕ) (next : Option ℕ) (at : ℕ)
-    → SkipsTo table slice.start slice.node n
-    → remaining_leaves table slice.node next ≡ remaining_leaves table slice.node (Some n)
-    → at ≡ start_of (cursor_of table n)
-    → cut_chunks (span_of slice) at (remaining_texts table slice.node next)
-    ≡ chunks (slice_of table slice)
-chunks_from table slice n next at s left here =
+pub chunks_from : (table : Table) (slice : Slice) (n : ℕ) → SkipsTo table slice.start slice.node n
+    → remaining_chunks table (walk_at table slice n) ≡ chunks (slice_of table slice)
+chunks_from table slice n s =
     let top = slice.node in
     let range = span_of slice in
-    let root = root_of table in
     let start = start_of (cursor_of table top) in
-    let rest = remaining_texts table top next in
-    let same : rest ≡ remaining_texts table top (Some n) = ap (texts_at root) left in
-    let there : at ≡ start + length (concat s.texts) = omega (arith, here, s.start) in
-    ap (λ k. cut_chunks range k rest) there
+    let rest = remaining_texts table top (Some n) in
+    ap (λ k. cut_chunks range k rest) s.start
     ∙ sym (chunks-skip_all range start s.texts rest (λ l. omega (arith, s.early l, s.start)))
-    ∙ ap (cut_chunks range start) (ap (λ us. s.texts ++ us) same ∙ sym s.parts
-    ∙ remaining_texts-start table top (Some top) refl)
+    ∙ ap (cut_chunks range start) (sym s.parts ∙ remaining_texts-start table top (Some top) refl)
+
+-- A walk from the token on that has a byte.
+nothing_there : (texts : List (List ℕ)) → length texts ≡ 0 → texts ≡ []
+nothing_there [] h = refl
+nothing_there (text ∷ texts) h = absurd (omega arith)
+
+cut-append : (range : Span) (at : ℕ) (texts rest : List (List ℕ))
+    → cut_chunks range at (texts ++ rest) ≡ cut_chunks range at texts
+    ++ cut_chunks range (at + length (concat texts)) rest
+cut-append range at [] rest = let e : at ≡ at + 0 = omega arith in
+    ap (λ k. cut_chunks range k rest) e
+cut-append range at (text ∷ texts) rest =
+    let first = cond (meets range at text) (common_part range at text ∷ []) [] in
+    let own = cut_chunks range (at + length text) texts in
+    let there : (at + length text) + length (concat texts) ≡ at + length (text ++ concat texts) =
+    omega (arith, length-append text (concat texts)) in
+    ap (λ us. first ++ us) (cut-append range (at + length text) texts rest)
+    ∙ ap (λ k. first ++ (own ++ cut_chunks range k rest)) there
+    ∙ sym (append_assoc first own (cut_chunks range (at + length (text ++ concat texts)) rest))
+
+-- bytes that end before a range does: those in the range
+range-len_front : (xs : List ℕ) (a b : ℕ) → length xs ≤ b
+    → length (slice_range xs a b) ≡ length xs - a
+range-len_front xs a b h =
+    ap length (take_all (b - a) (drop a xs) (omega (arith, length-drop a xs))) ∙ length-drop a xs
+
+pub walks_over : (table : Table) (slice : Slice) (n offset : ℕ)
+    → SkipsTo table (slice.start + offset + 1) slice.node n → IsTextSlice (slice_of table slice)
+    → offset < slice_len (slice_of table slice)
+    → WalksOver table slice offset (walk_at table slice n)
+walks_over table slice n offset s is within =
+    let top = slice.node in
+    let range = span_of slice in
+    let start = start_of (cursor_of table top) in
+    let rest = remaining_texts table top (Some n) in
+    let skipped = length (concat s.texts) in
+    let early : start + skipped ≤ slice.start + offset = elim (cases_lt 0 (length s.texts)) [
+      | inl some ↦ omega (arith, s.early some, s.start)
+      | inr none ↦ omega (
+        arith,
+        is.from,
+        ap length (ap concat (nothing_there s.texts (omega (arith, none)))),
+      )
+    ] in
+    record {
+      before = cut_chunks range start s.texts;
+      parts = ap (cut_chunks range start)
+          (sym (remaining_texts-start table top (Some top) refl) ∙ s.parts)
+          ∙ cut-append range start s.texts rest
+          ∙ ap (λ k. cut_chunks range start s.texts ++ cut_chunks range k rest) (sym s.start);
+      len = ap length (cut_chunks-joined range start s.texts is.order)
+          ∙ range-len_front (concat s.texts) (slice.start - start) (slice.end - start)
+          (omega (arith, early, within, is.from))
+          ∙ omega (arith, s.start, is.from);
+      early = omega (arith, s.start, early);
+    }

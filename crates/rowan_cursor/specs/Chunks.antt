@@ -14,7 +14,7 @@ use Rattle.rowan_cursor.specs.declared.table.chunks.ChunkWalk.{ChunkWalk}
 use Rattle.rowan_cursor.specs.declared.table.slice.Slice.{Slice}
 use Rattle.rowan_cursor.specs.Equal.{start_of}
 use Rattle.rowan_cursor.specs.Pass.{since, leaf_list}
-use Rattle.rowan_cursor.specs.SyntaxText.{TextSlice, cut_chunks, IsTextSlice}
+use Rattle.rowan_cursor.specs.SyntaxText.{TextSlice, cut_chunks, chunks, IsTextSlice}
 use Rattle.rowan_cursor.specs.TablePass.{StandsInside}
 use Rattle.rowan_cursor.specs.TableView.{root_of, path_at, cursor_of, stands_for_node, IsWithin}
 use Rattle.rowan_cursor.specs.TableView.{IsNodeIn}
@@ -47,11 +47,11 @@ pub record MayCut (text : List ℕ) (at offset : ℕ) : Type 0 where
 abbrev pub span_of : Slice → Span
 span_of s = record { start = s.start; end = s.end }
 
--- a walk has come to a token inside its node, or to the end, and knows where what is left starts
+-- a walk has come to an element inside its node, or to the end, and knows where what is left starts
 pub record IsWalk (table : Table) (walk : ChunkWalk) : Type 0 where
   pub within : IsWithin table walk.slice.node
   pub order : walk.slice.start ≤ walk.slice.end
-  pub token : IfSome walk.next (IsTokenInside table walk.slice.node)
+  pub place : IfSome walk.next (StandsInside table walk.slice.node)
   pub limit : walk.at + length (concat (remaining_texts table walk.slice.node walk.next))
       ≤ byte_limit
   pub start_cut : MayCut (concat (remaining_texts table walk.slice.node walk.next)) walk.at
@@ -59,12 +59,12 @@ pub record IsWalk (table : Table) (walk : ChunkWalk) : Type 0 where
   pub end_cut : MayCut (concat (remaining_texts table walk.slice.node walk.next)) walk.at
       walk.slice.end
 
-IsWalk-tokens : (table : Table) (walk : ChunkWalk)
-    → IsProp (IfSome walk.next (IsTokenInside table walk.slice.node))
-IsWalk-tokens table walk = hlevel props
+IsWalk-places : (table : Table) (walk : ChunkWalk)
+    → IsProp (IfSome walk.next (StandsInside table walk.slice.node))
+IsWalk-places table walk = hlevel props
 
 pub IsWalk-prop : (table : Table) (walk : ChunkWalk) → IsProp (IsWalk table walk)
-IsWalk-prop table walk = hlevel (props, IsWalk-tokens)
+IsWalk-prop table walk = hlevel (props, IsWalk-places)
 
 -- the chunks that are still to come
 abbrev pub remaining_chunks : Table → ChunkWalk → List (List ℕ)
@@ -83,6 +83,22 @@ pub record SkipsTo (table : Table) (x top n : ℕ) : Type 0 where
 -- a slice of the text of the node with a number, by the cursor at the node
 abbrev pub slice_of : Table → Slice → TextSlice
 slice_of table slice = record { node = cursor_of table slice.node; range = span_of slice }
+
+-- a walk over the chunks of a slice, from the element with the number n on
+abbrev pub walk_at : Table → Slice → ℕ → ChunkWalk
+walk_at table slice n =
+    record { slice = slice; next = Some n; at = start_of (cursor_of table n) }
+
+-- how many bytes of the slice stand before what is left
+abbrev pub bytes_passed : ChunkWalk → ℕ
+bytes_passed walk = walk.at - walk.slice.start
+
+-- of the chunks of a slice a walk leaves out those before some offset at most
+pub record WalksOver (table : Table) (slice : Slice) (offset : ℕ) (walk : ChunkWalk) : Type 0 where
+  pub before : List (List ℕ)
+  pub parts : chunks (slice_of table slice) ≡ before ++ remaining_chunks table walk
+  pub len : length (concat before) ≡ bytes_passed walk
+  pub early : bytes_passed walk ≤ offset
 
 -- the table has the node of a slice, and the range lies in the node's text
 pub record IsSliceOf (table : Table) (s : Slice) : Type 0 where

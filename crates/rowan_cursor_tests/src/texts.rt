@@ -234,3 +234,69 @@ fn characters_begin_at_borders(rt: HostRuntime) -> Result<(), Fail> {
     assert!(rt; text.find_char('日') == Some(TextSize::from(3)) && !text.contains_char('本'));
     Ok(())
 }
+
+/// A text with this many empty nodes behind each word.
+fn with_empty_nodes(
+    alloc: Global,
+    words: &[&'static str],
+    empty: u32,
+) -> Result<SyntaxText, Fault> {
+    let mut calls = Vec::new(alloc);
+    calls.push(Call::Open(ROOT))?;
+    for word in words {
+        calls.push(Call::Word(*word))?;
+        for _ in 0..empty {
+            calls.push(Call::Open(LIST))?;
+            calls.push(Call::Close)?;
+        }
+    }
+    calls.push(Call::Close)?;
+    root_of(alloc, calls.as_slice())?.text()
+}
+
+/// Whether a text says of an offset what a string says of it.
+fn is_read_alike(text: &SyntaxText, string: &str, offset: u32) -> bool {
+    let place = TextSize::from(offset);
+    let at = offset as usize;
+    if !string.is_char_boundary(at) {
+        return !text.is_border(place) && text.char_at(place) == None;
+    }
+    text.is_border(place) && text.char_at(place) == string[at..].chars().next()
+}
+
+/// Whether the part of a text from an offset on is that of a string, where the string may be cut.
+fn is_cut_alike(text: &SyntaxText, string: &str, offset: u32) -> Result<bool, Fault> {
+    let at = offset as usize;
+    if !string.is_char_boundary(at) {
+        return Ok(true);
+    }
+    Ok(part_from(text, offset)?.eq_str(&string[at..]))
+}
+
+#[test]
+fn offsets_among_empty_nodes_are_those_of_the_text(rt: HostRuntime) -> Result<(), Fail> {
+    let words = ["aé", "", "日", "b", "", "cd"];
+    let text = with_empty_nodes(rt.alloc(), words.as_slice(), 30)?;
+    let string = text.to_text()?;
+    for offset in 0..10 {
+        assert!(rt; is_read_alike(&text, string.as_str(), offset));
+        assert!(rt; is_cut_alike(&text, string.as_str(), offset)?);
+    }
+    Ok(())
+}
+
+/// Whether a character is read, and found, at a text's start.
+fn is_found_first(text: &SyntaxText, character: char) -> bool {
+    let start = TextSize::from(0);
+    text.char_at(start) == Some(character) && text.find_char(character) == Some(start)
+}
+
+#[test]
+fn nothing_is_looked_for_behind_the_answer(rt: HostRuntime) -> Result<(), Fail> {
+    let text = with_empty_nodes(rt.alloc(), ["a", "b"].as_slice(), 100_000)?;
+    for _ in 0..100_000 {
+        assert!(rt; is_found_first(&text, 'a') && count(&text, 1) == Err(1));
+        assert!(rt; text.is_border(TextSize::from(1)));
+    }
+    Ok(())
+}

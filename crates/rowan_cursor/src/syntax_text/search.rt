@@ -1,7 +1,6 @@
 //! Searches in texts that are borrowed from their tree.
-ghost use Rattle.std.specs.Prelude.{◌↔◌, ◌≤◌, ℕ, IsTrue, MatchOption, length};
+ghost use Rattle.std.specs.Prelude.{◌↔◌, ◌≤◌, ℕ, IsTrue};
 ghost use Rattle.std.specs.Str.{IsCharBoundary};
-ghost use Rattle.rowan_cursor.specs.Chunks.{IsByteIn};
 ghost use Rattle.rowan_cursor.specs.SyntaxText.{slice_text, slice_len, HasChar, FindsChar};
 ghost use Rattle.rowan_cursor.specs.SyntaxText.{ReadsChar};
 
@@ -10,22 +9,6 @@ use rowan_green::text::TextSize;
 
 impl<'tree> SyntaxTextRef<'tree> {
     ghost use Rattle.rowan_cursor.specs.RefTexts.{text_slice};
-
-    // The chunk with the byte at an offset, and the place of the byte in it.
-    fn chunk_at(&self, offset: TextSize) -> Option<(&'tree str, usize)>
-        ensures { let text = slice_text (text_slice self.now) in
-            MatchOption result (length text ≤ offset)
-            (λ found. IsByteIn text offset found.0.now found.1) }
-    {
-        let mut place = u32::from(offset) as usize;
-        for chunk in self.chunks() {
-            if place < chunk.len() {
-                return Some((chunk, place));
-            }
-            place -= chunk.len();
-        }
-        None
-    }
 
     /// Whether a character is in the text.
     pub fn contains_char(&self, c: char) -> bool

@@ -1,6 +1,7 @@
 //! Texts that are borrowed from their tree.
-ghost use Rattle.std.specs.Prelude.{◌≡◌, ◌↔◌, IfOk, IfErr, IsTrue, string_bytes};
-ghost use Rattle.rowan_cursor.specs.Chunks.{slice_of, IsSliceOf};
+ghost use Rattle.std.specs.Prelude.{◌≡◌, ◌≤◌, ◌↔◌, IfOk, IfErr, IsTrue, MatchOption, length};
+ghost use Rattle.std.specs.Prelude.{string_bytes};
+ghost use Rattle.rowan_cursor.specs.Chunks.{slice_of, IsSliceOf, IsByteIn};
 ghost use Rattle.rowan_cursor.specs.Folds.{FoldsUntilErr, VisitsUntilErr, VisitsAll};
 ghost use Rattle.rowan_cursor.specs.SyntaxText.{slice_text, slice_len, chunks, whole_text, part_of};
 ghost use Rattle.rowan_cursor.specs.SyntaxText.{first_of, last_of, CanCut, same_text};
@@ -93,6 +94,27 @@ impl<'tree> SyntaxTextRef<'tree> {
         ensures { rest_of_chunks result ≡ chunks (text_slice self.now) }
     {
         SyntaxTextChunks::new(self.table, self.slice.chunk_walk(self.table))
+    }
+
+    // The chunk with the byte at an offset, and the place of the byte in it. A search in the table
+    // leads to its token, so that the first chunk of the walk has it.
+    pub(super) fn chunk_at(&self, offset: TextSize) -> Option<(&'tree str, usize)>
+        ensures { let text = slice_text (text_slice self.now) in
+            MatchOption result (length text ≤ offset)
+            (λ found. IsByteIn text offset found.0.now found.1) }
+    {
+        if self.len() <= offset {
+            return None;
+        }
+        let walk = self.slice.walk_over(self.table, offset);
+        let mut place = (u32::from(offset) - walk.passed()) as usize;
+        for chunk in SyntaxTextChunks::new(self.table, walk) {
+            if place < chunk.len() {
+                return Some((chunk, place));
+            }
+            place -= chunk.len();
+        }
+        None
     }
 
     /// What a closure makes of a first value and the chunks in their order: each call takes the

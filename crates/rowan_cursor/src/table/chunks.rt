@@ -2,8 +2,9 @@
 //! takes no memory.
 ghost use Rattle.std.specs.Prelude.{◌≡◌, ◌≤◌, ◌∷◌, [], true, false, IfSome, IfNone, MatchOption};
 ghost use Rattle.rowan_cursor.specs.Chunks.{remaining_leaves, IsTokenInside, MayCut, IsWalk};
-ghost use Rattle.rowan_cursor.specs.Chunks.{remaining_chunks, span_of};
+ghost use Rattle.rowan_cursor.specs.Chunks.{remaining_chunks, span_of, bytes_passed};
 ghost use Rattle.rowan_cursor.specs.SyntaxText.{meets, common_part};
+ghost use Rattle.rowan_cursor.specs.TablePass.{StandsInside};
 ghost use Rattle.rowan_cursor.specs.TableView.{path_at};
 
 use super::Table;
@@ -11,14 +12,24 @@ use super::slice::Slice;
 use rowan_green::text::TextSize;
 use std::cmp;
 
-/// A walk over the chunks of a slice, and how far it has come: to a token, or to the end, and to
-/// where the texts that are left start. It begins at the first token that meets the slice, which a
-/// search finds, going down.
+/// A walk over the chunks of a slice, and how far it has come: to an element, or to the end, and to
+/// where the texts that are left start. The next token is looked for from that element on when the
+/// next chunk is asked for. It begins where a search going down finds no token that ends before the
+/// slice passed over.
 #[derive(Clone, Copy)]
 pub(crate) struct ChunkWalk {
     pub(super) slice: Slice,
     pub(super) next: Option<usize>,
     pub(super) at: u32,
+}
+
+impl ChunkWalk {
+    /// How many bytes of the slice stand before the texts that are left.
+    pub(crate) fn passed(&self) -> u32
+        ensures { result ≡ bytes_passed self.now }
+    {
+        self.at.saturating_sub(self.slice.start)
+    }
 }
 
 // What a text, which starts at an offset, has in common with a slice, if they meet.
@@ -43,17 +54,14 @@ fn part_in(text: &str, at: u32, slice: Slice) -> Option<&str>
 }
 
 impl Table {
-    // The next token behind one, inside the element at `top`.
+    // The next element behind a token, inside the element at `top`.
     fn next_inside(&self, number: usize, top: usize) -> Option<usize>
         requires { IsTokenInside self.now top number }
         ensures left { remaining_leaves self.now top (Some number)
             ≡ path_at self.now number ∷ remaining_leaves self.now top result }
-        ensures token { IfSome result (IsTokenInside self.now top) }
+        ensures place { IfSome result (StandsInside self.now top) }
     {
-        match self.step_on(number, top) {
-            Some(next) => self.token_from(next, top),
-            None => None,
-        }
+        self.step_on(number, top)
     }
 
     /// The next chunk of a walk.
@@ -65,16 +73,21 @@ impl Table {
             ≡ chunk.now ∷ remaining_chunks self.now walk.new) }
         ensures left { IfNone result (remaining_chunks self.now walk.new ≡ []) }
     {
-        while let Some(number) = walk.next {
+        while let Some(next) = walk.next {
             let at = walk.at;
             let end = walk.slice.end;
             if end < at {
                 return None;
             }
+            let top = walk.slice.node;
+            let Some(number) = self.token_from(next, top) else {
+                walk.next = None;
+                return None;
+            };
             let text = self.token(number).text();
             let len = u32::from(TextSize::of(text));
             walk.at = at + len;
-            walk.next = self.next_inside(number, walk.slice.node);
+            walk.next = self.next_inside(number, top);
             if let Some(chunk) = part_in(text, at, walk.slice) {
                 return Some(chunk);
             }

@@ -1,7 +1,9 @@
 //! A slice of the text of a node, by numbers alone.
-ghost use Rattle.std.specs.Prelude.{◌≡◌};
+ghost use Rattle.std.specs.Prelude.{◌≡◌, ◌<◌};
 ghost use Rattle.rowan_cursor.specs.Chunks.{IsWalk, remaining_chunks, slice_of, IsSliceOf};
-ghost use Rattle.rowan_cursor.specs.SyntaxText.{chunks, part_of, CanCut};
+ghost use Rattle.rowan_cursor.specs.Chunks.{walk_at, WalksOver};
+ghost use Rattle.rowan_cursor.specs.SyntaxText.{chunks, slice_len, part_of, CanCut};
+ghost use Rattle.rowan_cursor.specs.TableView.{IsWithin};
 
 use super::Table;
 use super::chunks::ChunkWalk;
@@ -35,11 +37,31 @@ impl Slice {
         ensures chunks { remaining_chunks table.now result ≡ chunks (slice_of table.now self.now) }
     {
         let first = table.skip_to(self.node, TextSize::from(self.start));
-        let at = u32::from(table.start(first));
+        self.walk_at(table, first)
+    }
+
+    /// The walk over the chunks of a slice, from that on which has the byte at an offset. The offset
+    /// is counted from the start of the slice.
+    pub(crate) fn walk_over(&self, table: &Table, offset: TextSize) -> ChunkWalk
+        requires slice { IsSliceOf table.now self.now }
+        requires within { offset < slice_len (slice_of table.now self.now) }
+        ensures walk { IsWalk table.now result }
+        ensures over { WalksOver table.now self.now offset result }
+    {
+        let behind = self.start + u32::from(offset) + 1;
+        let first = table.skip_to(self.node, TextSize::from(behind));
+        self.walk_at(table, first)
+    }
+
+    // The walk over the chunks of a slice, from an element on.
+    fn walk_at(&self, table: &Table, first: usize) -> ChunkWalk
+        requires { IsWithin table.now first }
+        ensures { result ≡ walk_at table.now self.now first }
+    {
         ChunkWalk {
             slice: *self,
-            next: table.token_from(first, self.node),
-            at,
+            next: Some(first),
+            at: u32::from(table.start(first)),
         }
     }
 

@@ -1,18 +1,28 @@
-use Rattle.std.proofs.Common.{◌<◌, ◌≤◌, [], ◌++◌, length, sym, ◌∙◌, ap, arith, rules}
+use Rattle.std.proofs.Common.{◌<◌, ◌≤◌, ◌++◌, length, sym, ◌∙◌, ap, subst, arith, rules}
 use Rattle.std.proofs.Common.{length-append}
 use Rattle.std.specs.List.{concat}
 use Rattle.rowan_cursor.specs.RefTexts.{text_slice, rest_of_chunks}
 use Rattle.rowan_cursor.specs.SyntaxText.{slice_text}
-use Rattle.rowan_cursor.proofs.RefTextLemmas.{all_left, read_on, all_read}
+use Rattle.std.proofs.lemmas.List.Folds.{concat-append}
+use Rattle.rowan_cursor.specs.Chunks.{remaining_chunks, WalksOver}
+use Rattle.rowan_cursor.proofs.RefTextLemmas.{text_joined, read_on, all_read}
 use Rattle.rowan_cursor.proofs.syntax_text.text_ref.SyntaxTextRef.chunk_at.Goals as goal
 
 pub loop-chunk-init : goal.loop-chunk-init
-loop-chunk-init c = (
-  [],
-  all_left c.args.self.now _ _ c.into_iter-chunk-iterator.ensures.into_iter_gives
-      c.chunks-chunk-items.ensures,
-  search rules,
-)
+loop-chunk-init c =
+    let text = c.args.self.now in
+    let walk = c.walk_over-walk.result in
+    let over = subst (λ t. WalksOver t text.slice c.args.offset walk) c.deref.ensures
+    c.walk_over-walk.ensures.over in
+    let before = concat over.before in (
+      before,
+      ap (λ i. before ++ concat (rest_of_chunks i))
+          c.into_iter-chunk-iterator.ensures.into_iter_gives
+          ∙ ap (λ cs. before ++ concat cs) c.new-chunk-items.ensures
+          ∙ sym (concat-append over.before (remaining_chunks text.table.now.value walk))
+          ∙ ap concat (sym over.parts) ∙ text_joined text,
+      omega (arith, over.len, over.early, c.from.ensures, c.passed.ensures),
+    )
 
 pub returns-then-place-chunk : goal.returns-then-place-chunk
 returns-then-place-chunk c =
