@@ -31,6 +31,7 @@ pub mod SmallerLemmas
 pub mod TableLemmas
 pub mod TextLemmas
 pub mod TokenLemmas
+pub mod TotalLemmas
 pub mod TouchLemmas
 pub mod TraversalLemmas
 pub mod WordLaws

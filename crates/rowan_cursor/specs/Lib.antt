@@ -1,4 +1,5 @@
 pub mod Chunks
+pub mod Count
 pub mod Cursor
 pub mod CursorCode
 pub mod DraftView

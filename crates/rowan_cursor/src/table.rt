@@ -1,6 +1,7 @@
 //! The table that all cursors of one tree share: an entry for each node and token.
 
 mod chunks;
+mod count;
 mod draft;
 mod entry;
 mod equal;

@@ -16,6 +16,8 @@ mod fixture;
 #[cfg(test)]
 mod limits;
 #[cfg(test)]
+mod numbers;
+#[cfg(test)]
 mod refs;
 #[cfg(test)]
 mod replacements;

@@ -2,6 +2,7 @@
 ghost use Rattle.std.specs.Prelude.{◌≡◌, ◌≤◌, IfOk};
 
 use super::Table;
+use super::count::is_past_numbers;
 use super::entry::Entry;
 use super::nodes::{Nodes, give_back};
 use rowan_green::green::{GreenElement, GreenNode};
@@ -15,11 +16,14 @@ use std::mem::size_of;
 // For how many bytes of text a table asks for room at first, at least.
 const MIN_FIRST_BYTES: usize = 16;
 
-// And at most: for 27 MB of memory.
+// And at most: for 25 MB of memory.
 const MAX_FIRST_BYTES: usize = 1 << 21;
 
 // How many entries a table has at most: so many numbers of 32 bits stand for one.
-const MAX_ENTRIES: usize = u32::MAX as usize;
+pub(super) const MAX_ENTRIES: usize = u32::MAX as usize;
+
+// From how many entries on the tree is counted before there is room for more of them.
+const COUNTED_FROM: usize = 1 << 16;
 
 // For how many nodes that wait a table has room at first, while it is filled.
 const FIRST_WAITING: usize = 64;
@@ -48,10 +52,12 @@ pub(super) struct Draft<'a> {
     entries: Vec<Entry>,
     nodes: Nodes,
     waiting: Vec<Waiting<'a>>,
+    root: &'a GreenNode,
+    alloc: Global,
 }
 
 impl<'a> Draft<'a> {
-    ghost use Rattle.std.specs.Prelude.{◌≡◌, ◌+◌, ◌<◌, IfOk, OnOk, IfSome, IsNone, length};
+    ghost use Rattle.std.specs.Prelude.{◌≡◌, ◌+◌, ◌<◌, ◌≤◌, IfOk, OnOk, IfSome, IsNone, length};
     ghost use Rattle.std.specs.List.Sorted.{IsPermutation};
     ghost use Rattle.rowan_green.specs.Term.{node_children};
     ghost use Rattle.rowan_cursor.specs.DraftView.{IsFilled, IsFilledWith, HasTheirs, IsTaken};
@@ -59,6 +65,7 @@ impl<'a> Draft<'a> {
     ghost use Rattle.rowan_cursor.specs.DraftView.{TakesPlace, draft_root, draft_root_with};
     ghost use Rattle.rowan_cursor.specs.DraftView.{size_left, size_left_with};
     ghost use Rattle.rowan_cursor.specs.TableView.{root_of, entry_limit};
+    ghost use Rattle.std.specs.Vec.{vec_len, vec_capacity};
 
     /// The entry of the root alone.
     pub(super) fn new(alloc: Global, root: &'a GreenNode) -> Result<Draft<'a>, AllocError>
@@ -73,6 +80,8 @@ impl<'a> Draft<'a> {
             entries: Vec::with_capacity(alloc, bytes - bytes / 4)?,
             nodes: Nodes::with_capacity(alloc, bytes / 4)?,
             waiting: Vec::with_capacity(alloc, FIRST_WAITING)?,
+            root,
+            alloc,
         };
         let start = TextSize::from(0);
         draft.waiting.push_reserved(Waiting {
@@ -103,12 +112,35 @@ impl<'a> Draft<'a> {
         ensures room { OnOk result (HasRoom self.new additional) }
     {
         if self.entries.capacity() - self.entries.len() < additional {
-            self.entries.reserve(additional)?;
+            self.grow(additional)?;
         }
         if self.waiting.capacity() - self.waiting.len() < additional {
             self.waiting.reserve(additional)?;
         }
         Ok(())
+    }
+
+    // Makes room for so many entries more. A tree that has more nodes and tokens than there are
+    // numbers is refused here as soon as a count level by level finds that out, long before it has
+    // so many entries: a few nodes that are shared can be a tree of any size. The count goes on for
+    // a part of the steps that the entries took so far, and where there are more of them than bytes
+    // of text for as many steps again, so that it never takes longer than they did.
+    #[cold]
+    #[inline(never)]
+    fn grow(&mut self, additional: usize) -> Result<(), AllocError>
+        ensures kept { IsKept self.old self.new }
+        ensures room { OnOk result
+            (vec_len self.new.entries + additional ≤ vec_capacity self.new.entries) }
+    {
+        let made = self.entries.len();
+        if made >= COUNTED_FROM {
+            let text_len = u32::from(self.root.text_len()) as usize;
+            let steps = made / 16 + made.saturating_sub(text_len);
+            if let Ok(true) = is_past_numbers(self.alloc, self.root, steps) {
+                return Err(AllocError);
+            }
+        }
+        self.entries.reserve(additional)
     }
 
     /// Gives the node that was the next its place, and its children their entries. Refused, too,

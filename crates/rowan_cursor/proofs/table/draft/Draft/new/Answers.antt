@@ -14,6 +14,8 @@ returns-clause-draft c =
       entries = c.push_reserved-2.new.self;
       nodes = c.in_ok-with_capacity-2.field-0;
       waiting = c.push_reserved.new.self;
+      root = c.args.root;
+      alloc = c.args.alloc;
     } in
     let w : Waiting = record {
       node = c.args.root;

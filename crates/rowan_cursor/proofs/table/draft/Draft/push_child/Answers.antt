@@ -23,6 +23,8 @@ returns-in-Token-clause-added c =
       entries = c.push_reserved-in-Token.new.self;
       nodes = d.nodes;
       waiting = d.waiting;
+      root = d.root;
+      alloc = d.alloc;
     } in
     let start : c.from-start.result ≡ c.args.parent.now.start
     + child_start (node_children c.args.parent.now.node.now) c.args.index =
@@ -44,6 +46,8 @@ returns-in-Node-clause-added c =
       entries = c.push_reserved-in-Node.new.self;
       nodes = d.nodes;
       waiting = c.push_reserved.new.self;
+      root = d.root;
+      alloc = d.alloc;
     } in
     let start : c.from-start.result ≡ c.args.parent.now.start
     + child_start (node_children c.args.parent.now.node.now) c.args.index =

@@ -40,6 +40,8 @@ loop-index-init c =
       entries = with_item r.entries w.number e;
       nodes = c.push.new.self;
       waiting = r.waiting;
+      root = r.root;
+      alloc = r.alloc;
     } in
     let within : w.number < length r.entries.items =
     omega (arith, next_within d w c.requires.draft, ap length kept.entries) in
