@@ -157,10 +157,9 @@ pub record AddsChild (old new : Draft) (n : NodeTerm) (i : ℕ) : Type 0 where
   pub root : draft_root new ≡ draft_root old
   pub size : size_left new ≤ size_left old + term_size child
 
--- there is room for so many more entries, and for as many nodes that wait
+-- there is room for so many more entries
 pub record HasRoom (d : Draft) (count : ℕ) : Type 0 where
   pub entries : vec_len d.entries + count ≤ vec_capacity d.entries
-  pub waiting : vec_len d.waiting + count ≤ vec_capacity d.waiting
 
 -- one place was taken of the room, at most
 abbrev pub TakesPlace : Draft → Draft → Type 0

@@ -1,10 +1,11 @@
 //! Filling a table: node by node, from the root on, in one pass.
-ghost use Rattle.std.specs.Prelude.{◌≡◌, ◌≤◌, IfOk};
+ghost use Rattle.std.specs.Prelude.{◌≡◌, ◌≤◌, IfOk, length};
+ghost use Rattle.rowan_green.specs.Term.{node_children};
 
 use super::Table;
 use super::count::is_past_numbers;
 use super::entry::Entry;
-use super::nodes::{Nodes, give_back};
+use super::nodes::{Nodes, give_back, reserve_one};
 use rowan_green::green::{GreenElement, GreenNode};
 use rowan_green::link::Link;
 use rowan_green::text::TextSize;
@@ -105,19 +106,32 @@ impl<'a> Draft<'a> {
         self.waiting.pop()
     }
 
-    // Makes room for so many nodes and tokens more, of which all may be nodes. Where there is
-    // enough room, this calls nothing.
-    fn reserve(&mut self, additional: usize) -> Result<(), AllocError>
+    // Makes room for the children of a node: for their entries, and for those that are nodes to
+    // wait. Where there is enough room, this calls nothing.
+    fn reserve(&mut self, node: &GreenNode) -> Result<(), AllocError>
         ensures kept { IsKept self.old self.new }
-        ensures room { OnOk result (HasRoom self.new additional) }
+        ensures room { OnOk result (HasRoom self.new (length (node_children node.now))) }
     {
-        if self.entries.capacity() - self.entries.len() < additional {
-            self.grow(additional)?;
+        let count = node.children().len();
+        if self.entries.capacity() - self.entries.len() < count {
+            self.grow(count)?;
         }
-        if self.waiting.capacity() - self.waiting.len() < additional {
-            self.waiting.reserve(additional)?;
+        if self.waiting.capacity() - self.waiting.len() < count {
+            self.reserve_waiting(node)?;
         }
         Ok(())
+    }
+
+    // Makes room for those children of a node to wait that are nodes, and for it and all that wait
+    // then among the nodes.
+    #[inline(never)]
+    fn reserve_waiting(&mut self, node: &GreenNode) -> Result<(), AllocError>
+        ensures kept { IsKept self.old self.new }
+        ensures entries { self.new.entries ≡ self.old.entries }
+    {
+        let places = count_nodes(node).saturating_add(1);
+        self.waiting.reserve(places)?;
+        self.nodes.reserve(self.waiting.len() + places)
     }
 
     // Makes room for so many entries more. A tree that has more nodes and tokens than there are
@@ -161,13 +175,13 @@ impl<'a> Draft<'a> {
         if end > MAX_ENTRIES {
             return Err(AllocError);
         }
-        self.reserve(count)?;
+        self.reserve(parent.node)?;
         let green = owner_of(parent.node)?;
         self.entries[parent.number as usize].node = Link::to(self.nodes.len() as u32);
         self.nodes.push(green, first_child as u32)?;
         let waited = self.waiting.len();
         for index in 0..count {
-            self.push_child(parent, index);
+            self.push_child(parent, index)?;
         }
         self.turn_round(waited);
         Ok(())
@@ -185,16 +199,16 @@ impl<'a> Draft<'a> {
     }
 
     // Adds the entry of the child at an index of a node, for which there is room. The child's
-    // number is the next.
+    // number is the next. Mostly there is room to wait, too, so this calls nothing.
     #[inline(always)]
-    fn push_child(&mut self, parent: &Waiting<'a>, index: usize)
+    fn push_child(&mut self, parent: &Waiting<'a>, index: usize) -> Result<(), AllocError>
         requires draft { IsFilled self.old }
         requires place { IsNextIndex self.old parent.now index }
         requires index { index < length (node_children parent.now.node.now) }
         requires number { length self.old.entries.items < entry_limit }
         requires room { HasRoom self.old 1 }
-        ensures added { AddsChild self.old self.new parent.now.node.now index }
-        ensures room { TakesPlace self.old self.new }
+        ensures added { OnOk result (AddsChild self.old self.new parent.now.node.now index) }
+        ensures room { OnOk result (TakesPlace self.old self.new) }
     {
         let Some(found) = parent.node.child_ref(index) else {
             unreachable!();
@@ -203,6 +217,7 @@ impl<'a> Draft<'a> {
         match found.1 {
             NodeOrToken::Node(node) => {
                 let number = self.entries.len() as u32;
+                reserve_one(&mut self.waiting)?;
                 self.waiting.push_reserved(Waiting {
                     node,
                     start,
@@ -220,6 +235,7 @@ impl<'a> Draft<'a> {
                 node: Link::none(),
             }),
         }
+        Ok(())
     }
 
     /// The table, where no node waits.
@@ -238,6 +254,19 @@ impl<'a> Draft<'a> {
         nodes.give_back();
         Table { entries, nodes }
     }
+}
+
+// How many children of a node are nodes.
+fn count_nodes(node: &GreenNode) -> usize
+    ensures { result ≤ length (node_children node.now) }
+{
+    let mut nodes = 0;
+    for index in 0..node.children().len() {
+        if let Some((_, NodeOrToken::Node(_))) = node.child_ref(index) {
+            nodes += 1;
+        }
+    }
+    nodes
 }
 
 // One more owner of a node, or, where the count of its owners is full, one of a node with the same

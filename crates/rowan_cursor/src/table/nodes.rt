@@ -66,6 +66,14 @@ impl Nodes {
         self.first_children[node] as usize
     }
 
+    /// Makes room for so many more.
+    pub(super) fn reserve(&mut self, additional: usize) -> Result<(), AllocError>
+        ensures { self.new ≡ self.old }
+    {
+        self.greens.reserve(additional)?;
+        self.first_children.reserve(additional)
+    }
+
     /// Adds a node. A refused call leaves them as they were.
     pub(super) fn push(&mut self, green: GreenNode, first_child: u32) -> Result<(), AllocError>
         ensures ok { OnOk result (self.new ≡ self.old ++ inner green first_child ∷ []) }
@@ -87,8 +95,8 @@ impl Nodes {
     }
 }
 
-// Makes room for one item more. Where there is room, this calls nothing.
-fn reserve_one<T>(list: &mut Vec<T>) -> Result<(), AllocError>
+/// Makes room for one item more. Where there is room, this calls nothing.
+pub(super) fn reserve_one<T>(list: &mut Vec<T>) -> Result<(), AllocError>
     ensures items { list.new.items ≡ list.old.items }
     ensures room { OnOk result (vec_len list.new < vec_capacity list.new) }
 {

@@ -1,8 +1,9 @@
-use Rattle.std.proofs.Common.{◌≡◌, ◌+◌, length, refl, ap, arith}
+use Rattle.std.proofs.Common.{◌≡◌, ◌+◌, ◌++◌, ◌∷◌, [], length, refl, ◌∙◌, ap, arith}
 use Rattle.rowan_green.specs.Lent.{into_node, pointee}
 use Rattle.rowan_green.specs.Search.{child_start}
 use Rattle.rowan_green.specs.Term.{node_children}
 use Rattle.rowan_cursor.specs.declared.table.draft.Draft.{Draft}
+use Rattle.rowan_cursor.specs.declared.table.draft.Waiting.{Waiting}
 use Rattle.rowan_cursor.proofs.DraftLemmas.{start_fits, adds_token_child, adds_node_child}
 use Rattle.rowan_cursor.proofs.table.draft.Draft.push_child.Goals as goal
 
@@ -39,8 +40,8 @@ returns-in-Token-clause-added c =
     (pointee c.in-Some.found.1) c.in-Some.ensures.some.1 _ start refl c.none-in-Token.ensures
     c.push_reserved-in-Token.ensures.items refl refl (ap (λ o. into_node (pointee o)) c.in-Token.is)
 
-pub returns-in-Node-clause-added : goal.returns-in-Node-clause-added
-returns-in-Node-clause-added c =
+pub returns-in_ok-reserve_one-in-Node-clause-added : goal.returns-in_ok-reserve_one-in-Node-clause-added
+returns-in_ok-reserve_one-in-Node-clause-added c =
     let d = c.args.self.now in
     let new : Draft = record {
       entries = c.push_reserved-in-Node.new.self;
@@ -60,7 +61,13 @@ returns-in-Node-clause-added c =
     ) in
     let number : c.len-number.result ≡ length d.entries.items =
     omega (arith, c.len-number.ensures) in
+    let v : Waiting = record {
+      node = c.in-Node.node;
+      start = c.from-start.result;
+      number = c.len-number.result;
+    } in
     adds_node_child d new c.args.parent.now c.args.index c.requires.draft c.requires.place
     (pointee c.in-Some.found.1) c.in-Some.ensures.some.1 _ start refl c.none.ensures
-    c.push_reserved-in-Node.ensures.items refl _ c.push_reserved.ensures.items
+    c.push_reserved-in-Node.ensures.items refl v (c.push_reserved.ensures.items
+    ∙ ap (λ ws. ws ++ v ∷ []) c.in_ok-reserve_one-in-Node.ensures.items)
     (ap (λ o. into_node (pointee o)) c.in-Node.is) refl number

@@ -63,8 +63,13 @@ loop-index-init c =
       size = omega (arith, ap waiting_size kept.waiting);
       more = omega (arith, c.len-waited.ensures);
       room = λ n h. record {
-        entries = omega (arith, h, c.in_ok-reserve.ensures.room.entries);
-        waiting = omega (arith, h, c.in_ok-reserve.ensures.room.waiting);
+        entries = omega (
+          arith,
+          h,
+          c.in_ok-reserve.ensures.room.entries,
+          c.len-count.ensures.value,
+          ap length c.children.ensures.list,
+        );
       };
     }
 
@@ -78,7 +83,7 @@ loop-index-preserved c =
     let new = c.push_child.new.self in
     let i = c.loop-index.index in
     let was = c.loop-index.invariant in
-    let added = c.push_child.ensures.added in
+    let added = c.in_ok-push_child.ensures.added in
     record {
       filled = added.filled;
       place = next_index d new c.args.parent.now i added.entry was.place added.entries added.nodes;
@@ -97,7 +102,7 @@ loop-index-preserved c =
         terms_size-more (node_children c.args.parent.now.node.now) i added.child added.at,
       );
       more = omega (arith, was.more, added.more);
-      room = λ n h. c.push_child.ensures.room n (was.room (n + 1) (omega (arith, h)));
+      room = λ n h. c.in_ok-push_child.ensures.room n (was.room (n + 1) (omega (arith, h)));
     }
 
 pub returns-clause-draft : goal.returns-clause-draft
