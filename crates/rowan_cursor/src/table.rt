@@ -67,7 +67,13 @@ impl Table {
     {
         let mut draft = Draft::new(alloc, &green)?;
         while let Some(parent) = draft.next() {
-            draft.push_children(&parent)?;
+            if let Err(refused) = draft.push_children(&parent) {
+                // The nodes that have places are let go one by one behind the root's owner, so that
+                // each drop goes through what has none alone, and not through the whole tree.
+                let _placed = draft.into_nodes();
+                drop(green);
+                return Err(refused);
+            }
         }
         Ok(draft.finish())
     }

@@ -238,6 +238,12 @@ impl<'a> Draft<'a> {
         Ok(())
     }
 
+    /// The nodes that have their places, where the filling was refused.
+    pub(super) fn into_nodes(self) -> Nodes {
+        let Draft { nodes, .. } = self;
+        nodes
+    }
+
     /// The table, where no node waits.
     pub(super) fn finish(self) -> Table
         requires draft { IsFilled self }
