@@ -1,7 +1,7 @@
 -- Where a walk over chunks begins: down from child to child, past tokens that end before the slice.
 use Rattle.std.proofs.Common.{◌≡◌, ℕ, zero, suc, ◌+◌, ◌-◌, ◌<◌, ◌≤◌, Bool, true, false, ◌&&◌, List}
 use Rattle.std.proofs.Common.{cond, [], ◌∷◌, ◌++◌, map, length, filter, take, drop, Option, Some, None}
-use Rattle.std.proofs.Common.{IfSome, inl, inr, refl, sym, ◌∙◌, ap, subst, arith, length-append}
+use Rattle.std.proofs.Common.{inl, inr, refl, sym, ◌∙◌, ap, subst, arith, length-append}
 use Rattle.std.proofs.Common.{append_assoc}
 use Rattle.std.specs.Prelude.{nat_le, slice_get, slice_range}
 use Rattle.std.specs.List.{concat}
@@ -21,7 +21,6 @@ use Rattle.rowan_green.specs.Path.{Path, subterm_of, subterm, offset, len_of, te
 use Rattle.rowan_green.proofs.SearchLemmas.{child_start-le}
 use Rattle.rowan_green.proofs.Terms.{terms-forest}
 use Rattle.rowan_cursor.specs.declared.table.Table.{Table}
-use Rattle.rowan_cursor.specs.declared.table.chunks.ChunkWalk.{ChunkWalk}
 use Rattle.rowan_cursor.specs.declared.table.slice.Slice.{Slice}
 use Rattle.rowan_cursor.specs.Chunks.{texts_at, remaining_leaves, remaining_texts, MayCut, IsWalk}
 use Rattle.rowan_cursor.specs.Chunks.{SkipsTo, span_of, slice_of, walk_at, WalksOver}

@@ -1,6 +1,6 @@
 -- How many nodes and tokens a tree has, and how many of them a count that goes level by level has
 -- still to come to.
-use Rattle.std.specs.Prelude.{ℕ, ◌+◌, List}
+use Rattle.std.specs.Prelude.{ℕ, ◌+◌}
 use Rattle.std.specs.List.{sum_by}
 use Rattle.rowan_green.specs.declared.utility_types.NodeOrToken.TheVariants.{Node, Token}
 use Rattle.rowan_green.specs.Term.{Term, NodeTerm, node, Forest, empty, node_then, token_then}

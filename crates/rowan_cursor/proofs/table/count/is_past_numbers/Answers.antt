@@ -1,6 +1,6 @@
 use Rattle.std.proofs.Common.{arith}
 use Rattle.rowan_cursor.specs.declared.table.count.Count.{Count}
-use Rattle.rowan_cursor.proofs.TotalLemmas.{entries_below-children, met-more, met-taken, met-none}
+use Rattle.rowan_cursor.proofs.TotalLemmas.{entries_below-children, met-more, met-none}
 use Rattle.rowan_cursor.proofs.table.count.is_past_numbers.Goals as goal
 
 pub loop-node-init : goal.loop-node-init
