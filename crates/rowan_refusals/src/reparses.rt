@@ -5,7 +5,7 @@ use crate::making::Make;
 use crate::moving::Move;
 use crate::step::{Case, Step};
 
-pub const REPARSES: [Case; 6] = [
+pub const REPARSES: [Case; 7] = [
     Case {
         name: "reparsed_inner_list",
         steps: &[
@@ -71,6 +71,20 @@ pub const REPARSES: [Case; 6] = [
             MAKING,
             Step::Make(Make::Reparsed("(c)")),
             Step::Make(Make::Parsed("(a (c)")),
+            Step::Equal,
+        ],
+    },
+    Case {
+        name: "white space in a list that is not closed",
+        steps: &[
+            Step::Make(Make::Parsed("(a ")),
+            Step::Make(Make::Root),
+            MOVING,
+            Step::GoToRoot(0),
+            Step::Go(Move::FirstChild),
+            MAKING,
+            Step::Make(Make::Reparsed("(b)")),
+            Step::Make(Make::Parsed("(b)")),
             Step::Equal,
         ],
     },

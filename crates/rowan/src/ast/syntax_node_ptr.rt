@@ -104,8 +104,8 @@ impl<L: Language> SyntaxNodePtr<L> {
         }
     }
 
-    /// The node to which the pointer leads in a borrowed tree, as `try_to_node` finds it. It is
-    /// refused for nothing.
+    /// The node to which the pointer leads in a borrowed tree, as `try_to_node` finds it. It cannot
+    /// fail.
     pub fn try_to_node_ref<'tree>(
         &self,
         root: SyntaxNodeRef<'tree, L>,

@@ -74,7 +74,7 @@ impl<L> SyntaxNode<L> {
         Ok(SyntaxNode::from(cursor::SyntaxNode::new_root(alloc, green)?))
     }
 
-    /// The node, borrowed from its tree: its moves are refused for nothing.
+    /// The node, borrowed from its tree: its moves cannot fail.
     pub fn as_ref(&self) -> SyntaxNodeRef<'_, L>
         ensures { node_place result ≡ self.now }
     {

@@ -65,7 +65,7 @@ impl<L> SyntaxToken<L> {
         }
     }
 
-    /// The token, borrowed from its tree: its moves are refused for nothing.
+    /// The token, borrowed from its tree: its moves cannot fail.
     pub fn as_ref(&self) -> SyntaxTokenRef<'_, L>
         ensures { token_place result ≡ self.now }
     {
