@@ -36,19 +36,20 @@ YieldsWrappers casts node_of (Ok cs) (Some (Err e)) after =
 YieldsWrappers casts node_of (Err f) (Some (Err e)) after = (e ≡ f) × (after ≡ Ok [])
 YieldsWrappers casts node_of (Err f) _ after = ⊥
 
--- Of the nodes that are left, the first that casts comes next, in its wrapper, or else `Memory` in
--- its place; those behind it are left. Where no node is left that casts, nothing comes.
+-- Of the nodes that are left, the first that casts comes next, in its wrapper; those behind it are
+-- left. In its place one `Memory` may come, and then nothing is left. Where no node is left that
+-- casts, nothing comes.
 abbrev pub WrapsNext : {N : Type 0} → (Cursor → Bool) → (N → Cursor) → List Cursor
     → Option (Result N Fault) → List Cursor → Type 0
 WrapsNext casts node_of cs None ds = (filter casts cs ≡ []) × (ds ≡ [])
 WrapsNext casts node_of cs (Some (Ok x)) ds =
     (filter casts cs ≡ node_of x ∷ filter casts ds) × (length ds < length cs)
 WrapsNext casts node_of cs (Some (Err e)) ds =
-    (e ≡ Memory) × (c : Cursor) × (filter casts cs ≡ c ∷ filter casts ds) × (length ds < length cs)
+    (e ≡ Memory) × (0 < length (filter casts cs)) × (ds ≡ [])
 
 -- the children that are still to come of a borrowed list of wrappers, those too that do not cast
 abbrev pub rest_of_children : {N L : Type 0} → AstChildrenRef N L → List Cursor
-rest_of_children list = rest_of_nodes list.nodes
+rest_of_children list = if list.was_refused then [] else rest_of_nodes list.nodes
 
 -- whether it is a token with a raw kind of these
 abbrev pub is_token_of : (ℕ → Bool) → Element → Bool

@@ -6,11 +6,13 @@ use std::fmt;
 use std::marker::PhantomData;
 
 /// The children of a borrowed node that cast to a wrapper, from the first on. Each item shares the
-/// tree once more. Where that is refused, the item is `Err(Fault::Memory)`, and the iterator goes
-/// on with the next child.
+/// tree once more. Where that is refused, the item is `Err(Fault::Memory)`, and then the iterator
+/// ends.
 #[derive_where(Clone, Copy)]
 pub struct AstChildrenRef<'tree, N, L = <N as AstNode>::Language> {
     nodes: SyntaxNodeChildrenRef<'tree, L>,
+    // Whether an item was refused: then no more come.
+    was_refused: bool,
     wrapper: PhantomData<N>,
 }
 
@@ -25,6 +27,7 @@ impl<'tree, N: AstNode> AstChildrenRef<'tree, N> {
     {
         AstChildrenRef {
             nodes: parent.children(),
+            was_refused: false,
             wrapper: PhantomData,
         }
     }
@@ -43,11 +46,17 @@ impl<'tree, N: AstNode> Iterator for AstChildrenRef<'tree, N> {
     ghost remaining = { λ s. at_most (length (rest_of_children s)) };
 
     fn next(&mut self) -> Option<Result<N, Fault>> {
+        if self.was_refused {
+            return None;
+        }
         while let Some(node) = self.nodes.next() {
             if N::can_cast(node.kind()) {
                 return match node.to_owned() {
                     Ok(node) => Some(Ok(N::cast(node).unwrap())),
-                    Err(fault) => Some(Err(fault)),
+                    Err(fault) => {
+                        self.was_refused = true;
+                        Some(Err(fault))
+                    }
                 };
             }
         }

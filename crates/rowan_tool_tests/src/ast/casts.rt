@@ -57,6 +57,16 @@ fn a_clone_keeps_the_rest(rt: HostRuntime) -> Result<(), Fail> {
     Ok(())
 }
 
+#[test]
+fn a_borrowed_list_stays_at_its_end(rt: HostRuntime) -> Result<(), Fail> {
+    let root = root_of(rt.alloc(), &TREE)?;
+    let mut even = support::children_of::<EvenNode>(root.as_ref());
+    for is_there in [true, true, false, false] {
+        assert!(rt; even.next().is_some() == is_there);
+    }
+    Ok(())
+}
+
 /// The first child of an even kind.
 fn first_even(root: &Node) -> Result<EvenNode, Fault> {
     support::child(root)?.ok_or(Fault::NotFound)
