@@ -1,6 +1,6 @@
 //! Printed lines beside those of a plain printer, which pushes them piece by piece: for many texts,
-//! past ASCII too, on both sides of the lengths at which a text is cut. What is printed of text
-//! past ASCII, no contract says.
+//! past ASCII too, on both sides of the lengths at which a text is cut. The contract leaves open
+//! which characters past ASCII are printed as their codes.
 use itoa::Buffer;
 use rowan::{
     Fault, GreenNode, GreenNodeBuilder, Language, SyntaxKind, SyntaxNode, SyntaxToken, TextRange,
