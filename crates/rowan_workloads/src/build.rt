@@ -2,7 +2,7 @@
 ghost use Rattle.std.specs.Prelude.{◌<◌};
 
 use crate::digest::Digest;
-use crate::draws::Draws;
+use crate::draws::{Draws, Turns};
 use rowan::{Checkpoint, Fault, GreenNode, GreenNodeBuilder, NodeCache, SyntaxKind};
 use std::alloc::{AllocError, Global};
 
@@ -25,6 +25,9 @@ const FILE: SyntaxKind = SyntaxKind(7);
 /// How many names a program has.
 const NAMES: usize = 4_000;
 
+/// How many sizes trees have.
+const SIZES: u32 = 8;
+
 const OPERATORS: [&str; 6] = ["+", "-", "*", "/", "==", "<="];
 
 /// Builds so many trees of up to 10,000 statements. Every second one is built with the cache that these share.
@@ -37,19 +40,26 @@ pub fn run(
     let names = names(alloc, draws)?;
     let mut shared = NodeCache::new(alloc);
     let mut last: Option<GreenNode> = None;
+    let mut sizes = Turns::new(draws, SIZES);
+    let mut sizes_of_sharing = Turns::new(draws, SIZES);
     for round in 0..rounds {
-        let statements = 100 << draws.below(8);
         let tree = match round % 2 {
             0 => build(
                 alloc,
                 &mut NodeCache::new(alloc),
                 draws,
                 names.as_slice(),
-                statements,
+                sizes.next_size(100),
             )?,
-            _ => build(alloc, &mut shared, draws, names.as_slice(), statements)?,
+            _ => build(
+                alloc,
+                &mut shared,
+                draws,
+                names.as_slice(),
+                sizes_of_sharing.next_size(100),
+            )?,
         };
-        digest.add_size(tree.text_len());
+        digest.add_tree(alloc, &tree)?;
         last = Some(tree);
     }
     digest.add(shared.token_count() as u64);

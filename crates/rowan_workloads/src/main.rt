@@ -66,14 +66,14 @@ impl Job {
         }
     }
 
-    /// How many rounds take a second or more.
+    /// How many rounds take a second or more: with them each size of input comes equally often.
     fn rounds(self) -> usize {
         match self {
             Job::Parse => 300,
-            Job::Build => 250,
-            Job::Look => 80,
+            Job::Build => 256,
+            Job::Look => 84,
             Job::Edit => 90,
-            Job::Print => 150,
+            Job::Print => 153,
             Job::Extremes => 35,
         }
     }

@@ -1,12 +1,15 @@
 //! The program is run, over an input and an output in memory.
 use crate::digest::Digest;
 use crate::document::{self, Phrases};
-use crate::draws::Draws;
+use crate::draws::{Draws, Turns};
 use rowan::Fault;
 use rowan_tool::program;
 use std::alloc::Global;
 
-/// Prints so many texts, each in the three ways.
+/// How many sizes texts have.
+const SIZES: u32 = 9;
+
+/// Prints so many texts in each of the three ways.
 pub fn run(
     alloc: Global,
     draws: &mut Draws,
@@ -14,18 +17,27 @@ pub fn run(
     digest: &mut Digest,
 ) -> Result<(), Fault> {
     let phrases = Phrases::new(alloc, draws)?;
+    let mut trees = Turns::new(draws, SIZES);
+    let mut documents = Turns::new(draws, SIZES);
+    let mut numbers = Turns::new(draws, SIZES);
     for _ in 0..rounds {
-        for command in ["tree", "json", "eval"] {
-            let bytes = 1_000 << draws.below(9);
-            let text = document::text(alloc, draws, &phrases, bytes)?;
-            let args = vec![in alloc; String::from_str(alloc, command)?]?;
-            let mut unread = text.as_bytes();
-            let mut output = Vec::new(alloc);
-            match program::run(alloc, args.as_slice(), &mut unread, &mut output) {
-                Ok(()) => digest.add_text(output.as_slice()),
-                Err(stop) => digest.add(u64::from(stop.status())),
-            }
-        }
+        let text = document::text(alloc, draws, &phrases, trees.next_size(1_000))?;
+        print(alloc, "tree", text.as_str(), digest)?;
+        let text = document::text(alloc, draws, &phrases, documents.next_size(1_000))?;
+        print(alloc, "json", text.as_str(), digest)?;
+        let text = document::text(alloc, draws, &phrases, numbers.next_size(1_000))?;
+        print(alloc, "eval", text.as_str(), digest)?;
+    }
+    Ok(())
+}
+
+fn print(alloc: Global, command: &str, text: &str, digest: &mut Digest) -> Result<(), Fault> {
+    let args = vec![in alloc; String::from_str(alloc, command)?]?;
+    let mut unread = text.as_bytes();
+    let mut output = Vec::new(alloc);
+    match program::run(alloc, args.as_slice(), &mut unread, &mut output) {
+        Ok(()) => digest.add_text(output.as_slice()),
+        Err(stop) => digest.add(u64::from(stop.status())),
     }
     Ok(())
 }
