@@ -5,6 +5,7 @@ mod cursors;
 mod depth;
 mod draws;
 mod edits;
+mod growth;
 mod printed;
 mod reparse;
 mod timed;
@@ -32,11 +33,12 @@ usage: beside_rowan tree|json|eval
        beside_rowan edits replace|root|trace|cursors|green TURNS
        beside_rowan printed debug_tree|json|value TURNS
        beside_rowan reparse list|table|whole TURNS
+       beside_rowan growth CALL SHAPE SIZE TIMES
 
-The first line is what the program rowan does. The others do what rowan_bench does by the same words, and write the same lines,
-but for what rowan does not tell: a cache's counts and the comparisons of a search. There is no `search`: rowan keeps
-`child_at_range` of a green node to itself, and `reach` makes these searches by a cursor at the node. Those who want the green
-search alone make that function public in their copy of the sources.
+The first line is what the program rowan does, and the last what rowan_growth does. The others do what rowan_bench does by the
+same words, and write the same lines, but for what rowan does not tell: a cache's counts and the comparisons of a search. There
+is no `search`: rowan keeps `child_at_range` of a green node to itself, and `reach` makes these searches by a cursor at the node.
+Those who want the green search alone make that function public in their copy of the sources.
 
 `edits trace` keeps each token that was found and each new root, as the port's trace does, since rowan has no such call.
 `printed json` serializes the tree itself, by serde_json's `to_string`; `printed value` makes a value of the tree first, as the
@@ -61,6 +63,7 @@ pub fn run(words: &[&str]) -> Result<(), Failure> {
         "edits" => replace(words),
         "printed" => print(words),
         "reparse" => parse_anew(words),
+        "growth" => grow(words),
         _ => Err("there is no such command".into()),
     }
 }
@@ -72,6 +75,22 @@ fn word_at<'a>(words: &[&'a str], place: usize) -> &'a str {
 
 fn number_at(words: &[&str], place: usize) -> Result<usize, Failure> {
     word_at(words, place).parse().map_err(|_| "a number is missing".into())
+}
+
+/// Makes a call of rowan_growth so many times. A call that rowan has not is said by `none`.
+fn grow(words: &[&str]) -> Result<(), Failure> {
+    let (size, times) = (number_at(words, 3)?, number_at(words, 4)?);
+    let tree = growth::Tree::new(word_at(words, 2), size).ok_or("there is no such shape")?;
+    let mut sum = 0;
+    for _ in 0..times {
+        let Some(number) = tree.make(word_at(words, 1)) else {
+            println!("none");
+            return Ok(());
+        };
+        sum += number;
+    }
+    println!("{sum}");
+    Ok(())
 }
 
 fn read_input() -> Result<String, Failure> {
