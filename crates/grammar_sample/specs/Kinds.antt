@@ -69,6 +69,49 @@ kind_of n =
     if nat_lt n 32 then block_kind_0 n
     else block_kind_1 n
 
+-- the raw kind of a kind
+abbrev pub number_of : Kind → ℕ
+number_of Whitespace = 0
+number_of Newline = 1
+number_of Comment = 2
+number_of Name = 3
+number_of Text = 4
+number_of Integer = 5
+number_of Float = 6
+number_of Boolean = 7
+number_of Moment = 8
+number_of Equals = 9
+number_of Dot = 10
+number_of Comma = 11
+number_of LeftBracket = 12
+number_of RightBracket = 13
+number_of LeftBrace = 14
+number_of RightBrace = 15
+number_of LeftParen = 16
+number_of RightParen = 17
+number_of Unknown = 18
+number_of Error = 19
+number_of Document = 20
+number_of Table = 21
+number_of ArrayTable = 22
+number_of Header = 23
+number_of ArrayHeader = 24
+number_of Entry = 25
+number_of Key = 26
+number_of BareKey = 27
+number_of QuotedKey = 28
+number_of Note = 29
+number_of TextLiteral = 30
+number_of IntegerLiteral = 31
+number_of FloatLiteral = 32
+number_of BooleanLiteral = 33
+number_of MomentLiteral = 34
+number_of Array = 35
+number_of InlineTable = 36
+number_of Reference = 37
+number_of Call = 38
+number_of Arguments = 39
+
 -- how the kinds are called
 abbrev pub name_of : Kind → List ℕ
 name_of Whitespace = codes "WHITESPACE"

@@ -88,11 +88,13 @@ pub enum Kind {
 impl Language for Sample {
     type Kind = Kind;
 
-    ghost use Rattle.grammar_sample.specs.Kinds.{kind_of, name_of};
+    ghost use Rattle.grammar_sample.specs.Kinds.{kind_of, name_of, number_of};
 
     ghost meaning = { kind_of };
 
     ghost name = { name_of };
+
+    ghost code = { number_of };
 
     fn kind_from_raw(raw: SyntaxKind) -> Kind {
         if raw.0 < 32 {

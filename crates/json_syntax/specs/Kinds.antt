@@ -29,6 +29,27 @@ kind_of n =
     else (if n == 17 then Root
     else Error))))))))))))))))
 
+-- the raw kind of a kind
+abbrev pub number_of : Kind → ℕ
+number_of Whitespace = 0
+number_of Comment = 1
+number_of String = 2
+number_of Number = 3
+number_of Word = 4
+number_of LBrace = 5
+number_of RBrace = 6
+number_of LBracket = 7
+number_of RBracket = 8
+number_of Comma = 9
+number_of Colon = 10
+number_of Unknown = 11
+number_of Object = 12
+number_of Member = 13
+number_of Array = 14
+number_of Literal = 15
+number_of Error = 16
+number_of Root = 17
+
 -- how the kinds are called
 abbrev pub name_of : Kind → List ℕ
 name_of Whitespace = codes "WHITESPACE"

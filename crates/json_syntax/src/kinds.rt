@@ -32,11 +32,13 @@ pub enum Kind {
 impl Language for Json {
     type Kind = Kind;
 
-    ghost use Rattle.json_syntax.specs.Kinds.{kind_of, name_of};
+    ghost use Rattle.json_syntax.specs.Kinds.{kind_of, name_of, number_of};
 
     ghost meaning = { kind_of };
 
     ghost name = { name_of };
+
+    ghost code = { number_of };
 
     fn kind_from_raw(raw: SyntaxKind) -> Kind {
         match raw.0 {

@@ -74,6 +74,8 @@ impl Language for Raw {
 
     ghost name = { λ _. codes "KIND" };
 
+    ghost code = { λ kind. kind };
+
     fn kind_from_raw(raw: SyntaxKind) -> u16 {
         raw.0
     }

@@ -24,11 +24,13 @@ const LANGUAGE: &str = "\
 impl Language for $1 {
     type Kind = Kind;
 
-    ghost use Rattle.$0.specs.Kinds.{kind_of, name_of};
+    ghost use Rattle.$0.specs.Kinds.{kind_of, name_of, number_of};
 
     ghost meaning = { kind_of };
 
     ghost name = { name_of };
+
+    ghost code = { number_of };
 
     fn kind_from_raw(raw: SyntaxKind) -> Kind {
 ";
@@ -215,7 +217,12 @@ pub fn kinds_specs(scope: &Scope<'_>) -> Result<String, AllocError> {
     } else {
         add_chain(&mut out, scope, 0)?;
     }
-    out.push_str("-- how the kinds are called\nabbrev pub name_of : Kind → List ℕ\n")?;
+    out.push_str("-- the raw kind of a kind\nabbrev pub number_of : Kind → ℕ\n")?;
+    for (number, index) in scope.kinds.iter().enumerate() {
+        let name = scope.grammar.name(*index);
+        writeln!(out, "number_of {name} = {number}")?;
+    }
+    out.push_str("\n-- how the kinds are called\nabbrev pub name_of : Kind → List ℕ\n")?;
     for index in scope.kinds.iter() {
         let name = scope.grammar.name(*index);
         let shown = upper(scope.alloc, scope.grammar.snake(*index))?;

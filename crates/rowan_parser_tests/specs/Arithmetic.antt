@@ -23,6 +23,21 @@ kind_of n =
     else (if n == 11 then Root
     else Error))))))))))
 
+-- the raw kind of a kind
+abbrev pub number_of : Kind → ℕ
+number_of Space = 0
+number_of Number = 1
+number_of Plus = 2
+number_of Star = 3
+number_of Open = 4
+number_of Close = 5
+number_of Error = 6
+number_of Literal = 7
+number_of Group = 8
+number_of Product = 9
+number_of Sum = 10
+number_of Root = 11
+
 -- how the kinds are called
 abbrev pub name_of : Kind → List ℕ
 name_of Space = codes "SPACE"

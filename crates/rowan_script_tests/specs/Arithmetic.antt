@@ -15,6 +15,17 @@ kind_of n =
     else (if n == 7 then Root
     else Error))))))
 
+-- the raw kind of a kind
+abbrev pub number_of : Kind → ℕ
+number_of Space = 0
+number_of Number = 1
+number_of Sign = 2
+number_of Error = 3
+number_of Group = 4
+number_of Product = 5
+number_of Sum = 6
+number_of Root = 7
+
 -- how the kinds are called
 abbrev pub name_of : Kind → List ℕ
 name_of Space = codes "SPACE"

@@ -26,6 +26,8 @@ impl Language for Groups {
 
     ghost name = { elim [ Group ↦ codes "GROUP" | Leaf ↦ codes "LEAF" ] };
 
+    ghost code = { elim [ Group ↦ 0 | Leaf ↦ 1 ] };
+
     fn kind_from_raw(raw: SyntaxKind) -> Kind {
         match raw.0 {
             0 => Kind::Group,
@@ -145,6 +147,8 @@ impl Language for Numbers {
     ghost meaning = { λ raw. if raw % 2 == 0 then Even else Odd };
 
     ghost name = { elim [ Even ↦ codes "EVEN" | Odd ↦ codes "ODD" ] };
+
+    ghost code = { elim [ Even ↦ 0 | Odd ↦ 1 ] };
 
     fn kind_from_raw(raw: SyntaxKind) -> Parity {
         if raw.0 % 2 == 0 {

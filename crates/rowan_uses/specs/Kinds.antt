@@ -9,6 +9,11 @@ use denote.Enum.Bare.{same_true, sameb}
 abbrev pub kind_of : ℕ → Kind
 kind_of raw = if raw == 0 then AList else Word
 
+-- the raw kind of a kind
+abbrev pub number_of : Kind → ℕ
+number_of AList = 0
+number_of Word = 1
+
 -- how the kinds are called
 abbrev pub name_of : Kind → List ℕ
 name_of AList = codes "LIST"

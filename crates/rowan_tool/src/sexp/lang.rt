@@ -40,13 +40,15 @@ impl SyntaxKind {
 pub struct Lang;
 
 impl Language for Lang {
-    ghost use Rattle.rowan_tool.specs.Sexp.{kind_of, name_of};
+    ghost use Rattle.rowan_tool.specs.Sexp.{kind_of, name_of, number_of};
 
     type Kind = SyntaxKind;
 
     ghost meaning = { kind_of };
 
     ghost name = { name_of };
+
+    ghost code = { number_of };
 
     /// The kind of a number, and `ERROR` for a number that no kind has.
     fn kind_from_raw(raw: green::SyntaxKind) -> SyntaxKind {
