@@ -1,9 +1,9 @@
 //! The grammar of JSON.
 use crate::kinds::{Json, Kind};
-use rowan_parser::Parser;
+use rowan_parser::{Parser, TokenSet, token_set};
 
 /// The tokens at which an element of an array or an object ends.
-const ENDS: [Kind; 3] = [Kind::Comma, Kind::RBracket, Kind::RBrace];
+const ENDS: TokenSet = token_set![Kind::Comma, Kind::RBracket, Kind::RBrace];
 
 /// A value, and nothing behind it.
 pub fn document(p: &mut Parser<Json>, depth: usize) {
@@ -46,9 +46,9 @@ fn list(p: &mut Parser<Json>, depth: usize, kind: Kind, close: Kind, message: &s
             _ if kind == Kind::Object => member(p, depth),
             _ => value(p, depth),
         }
-        if !p.at_end() && !p.at_any(&ENDS) {
+        if !p.at_end() && !p.at_any(ENDS) {
             p.error(message);
-            p.recover_until(&ENDS, Kind::Error);
+            p.recover_until(ENDS, Kind::Error);
         }
         p.eat(Kind::Comma);
     }

@@ -8,7 +8,7 @@ mod lexer;
 ghost use Rattle.std.specs.Prelude.{◌≡◌, ◌<◌, length, IfOk, IfErr};
 ghost use Rattle.rowan.specs.Fits.{byte_limit};
 ghost use Rattle.rowan.specs.Term.{node_text};
-ghost use Rattle.rowan_parser.specs.Building.{WhyNoTree};
+ghost use Rattle.rowan_parser.specs.Parsing.{WhyNoTree};
 
 pub use kinds::{Json, Kind};
 pub use lexer::next_token;

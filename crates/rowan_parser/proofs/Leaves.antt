@@ -1,54 +1,204 @@
--- Leaves that are tokens of a lexer, but for the kinds of some.
-use Rattle.std.proofs.Common.{◌≡◌, ℕ, ◌<◌, List, [], ◌∷◌, ◌++◌, map, length, refl, sym, ◌∙◌, ap, subst}
-use Rattle.rowan_green.specs.declared.fault.Fault.{Fault}
-use Rattle.rowan_green.specs.declared.fault.Fault.TheVariants.{TextTooLong, TooManyChildren, CheckpointPast, CheckpointBefore, NothingOpen, NotOneElement, NotANode, OtherKind, NotFound, Memory, UnknownMark, NotOneList}
-use Rattle.rowan_green.specs.Fits.{byte_limit}
-use Rattle.rowan_green.specs.Term.{TokenTerm}
+-- The leaves of what events spell have the text of the tokens, and where none are joined they are
+-- the tokens.
+use Rattle.std.proofs.Common.{◌≡◌, ℕ, zero, suc, Bool, true, false, cond, List, [], ◌∷◌, ◌++◌, take, drop, refl, sym, ◌∙◌, ap, subst, append_assoc, append-nil}
+use Rattle.std.specs.Prelude.{take_while, ⊤}
+use Rattle.std.proofs.lemmas.List.{map-append, take-append-drop}
+use Rattle.std.proofs.lemmas.List.Sums.{take_while-cons}
+use Rattle.rowan_green.proofs.LeafLaws.{word_tokens-append}
+use Rattle.rowan_green.proofs.Words.{word_text-append}
+use Rattle.rowan_green.specs.Word.{Symbol, Open, Close, word_text, word_tokens}
+use Rattle.rowan_parser.specs.Events.{is_trivia, stays_outside, past, up_to, behind, leaves, one_leaf, opening, closings, spelled_by, tree_word, join_some}
+use Rattle.rowan_parser.specs.Shape.{Step, Enter, Take, TakeAs, Exit, around, enters, steps}
+use Rattle.rowan_parser.specs.Tokens.{token_term, token_terms, tokens_text}
+use Rattle.rowan_parser.specs.declared.event.Event.{Event}
+use Rattle.rowan_parser.specs.declared.event.Event.TheVariants as event
 use Rattle.rowan_parser.specs.declared.lexer.Token.{Token}
-use Rattle.rowan_parser.specs.Building.{WhyRefused, WhyNoTree}
-use Rattle.rowan_parser.specs.Tokens.{tokens_text, token_terms, texts_of, leaf_texts, with_kinds}
-use Rattle.rowan_parser.specs.declared.parsed.Renamed.{Renamed}
-use Rattle.rowan_parser.proofs.Ranges.{with_kinds-texts}
+use Rattle.rowan_parser.specs.declared.tree.Trivia.{Trivia}
+use Rattle.rowan_parser.proofs.Joining.{up_to-behind}
+use Rattle.rowan_parser.proofs.Spelling.{past-both, outside-trivia}
+use Rattle.rowan_parser.proofs.Steps.{tokens_text-append}
 
-abbrev joined : List (List ℕ) → List ℕ
-joined [] = []
-joined (bs ∷ texts) = bs ++ joined texts
+-- what is read of a word and of tokens, each leaf by itself
+record Reads {A : Type 0} (h : List Symbol → List A) (g : List Token → List A) : Type 0 where
+  both : (v w : List Symbol) → h (v ++ w) ≡ h v ++ h w
+  nothing : h [] ≡ []
+  opens : (k : ℕ) (w : List Symbol) → h (Open k ∷ w) ≡ h w
+  closes : (w : List Symbol) → h (Close ∷ w) ≡ h w
+  behind_others : (ts us : List Token) → g (ts ++ us) ≡ g ts ++ g us
+  of_leaves : (ts : List Token) → h (leaves ts) ≡ g ts
 
-text-joined : (ts : List Token) → tokens_text ts ≡ joined (texts_of ts)
-text-joined [] = refl
-text-joined (t ∷ ts) = ap (λ bs. t.text.now ++ bs) (text-joined ts)
+-- what is read of the leaves that are joined is what is read of their tokens
+abbrev CanJoin : {A : Type 0} → (List Symbol → List A) → (List Token → List A) → List Step → Type 0
+CanJoin h g [] = ⊤
+CanJoin h g (Enter kind ∷ ss) = CanJoin h g ss
+CanJoin h g (Take ∷ ss) = CanJoin h g ss
+CanJoin h g (TakeAs kind n ∷ ss) =
+    ((ts : List Token) → h (one_leaf kind ts) ≡ g ts) × CanJoin h g ss
+CanJoin h g (Exit ∷ ss) = CanJoin h g ss
 
--- tokens with the same texts have the same text
-pub same-text : (ts us : List Token) → texts_of ts ≡ texts_of us → tokens_text ts ≡ tokens_text us
-same-text ts us e = text-joined ts ∙ ap joined e ∙ sym (text-joined us)
-
-texts-terms : (ts : List Token) → map (λ (leaf : TokenTerm). leaf.text) (token_terms ts) ≡ texts_of
-    ts
-texts-terms [] = refl
-texts-terms (t ∷ ts) = ap (λ texts. t.text.now ∷ texts) (texts-terms ts)
-
--- the leaves have the texts of the tokens, whatever their kinds
-pub leaf-texts : (renames : List Renamed) (lexed renamed : List Token) (leaves : List TokenTerm) →
-    leaves ≡ token_terms renamed → renamed ≡ with_kinds renames lexed → leaf_texts leaves ≡ texts_of
-    lexed
-leaf-texts renames lexed renamed leaves are is = ap leaf_texts are ∙ texts-terms renamed ∙ ap
-    texts_of is ∙ with_kinds-texts renames lexed
-
--- why tokens have no tree is why their text has none
-pub text-refused : (ts : List Token) (text : List ℕ) (f : Fault) → tokens_text ts ≡ text →
-    WhyRefused ts f → WhyNoTree text f
-text-refused ts text f e why = refused f why
+taken-past : (p : Token → Bool) (ts : List Token) → take_while p ts ++ past p ts ≡ ts
+taken-past p [] = refl
+taken-past p (t ∷ ts) =
+    ap (λ us. us ++ past p (t ∷ ts)) (take_while-cons p t ts) ∙ by (p t) (taken-past p ts)
   where
-    refused : (g : Fault) → WhyRefused ts g → WhyNoTree text g
-    refused TextTooLong k = subst (λ bs. byte_limit < length bs) e k
-    refused TooManyChildren k = record { tokens = ts; joined = e; too_many = k }
-    refused Memory k = tt
-    refused CheckpointPast k = k
-    refused CheckpointBefore k = k
-    refused NothingOpen k = k
-    refused NotOneElement k = k
-    refused NotANode k = k
-    refused OtherKind k = k
-    refused NotFound k = k
-    refused UnknownMark k = k
-    refused NotOneList k = k
+    by : (b : Bool) → take_while p ts ++ past p ts ≡ ts
+        → cond b (t ∷ take_while p ts) [] ++ cond b (past p ts) (t ∷ ts) ≡ t ∷ ts
+    by true rest = ap (λ (us : List Token). t ∷ us) rest
+    by false rest = refl
+
+read-both : {A : Type 0} (h : List Symbol → List A) (g : List Token → List A) → Reads h g
+    → (v w : List Symbol) (ts us all : List Token) → h v ≡ g ts → h w ≡ g us → ts ++ us ≡ all
+    → h (v ++ w) ≡ g all
+read-both h g r v w ts us all first rest parts =
+    r.both v w
+    ∙ ap (λ xs. xs ++ h w) first
+    ∙ ap (λ xs. g ts ++ xs) rest
+    ∙ sym (r.behind_others ts us)
+    ∙ ap g parts
+
+closings-read : {A : Type 0} (h : List Symbol → List A) (g : List Token → List A) → Reads h g
+    → (n : ℕ) → h (closings n) ≡ []
+closings-read h g r zero = r.nothing
+closings-read h g r (suc n) = r.closes (closings n) ∙ closings-read h g r n
+
+opening-read : {A : Type 0} (h : List Symbol → List A) (g : List Token → List A) → Reads h g
+    → (trivia : Trivia) (kind : ℕ) (ts : List Token) → h (opening trivia kind ts)
+    ≡ g (take_while (stays_outside trivia kind) ts
+    ++ take_while (is_trivia trivia) (past (stays_outside trivia kind) ts))
+opening-read h g r trivia kind ts =
+    let outside = take_while (stays_outside trivia kind) ts in
+    let inside = take_while (is_trivia trivia) (past (stays_outside trivia kind) ts) in
+    read-both h g r (leaves outside) (Open kind ∷ leaves inside) outside inside (outside ++ inside)
+    (r.of_leaves outside) (r.opens kind (leaves inside) ∙ r.of_leaves inside) refl
+
+opening-parts : (trivia : Trivia) (kind : ℕ) (ts : List Token)
+    → (take_while (stays_outside trivia kind) ts
+    ++ take_while (is_trivia trivia) (past (stays_outside trivia kind) ts))
+    ++ past (is_trivia trivia) ts ≡ ts
+opening-parts trivia kind ts =
+    let stays = stays_outside trivia kind in
+    let outside = take_while stays ts in
+    let inside = take_while (is_trivia trivia) (past stays ts) in
+    append_assoc outside inside (past (is_trivia trivia) ts)
+    ∙ ap (λ us. outside ++ (inside ++ us))
+    (sym (past-both (is_trivia trivia) stays ts (outside-trivia trivia kind)))
+    ∙ ap (λ us. outside ++ us) (taken-past (is_trivia trivia) (past stays ts))
+    ∙ taken-past stays ts
+
+spelled-read : {A : Type 0} (h : List Symbol → List A) (g : List Token → List A) → Reads h g
+    → (trivia : Trivia) (n : ℕ) (ss : List Step) (ts : List Token) → CanJoin h g ss
+    → h (spelled_by trivia n ss ts) ≡ g ts
+spelled-read h g r trivia n [] ts can =
+    r.both (closings n) (leaves ts)
+    ∙ ap (λ xs. xs ++ h (leaves ts)) (closings-read h g r n)
+    ∙ r.of_leaves ts
+spelled-read h g r trivia n (Enter kind ∷ ss) ts can =
+    let left = past (is_trivia trivia) ts in
+    read-both h g r (opening trivia kind ts) (spelled_by trivia (suc n) ss left) _ left ts
+    (opening-read h g r trivia kind ts) (spelled-read h g r trivia (suc n) ss left can)
+    (opening-parts trivia kind ts)
+spelled-read h g r trivia n (Take ∷ ss) ts can =
+    let before = take_while (is_trivia trivia) ts in
+    let left = past (is_trivia trivia) ts in
+    let rest = spelled_by trivia n ss (drop 1 left) in
+    read-both h g r (leaves before) (leaves (take 1 left) ++ rest) before left ts
+    (r.of_leaves before)
+    (read-both h g r (leaves (take 1 left)) rest (take 1 left) (drop 1 left) left
+    (r.of_leaves (take 1 left)) (spelled-read h g r trivia n ss (drop 1 left) can)
+    (take-append-drop 1 left))
+    (taken-past (is_trivia trivia) ts)
+spelled-read h g r trivia n (TakeAs kind count ∷ ss) ts can =
+    let before = take_while (is_trivia trivia) ts in
+    let left = past (is_trivia trivia) ts in
+    let us = up_to trivia count left in
+    let rest = spelled_by trivia n ss (behind trivia count left) in
+    read-both h g r (leaves before) (one_leaf kind us ++ rest) before left ts
+    (r.of_leaves before)
+    (read-both h g r (one_leaf kind us) rest us (behind trivia count left) left
+    (can.0 us) (spelled-read h g r trivia n ss (behind trivia count left) can.1)
+    (up_to-behind trivia count left))
+    (taken-past (is_trivia trivia) ts)
+spelled-read h g r trivia zero (Exit ∷ ss) ts can = spelled-read h g r trivia zero ss ts can
+spelled-read h g r trivia (suc n) (Exit ∷ ss) ts can =
+    r.closes (spelled_by trivia n ss ts) ∙ spelled-read h g r trivia n ss ts can
+
+tree-read : {A : Type 0} (h : List Symbol → List A) (g : List Token → List A) → Reads h g
+    → (root : ℕ) (trivia : Trivia) (ts : List Token) (es : List Event) → CanJoin h g (steps es)
+    → h (tree_word root trivia ts es) ≡ g ts
+tree-read h g r root trivia ts es can =
+    let w = spelled_by trivia 0 (steps es) ts in
+    r.opens root (w ++ Close ∷ [])
+    ∙ r.both w (Close ∷ [])
+    ∙ ap (λ xs. h w ++ xs) (r.closes [] ∙ r.nothing)
+    ∙ append-nil (h w)
+    ∙ spelled-read h g r trivia 0 (steps es) ts can
+
+-- ---- the text
+
+leaves-text : (ts : List Token) → word_text (leaves ts) ≡ tokens_text ts
+leaves-text [] = refl
+leaves-text (t ∷ ts) = ap (λ bs. t.text.now ++ bs) (leaves-text ts)
+
+one_leaf-text : (kind : ℕ) (ts : List Token) → word_text (one_leaf kind ts) ≡ tokens_text ts
+one_leaf-text kind [] = refl
+one_leaf-text kind (t ∷ ts) = append-nil (tokens_text (t ∷ ts))
+
+reads-text : Reads word_text tokens_text
+reads-text = record {
+  both = word_text-append;
+  nothing = refl;
+  opens = λ k w. refl;
+  closes = λ w. refl;
+  behind_others = tokens_text-append;
+  of_leaves = leaves-text;
+}
+
+can-text : (ss : List Step) → CanJoin word_text tokens_text ss
+can-text [] = tt
+can-text (Enter kind ∷ ss) = can-text ss
+can-text (Take ∷ ss) = can-text ss
+can-text (TakeAs kind n ∷ ss) = (one_leaf-text kind, can-text ss)
+can-text (Exit ∷ ss) = can-text ss
+
+pub tree-text : (root : ℕ) (trivia : Trivia) (ts : List Token) (es : List Event) → word_text
+    (tree_word root trivia ts es) ≡ tokens_text ts
+tree-text root trivia ts es = tree-read word_text tokens_text reads-text root trivia ts es
+    (can-text (steps es))
+
+-- ---- the tokens
+
+leaves-tokens : (ts : List Token) → word_tokens (leaves ts) ≡ token_terms ts
+leaves-tokens [] = refl
+leaves-tokens (t ∷ ts) = ap (λ us. token_term t ∷ us) (leaves-tokens ts)
+
+reads-tokens : Reads word_tokens token_terms
+reads-tokens = record {
+  both = word_tokens-append;
+  nothing = refl;
+  opens = λ k w. refl;
+  closes = λ w. refl;
+  behind_others = map-append token_term;
+  of_leaves = leaves-tokens;
+}
+
+can-enter : (ks : List ℕ) (ss : List Step) → CanJoin word_tokens token_terms ss → CanJoin word_tokens
+    token_terms (enters ks ++ ss)
+can-enter [] ss can = can
+can-enter (k ∷ ks) ss can =
+    subst (CanJoin word_tokens token_terms) (sym (append_assoc (enters ks) (Enter k ∷ []) ss))
+    (can-enter ks (Enter k ∷ ss) can)
+
+can-tokens : (es : List Event) → join_some es ≡ false → CanJoin word_tokens token_terms (steps es)
+can-tokens [] none = tt
+can-tokens (event.Open kind outer ∷ es) none =
+    can-enter (around outer es) (Enter kind.0 ∷ steps es) (can-tokens es none)
+can-tokens (event.Around kind outer ∷ es) none = can-tokens es none
+can-tokens (event.Close ∷ es) none = can-tokens es none
+can-tokens (event.Token ∷ es) none = can-tokens es none
+can-tokens (event.Joined kind count ∷ es) none = absurd cc
+can-tokens (event.Nothing ∷ es) none = can-tokens es none
+
+pub tree-tokens : (root : ℕ) (trivia : Trivia) (ts : List Token) (es : List Event) → join_some es ≡
+    false → word_tokens (tree_word root trivia ts es) ≡ token_terms ts
+tree-tokens root trivia ts es none = tree-read word_tokens token_terms reads-tokens root trivia ts
+    es (can-tokens es none)

@@ -1,30 +1,22 @@
 -- One more token of a text.
-use Rattle.std.proofs.Common.{◌≡◌, ℕ, ◌<◌, ◌≤◌, List, [], ◌∷◌, ◌++◌, length, max, refl, sym, ◌∙◌, ap, subst, arith, append_assoc}
-use Rattle.std.specs.Str.{IsCharBoundary}
+use Rattle.std.proofs.Common.{◌≡◌, ℕ, List, [], ◌∷◌, ◌++◌, length, max, refl, sym, ◌∙◌, ap, subst, arith, append_assoc}
 use Rattle.rowan_green.specs.declared.green.SyntaxKind.{SyntaxKind}
 use Rattle.rowan_parser.specs.declared.lexer.Token.{Token}
-use Rattle.rowan_parser.specs.Tokens.{tokens_text, IsSaid, AreSaid}
-
-said_cut : (len cut all : ℕ) → len ≤ all → (len ≤ all → len ≤ cut) → (len < cut → ⊥) → cut ≡ len
-said_cut len cut all h bound less = omega (arith, bound h, less)
+use Rattle.rowan_parser.specs.Tokens.{tokens_text, IsNextEnd, IsSaid, AreSaid}
 
 pub token_said : {X : Type 0} (says : X → List ℕ → SyntaxKind × ℕ → X → Type 0) (lexer later : X)
     (rest : List ℕ) (r : SyntaxKind × ℕ) (asked cut : ℕ) (token : Token)
     → says lexer rest r later
     → token.kind ≡ r.0
     → asked ≡ max r.1 1
-    → (asked ≤ length rest → asked ≤ cut)
-    → ((i : ℕ) → asked ≤ i → i < cut → IsCharBoundary rest i → ⊥)
+    → IsNextEnd rest asked cut
     → length token.text.now ≡ cut
     → IsSaid says lexer rest token later
-token_said says lexer later rest r asked cut token said same e bound nearest fits = record {
+token_said says lexer later rest r asked cut token said same e ends fits = record {
   len = r.1;
   said = subst (λ k. says lexer rest (k, r.1) later) (sym same) said;
-  cut = λ some border.
-      let same : asked ≡ r.1 = omega arith in
-      fits ∙ said_cut r.1 cut (length rest) border.0 (λ h. subst (λ n. n ≤ cut) same
-      (bound (subst (λ n. n ≤ length rest) (sym same) h)))
-      (λ less. nearest r.1 (omega arith) less border);
+  cut = subst (λ end. IsNextEnd rest (max r.1 1) end) (sym fits)
+      (subst (λ place. IsNextEnd rest place cut) e ends);
 }
 
 -- the tokens with one more, before those of what is then left

@@ -1,136 +1,154 @@
--- Where tokens stand in their text.
-use Rattle.std.proofs.Common.{◌≡◌, ℕ, zero, suc, ◌+◌, ◌<◌, ◌≤◌, List, [], ◌∷◌, ◌++◌, map, length, get_or, drop, refl, sym, ◌∙◌, ap, ap₂, subst, inl, inr, arith, append_assoc, length-append}
-use Rattle.std.proofs.Math.ListN.{drop_of_length-le}
-use Rattle.std.proofs.lemmas.List.{map-append, drop_more}
-use Rattle.std.specs.Borrow.{Bor}
-use Rattle.std.specs.Prelude.{slice_set}
+-- Where the tokens that are no trivia stand in their text.
+use Rattle.std.proofs.Common.{◌≡◌, ℕ, zero, suc, ◌+◌, ◌-◌, Bool, true, false, cond, List, [], ◌∷◌, ◌++◌, map, length, get_or, min, sym, ◌∙◌, ap, ap₂, arith, append_assoc, append-nil, length-append}
+use Rattle.std.specs.Prelude.{string_bytes}
+use Rattle.std.proofs.lemmas.List.{map-append}
 use Rattle.rowan_green.specs.Span.{Span}
-use Rattle.rowan_green.specs.declared.green.SyntaxKind.{SyntaxKind}
+use Rattle.rowan_parser.specs.Events.{is_trivia}
+use Rattle.rowan_parser.specs.Parsing.{Error, error_value, error_of, ranges_from, range_of, end_of}
+use Rattle.rowan_parser.specs.Tokens.{tokens_text}
+use Rattle.rowan_parser.specs.Told.{Told}
 use Rattle.rowan_parser.specs.declared.lexer.Token.{Token}
-use Rattle.rowan_parser.specs.Tokens.{tokens_text, texts_of, total_len, with_kind, with_kinds, IsErrorRange}
-use Rattle.rowan_parser.specs.declared.parsed.Renamed.{Renamed}
+use Rattle.rowan_parser.specs.declared.parsed.SyntaxError.{SyntaxError}
+use Rattle.rowan_parser.specs.declared.tree.Trivia.{Trivia}
 
-total-append : (xs ys : List (List ℕ)) → total_len (xs ++ ys) ≡ total_len xs + total_len ys
-total-append [] ys = omega arith
-total-append (x ∷ xs) ys = omega (arith, total-append xs ys)
+abbrev pub span : ℕ → ℕ → Span
+span start end = record { start = start; end = end }
 
-total-text : (ts : List Token) → total_len (texts_of ts) ≡ length (tokens_text ts)
-total-text [] = refl
-total-text (t ∷ ts) = omega (arith, total-text ts, length-append t.text.now (tokens_text ts))
+-- one token on
+pub ranges_more : (trivia : Trivia) (tokens rest others : List Token) (start next : ℕ) (t : Token)
+    (range : Span) (b : Bool) (old new : List Span)
+    → rest ≡ t ∷ others
+    → next ≡ start + length t.text.now
+    → range ≡ record { start = start; end = next }
+    → b ≡ is_trivia trivia t
+    → new ≡ old ++ cond b [] (range ∷ [])
+    → old ++ ranges_from start trivia rest ≡ ranges_from 0 trivia tokens
+    → new ++ ranges_from next trivia others ≡ ranges_from 0 trivia tokens
+ranges_more trivia tokens rest others start next t range b old new first e is kind pushed so_far =
+    by b kind pushed
+  where
+    here : Bool → List Span
+    here c = cond c (ranges_from (start + length t.text.now) trivia others)
+        (record { start = start; end = start + length t.text.now }
+        ∷ ranges_from (start + length t.text.now) trivia others)
 
--- the first tokens were read, up to this offset
-pub record IsReading (ts : List Token) (start : ℕ) (rest : List Token) : Type 0 where
-  pub done : List Token
-  pub parts : ts ≡ done ++ rest
-  pub at : start ≡ total_len (texts_of done)
+    same : ranges_from next trivia others ≡ ranges_from (start + length t.text.now) trivia others
+    same = ap (λ n. ranges_from n trivia others) e
 
-pub IsReading-begins : (ts : List Token) → IsReading ts 0 ts
-IsReading-begins ts = record { done = []; parts = refl; at = refl }
+    before : old ++ here (is_trivia trivia t) ≡ ranges_from 0 trivia tokens
+    before = ap (λ us. old ++ ranges_from start trivia us) (sym first) ∙ so_far
 
-pub IsReading-more : (ts rest others : List Token) (start end : ℕ) (t : Token) → rest ≡ t ∷ others →
-    end ≡ start + length t.text.now → IsReading ts start rest → IsReading ts end others
-IsReading-more ts rest others start end t first e h = record {
-  done = h.done ++ t ∷ [];
-  parts = h.parts ∙ ap (λ us. h.done ++ us) first ∙ sym (append_assoc h.done (t ∷ []) others);
-  at = omega (
-    arith,
-    e,
-    h.at,
-    ap total_len (map-append (λ (u : Token). u.text.now) h.done (t ∷ [])),
-    total-append (texts_of h.done) (t.text.now ∷ []),
-  );
-}
+    by : (c : Bool) → c ≡ is_trivia trivia t → new ≡ old ++ cond c [] (range ∷ []) → new ++
+        ranges_from next trivia others ≡ ranges_from 0 trivia tokens
+    by true kind pushed =
+        ap (λ s. s ++ ranges_from next trivia others) (pushed ∙ append-nil old)
+        ∙ ap (λ s. old ++ s) same
+        ∙ ap (λ c. old ++ here c) kind
+        ∙ before
+    by false kind pushed =
+        ap (λ s. s ++ ranges_from next trivia others) pushed
+        ∙ append_assoc old (range ∷ []) (ranges_from next trivia others)
+        ∙ ap (λ s. old ++ range ∷ s) same
+        ∙ ap (λ (r : Span). old ++ r ∷ ranges_from (start + length t.text.now) trivia others)
+        (is ∙ ap (λ n. record { start = start; end = n }) e)
+        ∙ ap (λ c. old ++ here c) kind
+        ∙ before
 
--- the next token ends within the text
-pub IsReading-fits : (ts rest others : List Token) (start : ℕ) (t : Token) → rest ≡ t ∷ others →
-    IsReading ts start rest → start + length t.text.now ≤ length (tokens_text ts)
-IsReading-fits ts rest others start t first h =
+-- behind the last token
+pub ranges_end : (trivia : Trivia) (tokens rest : List Token) (start : ℕ) (range : Span)
+    (old new : List Span)
+    → length rest ≡ 0
+    → start + length (tokens_text rest) ≡ length (tokens_text tokens)
+    → range ≡ record { start = start; end = start }
+    → new ≡ old ++ range ∷ []
+    → old ++ ranges_from start trivia rest ≡ ranges_from 0 trivia tokens
+    → new ≡ ranges_from 0 trivia tokens ++ end_of tokens ∷ []
+ranges_end trivia tokens (t ∷ rest) start range old new none all is pushed so_far =
+    absurd (omega (arith, none))
+ranges_end trivia tokens [] start range old new none all is pushed so_far =
+    let at : start ≡ length (tokens_text tokens) = omega (arith, all) in
+    pushed
+    ∙ ap (λ (r : Span). old ++ r ∷ []) (is ∙ ap (λ n. record { start = n; end = n }) at)
+    ∙ ap (λ (s : List Span). s ++ end_of tokens ∷ []) (sym (append-nil old) ∙ so_far)
+
+pub left_more : (rest others : List Token) (t : Token) (start all : ℕ) → rest ≡ t ∷ others → start +
+    length (tokens_text rest) ≡ all → (start + length t.text.now) + length (tokens_text others) ≡ all
+left_more rest others t start all first e =
     omega (
       arith,
-      h.at,
-      total-text ts,
-      ap total_len (ap texts_of (h.parts ∙ ap (λ us. h.done ++ us) first) ∙ map-append
-          (λ (u : Token). u.text.now) h.done (t ∷ others)),
-      total-append (texts_of h.done) (t.text.now ∷ texts_of others),
+      e,
+      ap (λ us. length (tokens_text us)) first,
+      length-append t.text.now (tokens_text others),
     )
 
-pub range-of-one : (ts rest others : List Token) (start end : ℕ) (t : Token) (range : Span) → rest ≡
-    t ∷ others → end ≡ start + length t.text.now → range.start ≡ start → range.end ≡ end → IsReading
-    ts start rest → IsErrorRange (texts_of ts) range
-range-of-one ts rest others start end t range first e from to h = inl (record {
-  before = texts_of h.done;
-  text = t.text.now;
-  after = texts_of others;
-  parts = ap texts_of (h.parts ∙ ap (λ us. h.done ++ us) first) ∙ map-append
-      (λ (u : Token). u.text.now) h.done (t ∷ others);
-  start = from ∙ h.at;
-  end = omega (arith, to, e, h.at);
-})
+-- ---- one of the ranges
 
-pub range-at-end : (ts : List Token) (start : ℕ) (range : Span) → range.start ≡ start → range.end ≡
-    start → IsReading ts start [] → IsErrorRange (texts_of ts) range
-range-at-end ts start range from to h =
-    let all : total_len (texts_of ts) ≡ start = omega (
-      arith,
-      h.at,
-      ap total_len
-          (ap texts_of h.parts ∙ map-append (λ (u : Token). u.text.now) h.done []),
-      total-append
-          (texts_of h.done) [],
-    ) in
-    inr (record { start = from ∙ sym all; end = to ∙ sym all })
+range-among : (ranges : List Span) (end d : Span) (n : ℕ) → get_or (ranges ++ end ∷ [])
+    (min n (length ranges)) d ≡ get_or ranges n end
+range-among [] end d n =
+    let e : min n (length {A = Span} []) ≡ 0 = omega arith in
+    ap (λ k. get_or (end ∷ []) k d) e
+range-among (r ∷ ranges) end d zero =
+    let e : min zero (length (r ∷ ranges)) ≡ 0 = omega arith in
+    ap (λ k. get_or (r ∷ (ranges ++ end ∷ [])) k d) e
+range-among (r ∷ ranges) end d (suc n) =
+    let e : min (suc n) (length (r ∷ ranges)) ≡ suc (min n (length ranges)) = omega arith in
+    ap (λ k. get_or (r ∷ (ranges ++ end ∷ [])) k d) e ∙ range-among ranges end d n
 
--- ---- the same by the number of a token
+pub range_there : (ranges all : List Span) (end range : Span) (n last i : ℕ)
+    → all ≡ ranges ++ end ∷ []
+    → last ≡ length all - 1
+    → i ≡ min n last
+    → range ≡ get_or all i range
+    → range ≡ get_or ranges n end
+range_there ranges all end range n last i are is at e =
+    let same : i ≡ min n (length ranges) =
+    at ∙ ap (min n) (let k : last ≡ length ranges = omega
+    (arith, is, ap length are, length-append ranges (end ∷ [])) in k) in
+    e
+    ∙ ap (λ xs. get_or xs i range) are
+    ∙ ap (λ k. get_or (ranges ++ end ∷ []) k range) same
+    ∙ range-among ranges end range n
 
-pub reading_more : (ts : List Token) (n start : ℕ) (d : Token) → n < length ts → IsReading ts start
-    (drop n ts) → IsReading ts (start + length (get_or ts n d).text.now) (drop (n + 1) ts)
-reading_more ts n start d some h = IsReading-more ts (drop n ts) (drop (n + 1) ts) start
-    (start + length (get_or ts n d).text.now) (get_or ts n d) (drop_more ts n d some) refl h
+-- ---- errors
 
-pub reading_fits : (ts : List Token) (n start : ℕ) (d : Token) → n < length ts → IsReading ts start
-    (drop n ts) → start + length (get_or ts n d).text.now ≤ length (tokens_text ts)
-reading_fits ts n start d some h = IsReading-fits ts (drop n ts) (drop (n + 1) ts) start
-    (get_or ts n d) (drop_more ts n d some) h
+abbrev error_by : List ℕ → Span → Error
+error_by message range = record { message = message; range = range }
 
-pub reading_range : (ts : List Token) (n start end : ℕ) (d : Token) (range : Span) → n < length ts →
-    end ≡ start + length (get_or ts n d).text.now → range.start ≡ start → range.end ≡ end →
-    IsReading ts start (drop n ts) → IsErrorRange (texts_of ts) range
-reading_range ts n start end d range some e from to h = range-of-one ts (drop n ts)
-    (drop (n + 1) ts) start end (get_or ts n d) range (drop_more ts n d some) e from to h
+-- the error that is made of a complaint
+pub told_is : (trivia : Trivia) (tokens : List Token) (told : Told) (error : SyntaxError)
+    (place : ℕ) (all : List Span) (last i : ℕ)
+    → record { place = place; message = string_bytes error.message } ≡ told
+    → all ≡ ranges_from 0 trivia tokens ++ end_of tokens ∷ []
+    → last ≡ length all - 1
+    → i ≡ min place last
+    → error.range ≡ get_or all i error.range
+    → error_value error ≡ error_of trivia tokens told
+told_is trivia tokens told error place all last i view are is at there =
+    let range = range_there (ranges_from 0 trivia tokens) all (end_of tokens) error.range place last i
+    are is at there in
+    ap₂ error_by (ap (λ (t : Told). t.message) view)
+    (range ∙ ap (λ (t : Told). range_of trivia tokens t.place) view)
 
-pub reading_end : (ts : List Token) (n start : ℕ) (range : Span) → length ts ≤ n → range.start ≡
-    start → range.end ≡ start → IsReading ts start (drop n ts) → IsErrorRange (texts_of ts) range
-reading_end ts n start range all from to h = range-at-end ts start range from to
-    (subst (IsReading ts start) (drop_of_length-le ts all) h)
+pub told_more : (trivia : Trivia) (tokens : List Token) (told : Told) (error : SyntaxError)
+    (left others : List Told) (old new : List SyntaxError) (all : List Error)
+    → left ≡ told ∷ others
+    → new ≡ old ++ error ∷ []
+    → error_value error ≡ error_of trivia tokens told
+    → map error_value old ++ map (error_of trivia tokens) left ≡ all
+    → map error_value new ++ map (error_of trivia tokens) others ≡ all
+told_more trivia tokens told error left others old new all first pushed is so_far =
+    ap (λ es. map error_value es ++ map (error_of trivia tokens) others) pushed
+    ∙ ap (λ vs. vs ++ map (error_of trivia tokens) others) (map-append error_value old (error ∷ []))
+    ∙ append_assoc (map error_value old) (error_value error ∷ []) (map (error_of trivia tokens) others)
+    ∙ ap (λ v. map error_value old ++ v ∷ map (error_of trivia tokens) others) is
+    ∙ ap (λ ts. map error_value old ++ map (error_of trivia tokens) ts) (sym first)
+    ∙ so_far
 
--- ---- kinds that a grammar gave
-
-pub with_kind-texts : (i : ℕ) (kind : SyntaxKind) (ts : List Token) → texts_of (with_kind i kind ts)
-    ≡ texts_of ts
-with_kind-texts i kind [] = refl
-with_kind-texts zero kind (t ∷ ts) = refl
-with_kind-texts (suc i) kind (t ∷ ts) = ap (λ texts. t.text.now ∷ texts) (with_kind-texts i kind ts)
-
-pub with_kinds-texts : (rs : List Renamed) (ts : List Token) → texts_of (with_kinds rs ts) ≡
-    texts_of ts
-with_kinds-texts [] ts = refl
-with_kinds-texts (r ∷ rs) ts = with_kinds-texts rs (with_kind r.leaf r.kind ts) ∙ with_kind-texts
-    r.leaf r.kind ts
-
-abbrev token_of_parts : SyntaxKind → Bor (List ℕ) → Token
-token_of_parts kind text = record { kind = kind; text = text }
-
-pub with_kind-set : (i : ℕ) (kind : SyntaxKind) (ts : List Token) (t u : Token) → i < length ts → t
-    ≡ get_or ts i t → u.text ≡ t.text → u.kind ≡ kind → slice_set ts i u ≡ with_kind i kind ts
-with_kind-set i kind [] t u some at text is = absurd (omega (arith, some))
-with_kind-set zero kind (x ∷ ts) t u some at text is =
-    ap (λ v. v ∷ ts) (ap₂ token_of_parts is (text ∙ ap (λ (v : Token). v.text) at))
-with_kind-set (suc i) kind (x ∷ ts) t u some at text is = ap (λ us. x ∷ us)
-    (with_kind-set i kind ts t u (omega (arith, some)) at text is)
-
-pub with_kind-none : (i : ℕ) (kind : SyntaxKind) (ts : List Token) → length ts ≤ i → with_kind i
-    kind ts ≡ ts
-with_kind-none i kind [] none = refl
-with_kind-none zero kind (t ∷ ts) none = absurd (omega (arith, none))
-with_kind-none (suc i) kind (t ∷ ts) none = ap (λ us. t ∷ us)
-    (with_kind-none i kind ts (omega (arith, none)))
+pub told_end : (trivia : Trivia) (tokens : List Token) (left : List Told) (old : List SyntaxError)
+    (all : List Error)
+    → length left ≡ 0
+    → map error_value old ++ map (error_of trivia tokens) left ≡ all
+    → map error_value old ≡ all
+told_end trivia tokens (t ∷ left) old all none so_far = absurd (omega (arith, none))
+told_end trivia tokens [] old all none so_far = sym (append-nil (map error_value old)) ∙ so_far

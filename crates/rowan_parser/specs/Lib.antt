@@ -1,5 +1,11 @@
 pub mod Building
 pub mod Events
 pub mod Lines
+pub mod Log
+pub mod Making
+pub mod Parsing
+pub mod Running
 pub mod Seen
+pub mod Shape
 pub mod Tokens
+pub mod Told

@@ -1,30 +1,71 @@
--- What a grammar sees: the raw kinds of the tokens that are left, without trivia.
-use Rattle.std.specs.Prelude.{ℕ, Bool, false, cond, List, [], ◌∷◌, map, drop, Option, slice_get}
-use Rattle.std.specs.List.{list_any}
+-- What a grammar sees when it looks at the tokens that are left.
+use Rattle.std.specs.Prelude.{ℕ, ◌==◌, ◌&&◌, ◌||◌, ◌/◌, ◌%◌, ◌^◌, ltb, Bool, true, false}
+use Rattle.std.specs.Prelude.{List, [], ◌∷◌, map, drop, Option, Some, None, slice_get}
 use Rattle.std.specs.Option.{option_map}
+use Rattle.rowan_parser.specs.Log.{Seen, Piece}
 use Rattle.rowan_parser.specs.declared.parser.SeenToken.{SeenToken}
 
--- the raw kinds of these tokens, from this one on
-abbrev pub kinds_from : ℕ → List SeenToken → List ℕ
-kinds_from n tokens = drop n (map (λ token. token.kind.0) tokens)
+abbrev pub piece : SeenToken → Piece
+piece t = record {
+  kind = t.kind.0;
+  text = t.text.now;
+  is_joined = t.is_joined;
+  is_after_line = t.is_after_line;
+}
+
+-- these tokens, from number n on
+abbrev pub pieces_from : ℕ → List SeenToken → List Piece
+pieces_from n tokens = drop n (map piece tokens)
+
+-- a parser before its first call
+abbrev pub started : List Piece → Seen
+started left = record { left = left; taken = 0; events = []; errors = []; is_whole = true }
+
+abbrev pub start_of : List SeenToken → Seen
+start_of tokens = started (pieces_from 0 tokens)
 
 -- the kind of the token so many places ahead, by what raw kinds mean
-abbrev pub kind_ahead : {K : Type 0} → (ℕ → K) → List ℕ → ℕ → Option K
-kind_ahead meaning left n = option_map meaning (slice_get left n)
+abbrev pub kind_ahead : {K : Type 0} → (ℕ → K) → List Piece → ℕ → Option K
+kind_ahead meaning left n = option_map (λ t. meaning t.kind) (slice_get left n)
 
 -- whether the first token has a kind, by what raw kinds mean and when kinds are equal
-abbrev pub is_at : {K : Type 0} → (ℕ → K) → (K → K → Bool) → K → List ℕ → Bool
+abbrev pub is_at : {K : Type 0} → (ℕ → K) → (K → K → Bool) → K → List Piece → Bool
 is_at meaning same kind [] = false
-is_at meaning same kind (raw ∷ left) = same (meaning raw) kind
+is_at meaning same kind (t ∷ left) = same (meaning t.kind) kind
+
+-- whether kind number k is in the set that these bits say
+abbrev pub has : ℕ → ℕ → Bool
+has bits k = ltb k 128 && (bits / 2 ^ k) % 2 == 1
 
 -- whether the first token has one of these kinds
-abbrev pub is_at_any : {K : Type 0} → (ℕ → K) → (K → K → Bool) → List K → List ℕ → Bool
-is_at_any meaning same kinds [] = false
-is_at_any meaning same kinds (raw ∷ left) = list_any (λ kind. same kind (meaning raw)) kinds
+abbrev pub is_in : (ℕ → Bool) → List Piece → Bool
+is_in test [] = false
+is_in test (t ∷ left) = test t.kind
 
--- the tokens from the first one on that has one of these kinds
-abbrev pub from_any : {K : Type 0} → (ℕ → K) → (K → K → Bool) → List K → List ℕ → List ℕ
-from_any meaning same kinds [] = []
-from_any meaning same kinds (raw ∷ left) =
-    cond (is_at_any meaning same kinds (raw ∷ left)) (raw ∷ left)
-    (from_any meaning same kinds left)
+abbrev pub text_of : Option Piece → List ℕ
+text_of None = []
+text_of (Some t) = t.text
+
+-- the text of the token so many places ahead, or none behind the end
+abbrev pub text_ahead : List Piece → ℕ → List ℕ
+text_ahead left n = text_of (slice_get left n)
+
+-- whether a line ended before the first token
+abbrev pub is_after_line : List Piece → Bool
+is_after_line [] = false
+is_after_line (t ∷ left) = t.is_after_line
+
+-- whether there is a token of this kind, which touches the one before unless it is the first
+abbrev pub is_next_glued : {K : Type 0} → (ℕ → K) → (K → K → Bool) → Bool → K
+    → Option Piece → Bool
+is_next_glued meaning same is_first kind None = false
+is_next_glued meaning same is_first kind (Some t) =
+    (is_first || t.is_joined) && same (meaning t.kind) kind
+
+-- whether the first tokens have these kinds, and each but the first touches the one before
+abbrev pub is_glued : {K : Type 0} → (ℕ → K) → (K → K → Bool) → Bool → List K
+    → List Piece → Bool
+is_glued meaning same is_first [] left = true
+is_glued meaning same is_first (kind ∷ kinds) left =
+    is_next_glued meaning same is_first kind (slice_get left 0)
+    && is_glued meaning same false kinds (drop 1 left)

@@ -42,8 +42,10 @@ impl<F: FnMut(&str) -> (SyntaxKind, usize)> Lexer for F {
 }
 
 /// Cuts a text into tokens, from its start to its end, each as the lexer says. A token has at least
-/// one character, and ends where a character ends: a length of 0, one within a character and one
-/// past the end are cut to the next such end.
+/// one character, and ends where a character ends: a length of 0 and one that ends within a
+/// character reach to the next such place, and one past the end reaches to the end.
+///
+/// Errors: `Memory` if an allocation failed.
 pub fn lex<X: Lexer + Drop>(
     alloc: Global,
     text: &str,

@@ -10,13 +10,16 @@ pub mod parsed;
 pub mod parser;
 pub mod parsing;
 pub mod rendering;
+pub mod running;
+pub mod token_set;
 pub mod tree;
 
 pub use event::Event;
 pub use lexer::{Lexer, Token, lex};
 pub use line_index::{LineColumn, LineIndex};
-pub use parsed::{Parse, Renamed, SyntaxError};
+pub use parsed::{Parse, SyntaxError};
 pub use parser::{CompletedMarker, Marker, Parser};
-pub use parsing::{parse, parse_with};
+pub use parsing::{Ran, parse, parse_with, run};
 pub use rendering::render;
+pub use token_set::TokenSet;
 pub use tree::{Source, Trivia, build_tree, build_tree_with};

@@ -1,62 +1,81 @@
-//! What a grammar works with: the tokens that are no trivia, and the events so far.
-ghost use Rattle.std.specs.Prelude.{◌≡◌, ◌↔◌, ◌+◌, if◌then◌else◌, IsSome, IsNone, IfSome, IsTrue};
-ghost use Rattle.std.specs.Prelude.{[], length, drop};
-ghost use Rattle.rowan_parser.specs.Seen.{kinds_from, kind_ahead, is_at, is_at_any, from_any};
+//! What a grammar works with: the tokens that are no trivia, and the events and errors so far.
+ghost use Rattle.std.specs.Prelude.{◌≡◌, ◌↔◌, ◌+◌, ◌-◌, ◌<◌, ◌≤◌, ◌==◌, if◌then◌else◌};
+ghost use Rattle.std.specs.Prelude.{IsTrue, IsSome, IsNone, IfSome, IfOk, IfErr, MatchResult};
+ghost use Rattle.std.specs.Prelude.{true, false, [], length, Some, None, slice_get, slice_set};
+ghost use Rattle.std.specs.Prelude.{string_bytes};
+ghost use Rattle.std.specs.Option.{option_map};
+ghost use Rattle.rowan_parser.specs.Log.{Is, with_event, with_token, bumped, bumped_as, glued};
+ghost use Rattle.rowan_parser.specs.Log.{complained, stands_at, completed, around_by};
+ghost use Rattle.rowan_parser.specs.Log.{outer_at, stops_here, recovered, ended, refused_unless};
+ghost use Rattle.rowan_parser.specs.Log.{with_error_node};
+ghost use Rattle.rowan_parser.specs.Seen.{piece, start_of, kind_ahead, is_at, is_in, has};
+ghost use Rattle.rowan_parser.specs.Seen.{text_ahead, is_after_line, is_glued, is_next_glued};
+ghost use Rattle.rowan_parser.specs.declared.event.Event.TheVariants.{Nothing};
 
 use crate::event::Event;
-use crate::parsed::Renamed;
-use rowan::{Language, SyntaxKind};
+use crate::running::Made;
+use crate::token_set::TokenSet;
+use rowan::{Fault, Language, SyntaxKind};
 use std::alloc::{AllocError, Global};
 use std::marker::{Model, PhantomData};
 
 /// Looks at the tokens of a text and takes them one after the other. It passes over trivia.
 ///
-/// No call is refused, and none has a condition. Where memory runs out the parser takes note of it
-/// and goes on, and `parse` answers `Memory`. A contract sees a parser as the raw kinds of the tokens
-/// that are left: so it says what each look at them answers, and when loops and recursions end.
+/// No call fails, and none has a condition. Where memory runs out the parser takes note of it and
+/// goes on, and `parse` answers `Memory`. A contract sees a parser as the tokens that are left, how
+/// many were taken, the events, the errors, and whether there was memory for all of it.
 #[derive(Drop)]
-pub struct Parser<L> {
+pub struct Parser<'t, L> {
     alloc: Global,
-    text: String,
-    tokens: Vec<SeenToken>,
+    tokens: Vec<SeenToken<'t>>,
     position: usize,
-    log: Log,
+    events: Vec<Event>,
+    complaints: Vec<Complaint>,
+    has_memory: bool,
     language: PhantomData<L>,
 }
 
-/// A token that is no trivia: its number among all tokens, where its text starts and ends, and its
-/// kind.
+/// A token that is no trivia.
 #[derive(Clone, Copy)]
-pub(crate) struct SeenToken {
-    pub number: u32,
-    pub start: u32,
-    pub end: u32,
+pub(crate) struct SeenToken<'t> {
     pub kind: SyntaxKind,
+    pub text: &'t str,
+    /// It touches the token before it.
+    pub is_joined: bool,
+    /// A line ended between it and the token before it.
+    pub is_after_line: bool,
 }
 
-/// What a grammar did.
-#[derive(Drop)]
-pub(crate) struct Log {
-    pub events: Vec<Event>,
-    pub complaints: Vec<Complaint>,
-    pub renames: Vec<Renamed>,
-    pub has_memory: bool,
-}
-
-/// A message, and the number of the token, among those that are no trivia, at which it stands.
+/// A message, and how many tokens that are no trivia were taken before it.
 #[derive(Drop)]
 pub(crate) struct Complaint {
     pub message: String,
     pub place: usize,
 }
 
-impl<L> Model for Parser<L> {
-    ghost use Rattle.std.specs.Prelude.{ℕ, List};
-    ghost use Rattle.rowan_parser.specs.Seen.{kinds_from};
+impl Model for Complaint {
+    ghost use Rattle.std.specs.Prelude.{string_bytes};
+    ghost use Rattle.rowan_parser.specs.Told.{Told};
 
-    ghost Value = { List ℕ };
+    ghost Value = { Told };
 
-    ghost view = { λ p. kinds_from p.position p.tokens.items };
+    ghost view = { λ c. record { place = c.place; message = string_bytes c.message } };
+}
+
+impl<'t, L> Model for Parser<'t, L> {
+    ghost use Rattle.rowan_parser.specs.Log.{Seen};
+
+    ghost Value = { Seen };
+
+    ghost use Rattle.rowan_parser.specs.Seen.{pieces_from};
+
+    ghost view = { λ p. record {
+      left = pieces_from p.position p.tokens.items;
+      taken = p.position;
+      events = p.events.items;
+      errors = p.complaints.items;
+      is_whole = p.has_memory;
+    } };
 }
 
 /// A node that was begun. It has to be completed or abandoned: code that does neither does not
@@ -66,42 +85,65 @@ pub struct Marker {
     inner: Option<usize>,
 }
 
+impl Model for Marker {
+    ghost use Rattle.rowan_parser.specs.Log.{Place};
+
+    ghost Value = { Place };
+
+    ghost view = { λ m. record { at = m.place; inner = m.inner } };
+}
+
 /// A node that ended. `precede` begins another one around it.
 #[derive(Drop)]
 pub struct CompletedMarker {
     place: usize,
 }
 
-impl<L: Language> Parser<L> {
-    pub(crate) fn new(alloc: Global, text: String, tokens: Vec<SeenToken>) -> Parser<L>
-        ensures { result ≡ kinds_from 0 tokens.items }
+impl Model for CompletedMarker {
+    ghost use Rattle.std.specs.Prelude.{ℕ};
+
+    ghost Value = { ℕ };
+
+    ghost view = { λ m. m.place };
+}
+
+impl<'t, L: Language> Parser<'t, L> {
+    /// A parser before its first call, with room for one event a token.
+    pub(crate) fn new(alloc: Global, tokens: Vec<SeenToken<'t>>) -> Result<Parser<'t, L>, Fault>
+        ensures ok { IfOk result (λ p. p ≡ start_of tokens.entry.items) }
+        ensures err { IfErr result (λ fault. fault ≡ Fault.Memory) }
     {
-        let log = Log {
-            events: Vec::new(alloc),
-            complaints: Vec::new(alloc),
-            renames: Vec::new(alloc),
-            has_memory: true,
-        };
-        Parser {
+        let events = Vec::with_capacity(alloc, tokens.len())?;
+        Ok(Parser {
             alloc,
-            text,
             tokens,
             position: 0,
-            log,
+            events,
+            complaints: Vec::new(alloc),
+            has_memory: true,
             language: PhantomData,
-        }
+        })
     }
 
-    pub(crate) fn into_log(self) -> Log {
+    pub(crate) fn into_made(self) -> Result<Made, Fault>
+        ensures whole { IfOk result (λ _. IsTrue self.entry.is_whole) }
+        ensures events { IfOk result (λ made. made.events.items ≡ self.entry.events) }
+        ensures errors { IfOk result (λ made. made.complaints.items ≡ self.entry.errors) }
+        ensures err { IfErr result (λ fault. fault ≡ Fault.Memory) }
+    {
         let Parser {
             alloc: _,
-            text: _,
             tokens: _,
             position: _,
-            log,
+            events,
+            complaints,
+            has_memory,
             language: _,
         } = self;
-        log
+        if !has_memory {
+            return Err(Fault::Memory);
+        }
+        Ok(Made { events, complaints })
     }
 
     /// The allocator, for messages.
@@ -109,9 +151,17 @@ impl<L: Language> Parser<L> {
         self.alloc
     }
 
+    /// The token `n` places ahead.
+    fn ahead(&self, n: usize) -> Option<SeenToken<'t>>
+        ensures { option_map piece result ≡ slice_get self.now.left n }
+    {
+        let token = self.tokens.get(self.position.checked_add(n)?)?;
+        Some(*token)
+    }
+
     /// The kind of the token `n` places ahead, where 0 is the current one.
     pub fn nth(&self, n: usize) -> Option<L::Kind>
-        ensures { result ≡ kind_ahead L.meaning self.now n }
+        ensures { result ≡ kind_ahead L.meaning self.now.left n }
     {
         let token = self.tokens.get(self.position.checked_add(n)?)?;
         Some(L::kind_from_raw(token.kind))
@@ -119,25 +169,14 @@ impl<L: Language> Parser<L> {
 
     /// The kind of the current token.
     pub fn current(&self) -> Option<L::Kind>
-        ensures { result ≡ kind_ahead L.meaning self.now 0 }
+        ensures { result ≡ kind_ahead L.meaning self.now.left 0 }
     {
         self.nth(0)
     }
 
-    /// The text of the current token, which is empty at the end.
-    pub fn text(&self) -> &str {
-        match self.tokens.get(self.position) {
-            Some(token) => {
-                let range = token.start as usize..token.end as usize;
-                self.text.as_str().get(range).unwrap_or("")
-            }
-            None => "",
-        }
-    }
-
     /// Whether the current token has this kind.
     pub fn at(&self, kind: L::Kind) -> bool
-        ensures { result ≡ is_at L.meaning L.Kind.eq kind self.now }
+        ensures { result ≡ is_at L.meaning L.Kind.eq kind self.now.left }
     {
         match self.nth(0) {
             Some(current) => current == kind,
@@ -145,55 +184,131 @@ impl<L: Language> Parser<L> {
         }
     }
 
-    /// Whether the current token has one of these kinds.
-    pub fn at_any(&self, kinds: &[L::Kind]) -> bool
-        ensures { result ≡ is_at_any L.meaning L.Kind.eq kinds.now self.now }
+    /// Whether the current token is in this set.
+    pub fn at_any(&self, set: TokenSet) -> bool
+        ensures { result ≡ is_in (has set.0) self.now.left }
     {
-        match self.nth(0) {
-            Some(current) => kinds.contains(&current),
+        match self.ahead(0) {
+            Some(token) => set.contains(token.kind),
             None => false,
         }
     }
 
+    /// Whether the current token is in this set, or there is none: where recovery stops.
+    pub fn at_stop(&self, set: TokenSet) -> bool
+        ensures { result ≡ stops_here (has set.0) self.now.left }
+    {
+        match self.ahead(0) {
+            Some(token) => set.contains(token.kind),
+            None => true,
+        }
+    }
+
     pub fn at_end(&self) -> bool
-        ensures { IsTrue result ↔ (self.now ≡ []) }
+        ensures { IsTrue result ↔ (self.now.left ≡ []) }
     {
         self.position >= self.tokens.len()
     }
 
     /// How many tokens are left: `for _ in 0..p.tokens_left()` is a loop that ends.
     pub fn tokens_left(&self) -> usize
-        ensures { result ≡ length self.now }
+        ensures { result ≡ length self.now.left }
     {
         self.tokens.len().saturating_sub(self.position)
     }
 
+    /// The text of the current token, which is empty at the end.
+    pub fn text(&self) -> &'t str
+        ensures { result.now ≡ text_ahead self.now.left 0 }
+    {
+        self.nth_text(0)
+    }
+
+    /// The text of the token `n` places ahead, which is empty behind the end.
+    pub fn nth_text(&self, n: usize) -> &'t str
+        ensures { result.now ≡ text_ahead self.now.left n }
+    {
+        match self.ahead(n) {
+            Some(token) => token.text,
+            None => "",
+        }
+    }
+
+    /// Whether the current token has this text, as a word that is a keyword only here.
+    pub fn at_contextual(&self, text: &str) -> bool
+        ensures { IsTrue result ↔ (text_ahead self.now.left 0 ≡ text.now) }
+    {
+        self.text() == text
+    }
+
+    /// Whether a line ended between the token before and the current one.
+    pub fn newline_before(&self) -> bool
+        ensures { result ≡ is_after_line self.now.left }
+    {
+        match self.ahead(0) {
+            Some(token) => token.is_after_line,
+            None => false,
+        }
+    }
+
+    /// Whether the next tokens have these kinds, and each but the first touches the one before it,
+    /// as `>` and `=` of `>=`.
+    pub fn at_glued(&self, kinds: &[L::Kind]) -> bool
+        ensures glued { result ≡ is_glued L.meaning L.Kind.eq true kinds.now self.now.left }
+        ensures there { IsTrue result → length kinds.now ≤ length self.now.left }
+    {
+        for (n, kind) in kinds.iter().enumerate() {
+            if !self.is_next_glued(n, *kind) {
+                return false;
+            }
+        }
+        true
+    }
+
+    /// Whether the token `n` places ahead has this kind and, but for the first, touches the one
+    /// before it.
+    fn is_next_glued(&self, n: usize, kind: L::Kind) -> bool
+        ensures { result
+            ≡ is_next_glued L.meaning L.Kind.eq (n == 0) kind (slice_get self.now.left n) }
+    {
+        match self.ahead(n) {
+            Some(token) => (n == 0 || token.is_joined) && L::kind_from_raw(token.kind) == kind,
+            None => false,
+        }
+    }
+
     /// Takes the current token, if there is one.
     pub fn bump(&mut self)
-        ensures { self.new ≡ drop 1 self.old }
+        ensures { Is (bumped self.old) self.new }
     {
-        if self.position < self.tokens.len() {
-            self.position += 1;
-            self.log.push(Event::Token);
-        }
+        self.take(Event::Token);
     }
 
     /// Takes the current token, if there is one, with this kind in place of the one that the lexer
     /// said, as for a word that is a keyword only here.
     pub fn bump_as(&mut self, kind: L::Kind)
-        ensures { self.new ≡ drop 1 self.old }
+        ensures { Is (bumped_as (L.code kind) self.old) self.new }
     {
-        if let Some(token) = self.tokens.get(self.position) {
-            let leaf = token.number as usize;
-            self.log.rename(leaf, L::kind_to_raw(kind));
-            self.bump();
+        self.take(Event::Joined(L::kind_to_raw(kind), 1));
+    }
+
+    /// Takes the next `n` tokens, or as many as there are, with what stands between them, as one
+    /// leaf of this kind.
+    pub fn bump_glued(&mut self, kind: L::Kind, n: u32)
+        ensures { Is (glued (L.code kind) n self.old) self.new }
+    {
+        let some = self.tokens_left().min(n as usize);
+        if some > 0 {
+            self.position += some;
+            self.push(Event::Joined(L::kind_to_raw(kind), some as u32));
         }
     }
 
     /// Takes the current token where it has this kind.
     pub fn eat(&mut self, kind: L::Kind) -> bool
-        ensures there { result ≡ is_at L.meaning L.Kind.eq kind self.old }
-        ensures taken { self.new ≡ (if result then drop 1 self.old else self.old) }
+        ensures there { result ≡ is_at L.meaning L.Kind.eq kind self.old.left }
+        ensures some { IsTrue result → 0 < length self.old.left }
+        ensures taken { Is (if result then bumped self.old else self.old) self.new }
     {
         if !self.at(kind) {
             return false;
@@ -204,8 +319,10 @@ impl<L: Language> Parser<L> {
 
     /// Takes the current token where it has this kind, and else complains.
     pub fn expect(&mut self, kind: L::Kind, message: &str) -> bool
-        ensures there { result ≡ is_at L.meaning L.Kind.eq kind self.old }
-        ensures taken { self.new ≡ (if result then drop 1 self.old else self.old) }
+        ensures there { result ≡ is_at L.meaning L.Kind.eq kind self.old.left }
+        ensures some { IsTrue result → 0 < length self.old.left }
+        ensures taken { Is (if result then bumped self.old else complained message.now self.old)
+            self.new }
     {
         let eaten = self.eat(kind);
         if !eaten {
@@ -214,24 +331,33 @@ impl<L: Language> Parser<L> {
         eaten
     }
 
-    /// Complains of the current token, or of the end.
+    /// Complains of the current token, or of the end, unless the last complaint was of the same.
     pub fn error(&mut self, message: &str)
-        ensures { self.new ≡ self.old }
+        ensures { Is (complained message.now self.old) self.new }
     {
-        let message = String::from_str(self.alloc, message);
-        self.log.complain(self.position, message);
+        match String::from_str(self.alloc, message) {
+            Ok(message) => self.complain(message),
+            Err(_) => self.has_memory = false,
+        }
     }
 
     /// Complains by a message that was formatted, as by `format!(in p.alloc(); ..)`.
     pub fn error_formatted(&mut self, message: Result<String, AllocError>)
-        ensures { self.new ≡ self.old }
+        ensures { MatchResult message
+            (λ text. Is (complained (string_bytes text) self.old) self.new)
+            (λ _. (self.new.left ≡ self.old.left) × (self.new.is_whole ≡ false)) }
     {
-        self.log.complain(self.position, message);
+        match message {
+            Ok(message) => self.complain(message),
+            Err(_) => self.has_memory = false,
+        }
     }
 
     /// Complains, and puts a node of this kind around the current token, if there is one.
     pub fn error_and_bump(&mut self, kind: L::Kind, message: &str)
-        ensures { self.new ≡ drop 1 self.old }
+        ensures node { 0 < length self.old.left
+            → Is (with_error_node (L.code kind) (complained message.now self.old)) self.new }
+        ensures end { self.old.left ≡ [] → Is (complained message.now self.old) self.new }
     {
         self.error(message);
         if !self.at_end() {
@@ -241,16 +367,34 @@ impl<L: Language> Parser<L> {
         }
     }
 
-    /// Puts a node of this kind around the tokens up to the first one of these kinds, or to the
-    /// end, if there are any.
-    pub fn recover_until(&mut self, kinds: &[L::Kind], error: L::Kind)
-        ensures { self.new ≡ from_any L.meaning L.Kind.eq kinds.now self.old }
+    /// Complains. At a token of this set and at the end it takes nothing and answers true, and else
+    /// it puts a node of this kind around the current token.
+    pub fn err_recover(&mut self, message: &str, set: TokenSet, error: L::Kind) -> bool
+        ensures there { result ≡ stops_here (has set.0) self.old.left }
+        ensures made { Is (refused_unless result (L.code error)
+            (complained message.now self.old)) self.new }
     {
-        if self.at_end() || self.at_any(kinds) {
+        self.error(message);
+        if self.at_stop(set) {
+            return true;
+        }
+        let marker = self.start();
+        self.bump();
+        self.complete(marker, error);
+        false
+    }
+
+    /// Puts a node of this kind around the tokens up to the first one of this set, or to the end,
+    /// if there are any.
+    #[tactic(auto, using(crate::proofs::Skipping::skipping))]
+    pub fn recover_until(&mut self, set: TokenSet, error: L::Kind)
+        ensures { Is (recovered (L.code error) (has set.0) self.old) self.new }
+    {
+        if self.at_stop(set) {
             return;
         }
         let marker = self.start();
-        while !self.at_end() && !self.at_any(kinds) {
+        'skip: while !self.at_stop(set) {
             self.bump();
         }
         self.complete(marker, error);
@@ -258,16 +402,11 @@ impl<L: Language> Parser<L> {
 
     /// Complains, and puts a node of this kind around all tokens that are left, if there are any.
     pub fn error_to_end(&mut self, kind: L::Kind, message: &str)
-        ensures { self.new ≡ [] }
+        ensures ended { Is (ended (L.code kind) message.now self.old) self.new }
+        ensures nothing_left { self.new.left ≡ [] }
     {
         self.error(message);
-        if !self.at_end() {
-            let marker = self.start();
-            while !self.at_end() {
-                self.bump();
-            }
-            self.complete(marker, kind);
-        }
+        self.recover_until(TokenSet::EMPTY, kind);
     }
 
     /// The depth for what stands one level deeper. At depth 0 there is none: the parser complains
@@ -278,7 +417,8 @@ impl<L: Language> Parser<L> {
         ensures depth { IfSome result (λ less. less + 1 ≡ depth) }
         ensures none { IsNone result → depth ≡ 0 }
         ensures kept { IsSome result → self.new ≡ self.old }
-        ensures ended { IsNone result → self.new ≡ [] }
+        ensures ended { IsNone result → Is (ended (L.code kind) message.now self.old) self.new }
+        ensures nothing_left { IsNone result → self.new.left ≡ [] }
     {
         let less = depth.checked_sub(1);
         if less.is_none() {
@@ -289,40 +429,50 @@ impl<L: Language> Parser<L> {
 
     /// Begins a node here.
     pub fn start(&mut self) -> Marker
-        ensures { self.new ≡ self.old }
+        ensures began { Is (with_event Nothing self.old) self.new }
+        ensures marker { result ≡ record { at = length self.old.events; inner = None } }
     {
-        Marker {
-            place: self.log.push_open(),
-            inner: None,
-        }
+        let place = self.events.len();
+        self.push(Event::Nothing);
+        Marker { place, inner: None }
     }
 
-    /// Ends a node here, with this kind: it has the tokens that were taken since it began.
-    pub fn complete(&mut self, marker: Marker, kind: L::Kind) -> CompletedMarker
-        ensures { self.new ≡ self.old }
-    {
-        let Marker { place, inner } = marker;
-        let kind = L::kind_to_raw(kind);
-        match inner {
-            None => self.log.set(place, Event::Open(kind, 0)),
-            Some(inner) => {
-                self.log.set(place, Event::Around(kind, 0));
-                self.log.put_around(inner, place);
-            }
-        }
-        self.log.push(Event::Close);
-        CompletedMarker { place }
-    }
-
-    /// Begins a node around one that ended.
+    /// Begins a node around one that ended. What was made behind that one stands in it too.
     pub fn precede(&mut self, completed: CompletedMarker) -> Marker
-        ensures { self.new ≡ self.old }
+        ensures began { Is (with_event Nothing self.old) self.new }
+        ensures marker { result
+            ≡ record { at = length self.old.events; inner = Some completed } }
     {
         let CompletedMarker { place: inner } = completed;
+        let place = self.events.len();
+        self.push(Event::Nothing);
         Marker {
-            place: self.log.push_open(),
+            place,
             inner: Some(inner),
         }
+    }
+
+    /// Gives this kind to the node that the marker began, and ends the innermost open node. That is
+    /// one and the same where the markers that were begun since are completed or abandoned. Where
+    /// one of them is completed later, each node still begins where its marker began, but the
+    /// innermost one ends here.
+    pub fn complete(&mut self, marker: Marker, kind: L::Kind) -> CompletedMarker
+        ensures node { Is (completed marker (L.code kind) self.old) self.new }
+        ensures marker { result ≡ marker.at }
+    {
+        let Marker { place, inner } = marker;
+        let raw = L::kind_to_raw(kind);
+        match inner {
+            None => set(&mut self.events, place, Event::Open(raw, 0)),
+            Some(inner) => {
+                set(&mut self.events, place, Event::Around(raw, 0));
+                if !set_outer(&mut self.events, inner, place) {
+                    self.has_memory = false;
+                }
+            }
+        }
+        self.push(Event::Close);
+        CompletedMarker { place }
     }
 
     /// Gives up a node that was begun: what was put into it stands in the node around.
@@ -331,60 +481,83 @@ impl<L: Language> Parser<L> {
     {
         let Marker { place: _, inner: _ } = marker;
     }
-}
 
-impl Log {
-    fn push(&mut self, event: Event) {
+    /// Takes the current token, if there is one, by this event.
+    fn take(&mut self, event: Event)
+        ensures { Is (with_token event self.old.left self.old) self.new }
+    {
+        if self.position < self.tokens.len() {
+            self.position += 1;
+            self.push(event);
+        }
+    }
+
+    fn push(&mut self, event: Event)
+        ensures { Is (with_event event self.old) self.new }
+    {
         if self.events.push(event).is_err() {
             self.has_memory = false;
         }
     }
 
-    /// Puts an event that `complete` will set, and gives its place.
-    fn push_open(&mut self) -> usize {
-        let place = self.events.len();
-        self.push(Event::Nothing);
-        place
-    }
-
-    fn set(&mut self, place: usize, event: Event) {
-        if let Some(slot) = self.events.get_mut(place) {
-            *slot = event;
-        }
-    }
-
-    /// Says of the node of an inner event that the node of an outer one stands around it.
-    fn put_around(&mut self, inner: usize, outer: usize) {
-        let Ok(distance) = u32::try_from(outer.saturating_sub(inner)) else {
-            self.has_memory = false;
+    /// Complains, unless the last complaint was of this place.
+    fn complain(&mut self, message: String)
+        ensures { Is (complained (string_bytes message) self.old) self.new }
+    {
+        let place = self.position;
+        if is_last_at(self.complaints.as_slice(), place) {
             return;
-        };
-        match self.events.get(inner) {
-            Some(Event::Open(kind, _)) => {
-                let event = Event::Open(*kind, distance);
-                self.set(inner, event);
-            }
-            Some(Event::Around(kind, _)) => {
-                let event = Event::Around(*kind, distance);
-                self.set(inner, event);
-            }
-            _ => {}
         }
-    }
-
-    fn rename(&mut self, leaf: usize, kind: SyntaxKind) {
-        if self.renames.push(Renamed { leaf, kind }).is_err() {
-            self.has_memory = false;
-        }
-    }
-
-    fn complain(&mut self, place: usize, message: Result<String, AllocError>) {
-        let Ok(message) = message else {
-            self.has_memory = false;
-            return;
-        };
         if self.complaints.push(Complaint { message, place }).is_err() {
             self.has_memory = false;
         }
+    }
+}
+
+/// Whether the last complaint is of this place.
+fn is_last_at(complaints: &[Complaint], place: usize) -> bool
+    ensures { result ≡ stands_at place (slice_get complaints.now (length complaints.now - 1)) }
+{
+    match complaints.last() {
+        Some(last) => last.place == place,
+        None => false,
+    }
+}
+
+/// Puts an event in the place of another one, where there is one.
+fn set(events: &mut Vec<Event>, place: usize, event: Event)
+    ensures { events.new.items ≡ slice_set events.old.items place event }
+{
+    if place < events.len() {
+        events[place] = event;
+    }
+}
+
+/// Says of an inner event that the node around it begins at an outer one. Answers whether the
+/// distance fits.
+fn set_outer(events: &mut Vec<Event>, inner: usize, outer: usize) -> bool
+    ensures { IsTrue result
+        → events.new.items ≡ outer_at inner (outer - inner) events.old.items }
+{
+    let Ok(distance) = u32::try_from(outer.saturating_sub(inner)) else {
+        return false;
+    };
+    if inner < events.len() {
+        let event = around_by(events[inner], distance);
+        events[inner] = event;
+    }
+    true
+}
+
+fn around_by(event: Event, distance: u32) -> Event
+    ensures { result ≡ around_by distance event }
+{
+    match event {
+        Event::Open(kind, _) => Event::Open(kind, distance),
+        Event::Around(kind, _) => Event::Around(kind, distance),
+        Event::Close => Event::Close,
+        Event::Token => Event::Token,
+        Event::Joined(kind, n) => Event::Joined(kind, n),
+        Event::Nothing => Event::Nothing,
     }
 }

@@ -1,36 +1,46 @@
 //! From a text to its tree, by a lexer and a grammar.
-ghost use Rattle.std.specs.Prelude.{◌≡◌, ◌<◌, ◌≤◌, ◌++◌, ◌∷◌, [], length, All, IfOk, IfErr, OnOk};
-ghost use Rattle.std.specs.Prelude.{if◌then◌else◌};
+ghost use Rattle.std.specs.Prelude.{◌≡◌, ◌<◌, ◌≤◌, ◌++◌, ◌∷◌, [], length, map, get_or, cond};
+ghost use Rattle.std.specs.Prelude.{IfOk, IfErr, OnOk, List};
 ghost use Rattle.rowan_green.specs.Cache.{first_seen};
 ghost use Rattle.rowan_green.specs.Fits.{byte_limit};
-ghost use Rattle.rowan_green.specs.Path.{tokens};
 ghost use Rattle.rowan_green.specs.Stream.{subterms, Grows};
 ghost use Rattle.rowan_green.specs.Term.{node_kind, node_text};
 ghost use Rattle.rowan_green.specs.declared.utility_types.NodeOrToken.TheVariants.{Node};
-ghost use Rattle.rowan_parser.specs.Building.{WhyNoTree};
-ghost use Rattle.rowan_parser.specs.Events.{seen_kinds, IsParsed, IsRun};
-ghost use Rattle.rowan_parser.specs.Seen.{kinds_from};
-ghost use Rattle.rowan_parser.specs.Tokens.{IsErrorRange, leaf_texts};
-ghost use Rattle.rowan_parser.specs.Tokens.{tokens_text, texts_of, with_kinds};
+ghost use Rattle.rowan_parser.specs.Parsing.{has_line_end, pieces_since, pieces, ranges_from, end_of};
+ghost use Rattle.rowan_parser.specs.Parsing.{error_value, error_of, IsRun, WhyNotRun};
+ghost use Rattle.rowan_parser.specs.Parsing.{IsParsed, WhyNotParsed, WhyNoTree};
+ghost use Rattle.rowan_parser.specs.Seen.{piece};
+ghost use Rattle.rowan_parser.specs.Tokens.{tokens_text};
+ghost use Rattle.rowan_parser.specs.declared.lexer.Token.{Token};
 
+use crate::event::Event;
 use crate::lexer::{Lexer, Token, lex};
-use crate::parsed::{Parse, Renamed, SyntaxError};
-use crate::parser::{Complaint, Log, Parser, SeenToken};
+use crate::parsed::{Parse, SyntaxError};
+use crate::parser::{Complaint, Parser, SeenToken};
+use crate::running::{Made, run_grammar};
 use crate::tree::{Source, Trivia, build_tree_with, is_trivia};
-use rowan::{Fault, Language, NodeCache, SyntaxKind, TextRange, TextSize};
+use rowan::{Fault, Language, NodeCache, TextRange, TextSize};
 use std::alloc::Global;
 
-/// Parses a text. The tree has every byte of it, whatever the lexer says and the grammar does: its
-/// leaves are the tokens that the lexer said, each with that kind, but those that are listed as
-/// renamed. An error stands at the token that was the current one when the grammar complained, or
-/// at the end of the text.
+/// What a grammar did over the tokens of a text, without a tree.
+#[derive(Drop)]
+pub struct Ran<'text> {
+    pub tokens: Vec<Token<'text>>,
+    /// What `build_tree` makes a tree of.
+    pub events: Vec<Event>,
+    /// In the order in which the grammar complained.
+    pub errors: Vec<SyntaxError>,
+}
+
+/// Parses a text. The tree has every byte of it, whatever the lexer says and the grammar does: it is
+/// the tree of the grammar's events over the lexer's tokens. An error stands at the token that was
+/// the current one when the grammar complained, or at the end of the text.
 ///
-/// An `Err` with `TextTooLong` exactly for a text of more than 4,294,967,295 bytes, with
-/// `TooManyChildren` where the grammar puts more than 4,294,967,295 nodes and tokens into one node,
-/// and else only with `Memory`.
-pub fn parse<L: Language, X: Lexer + Drop, G: FnOnce(&mut Parser<L>)>(
+/// Errors: `TextTooLong` if the text has more than 4,294,967,295 bytes; `TooManyChildren` if a node
+/// of the tree has more than 4,294,967,295 children; `Memory` if an allocation failed.
+pub fn parse<'text, L: Language, X: Lexer + Drop, G: FnOnce(&mut Parser<'text, L>)>(
     alloc: Global,
-    text: &str,
+    text: &'text str,
     lexer: X,
     trivia: Trivia<'_>,
     root: L::Kind,
@@ -41,13 +51,13 @@ pub fn parse<L: Language, X: Lexer + Drop, G: FnOnce(&mut Parser<L>)>(
 
     ensures text { IfOk result (λ parse. node_text parse.green ≡ text.now) }
     ensures parsed { IfOk result (λ parse.
-        IsParsed X.says lexer (IsRun G.FnOnce grammar) text.now trivia.entry parse.renamed.items
-        parse.green) }
-    ensures errors { IfOk result (λ parse.
-        All (λ error. IsErrorRange (leaf_texts (tokens (Node parse.green))) error.range)
-        parse.errors.items) }
+        IsParsed (IsRun X.says lexer G.FnOnce grammar trivia.entry text.now) trivia.entry
+        (L.code root) parse.errors.items parse.green) }
     ensures kind { IfOk result (λ parse. L.meaning (node_kind parse.green) ≡ root) }
-    ensures err { IfErr result (WhyNoTree text.now) }
+    ensures err { IfErr result (WhyNotParsed
+        (IsRun X.says lexer G.FnOnce grammar trivia.entry text.now) trivia.entry (L.code root)
+        text.now) }
+    ensures no_tree { IfErr result (WhyNoTree text.now) }
     ensures too_long { byte_limit < length text.now → result ≡ Err Fault.TextTooLong }
 {
     let mut cache = NodeCache::new(alloc);
@@ -57,9 +67,9 @@ pub fn parse<L: Language, X: Lexer + Drop, G: FnOnce(&mut Parser<L>)>(
 /// Parses a text as `parse` does, with a cache that is lent to the builder: what stands in the
 /// cache is shared, and what the tree has of tokens and of small nodes is in the cache afterwards.
 /// A text past the limit leaves the cache as it was.
-pub fn parse_with<L: Language, X: Lexer + Drop, G: FnOnce(&mut Parser<L>)>(
+pub fn parse_with<'text, L: Language, X: Lexer + Drop, G: FnOnce(&mut Parser<'text, L>)>(
     alloc: Global,
-    text: &str,
+    text: &'text str,
     lexer: X,
     trivia: Trivia<'_>,
     root: L::Kind,
@@ -71,13 +81,13 @@ pub fn parse_with<L: Language, X: Lexer + Drop, G: FnOnce(&mut Parser<L>)>(
 
     ensures text { IfOk result (λ parse. node_text parse.green ≡ text.now) }
     ensures parsed { IfOk result (λ parse.
-        IsParsed X.says lexer (IsRun G.FnOnce grammar) text.now trivia.entry parse.renamed.items
-        parse.green) }
-    ensures errors { IfOk result (λ parse.
-        All (λ error. IsErrorRange (leaf_texts (tokens (Node parse.green))) error.range)
-        parse.errors.items) }
+        IsParsed (IsRun X.says lexer G.FnOnce grammar trivia.entry text.now) trivia.entry
+        (L.code root) parse.errors.items parse.green) }
     ensures kind { IfOk result (λ parse. L.meaning (node_kind parse.green) ≡ root) }
-    ensures err { IfErr result (WhyNoTree text.now) }
+    ensures err { IfErr result (WhyNotParsed
+        (IsRun X.says lexer G.FnOnce grammar trivia.entry text.now) trivia.entry (L.code root)
+        text.now) }
+    ensures no_tree { IfErr result (WhyNoTree text.now) }
     ensures too_long { byte_limit < length text.now → result ≡ Err Fault.TextTooLong }
 
     // What is left in the cache.
@@ -86,19 +96,12 @@ pub fn parse_with<L: Language, X: Lexer + Drop, G: FnOnce(&mut Parser<L>)>(
     ensures grows { Grows cache.old cache.new }
     ensures unchanged { byte_limit < length text.now → cache.new ≡ cache.old }
 {
-    if text.len() > u32::MAX as usize {
-        return Err(Fault::TextTooLong);
-    }
-    let tokens = lex(alloc, text, lexer)?;
-    let log = run(alloc, text, tokens.as_slice(), trivia, grammar)?;
-    let Log {
+    let ran = run(alloc, text, lexer, trivia, grammar)?;
+    let Ran {
+        tokens,
         events,
-        complaints,
-        renames,
-        has_memory: _,
-    } = log;
-    let errors = errors_at(alloc, tokens.as_slice(), trivia.kinds, complaints)?;
-    let tokens = rename(tokens, renames.as_slice());
+        errors,
+    } = ran;
     let source = Source {
         root_kind: L::kind_to_raw(root),
         tokens: tokens.as_slice(),
@@ -106,87 +109,119 @@ pub fn parse_with<L: Language, X: Lexer + Drop, G: FnOnce(&mut Parser<L>)>(
         events: events.as_slice(),
     };
     let green = build_tree_with(alloc, &source, cache)?;
-    Ok(Parse {
-        green,
+    Ok(Parse { green, errors })
+}
+
+/// Runs a grammar over the tokens of a text that are no trivia, and makes no tree. `parse` is this
+/// and `build_tree`.
+///
+/// Errors: `TextTooLong` if the text has more than 4,294,967,295 bytes; `Memory` if an allocation
+/// failed.
+pub fn run<'text, L: Language, X: Lexer + Drop, G: FnOnce(&mut Parser<'text, L>)>(
+    alloc: Global,
+    text: &'text str,
+    lexer: X,
+    trivia: Trivia<'_>,
+    grammar: G,
+) -> Result<Ran<'text>, Fault>
+    requires lexer { X.is_ready lexer }
+    requires grammar { G.IsAlwaysCallable grammar }
+    ensures ran { IfOk result (λ ran. IsRun X.says lexer G.FnOnce grammar trivia.entry text.now
+        ran.tokens.items ran.events.items ran.errors.items) }
+    ensures err { IfErr result (WhyNotRun text.now) }
+    ensures too_long { byte_limit < length text.now → result ≡ Err Fault.TextTooLong }
+{
+    if text.len() > u32::MAX as usize {
+        return Err(Fault::TextTooLong);
+    }
+    let tokens = lex(alloc, text, lexer)?;
+    let seen = seen_tokens(alloc, tokens.as_slice(), trivia)?;
+    let made = run_grammar(alloc, seen, grammar)?;
+    let Made { events, complaints } = made;
+    let errors = errors_at(alloc, tokens.as_slice(), trivia, complaints)?;
+    Ok(Ran {
+        tokens,
+        events,
         errors,
-        renamed: renames,
     })
 }
 
-/// Runs the grammar over the tokens that are no trivia.
-fn run<L: Language, G: FnOnce(&mut Parser<L>)>(
-    alloc: Global,
-    text: &str,
-    tokens: &[Token<'_>],
-    trivia: Trivia<'_>,
-    grammar: G,
-) -> Result<Log, Fault>
-    requires { G.IsAlwaysCallable grammar }
-    ensures ran { IfOk result (λ _.
-        IsRun G.FnOnce grammar (seen_kinds trivia.entry tokens.now)) }
-    ensures err { IfErr result (λ e. e ≡ Fault.Memory) }
-{
-    let seen = seen_tokens(alloc, tokens, trivia)?;
-    let mut parser = Parser::new(alloc, String::from_str(alloc, text)?, seen);
-    grammar(&mut parser);
-    let log = parser.into_log();
-    if !log.has_memory {
-        return Err(Fault::Memory);
-    }
-    Ok(log)
+/// What stands between a token and the one before it that is no trivia.
+#[derive(Clone, Copy)]
+struct Gap {
+    is_joined: bool,
+    is_after_line: bool,
 }
 
 /// The tokens that are no trivia.
-fn seen_tokens(
+fn seen_tokens<'text>(
     alloc: Global,
-    tokens: &[Token<'_>],
+    tokens: &[Token<'text>],
     trivia: Trivia<'_>,
-) -> Result<Vec<SeenToken>, Fault>
-    ensures kinds { IfOk result (λ seen. kinds_from 0 seen.items
-        ≡ seen_kinds trivia.entry tokens.now) }
+) -> Result<Vec<SeenToken<'text>>, Fault>
+    ensures seen { IfOk result (λ seen.
+        map piece seen.items ≡ pieces trivia.entry tokens.now) }
     ensures err { IfErr result (λ e. e ≡ Fault.Memory) }
 {
     let mut seen = Vec::with_capacity(alloc, tokens.len())?;
-    let mut end = 0u32;
-    let mut number = 0u32;
+    let mut gap = Gap {
+        is_joined: false,
+        is_after_line: false,
+    };
     for token in tokens {
-        let start = end;
-        end = start.saturating_add(u32::try_from(token.text.len()).unwrap_or(u32::MAX));
-        let place = SeenToken {
-            number,
-            start,
-            end,
-            kind: token.kind,
-        };
-        push_seen(&mut seen, place, is_trivia(trivia, token))?;
-        number = number.saturating_add(1);
+        gap = see(&mut seen, trivia, gap, token)?;
     }
     Ok(seen)
 }
 
-/// Puts a token behind the others, unless it is trivia.
-#[tactic(auto, using(crate::proofs::SeenLemmas::kinds_of_push))]
-fn push_seen(seen: &mut Vec<SeenToken>, token: SeenToken, is_trivia: bool) -> Result<(), Fault>
-    ensures kinds { OnOk result (kinds_from 0 seen.new.items
-        ≡ kinds_from 0 seen.old.items ++ (if is_trivia then [] else token.kind.0 ∷ [])) }
+/// Puts a token behind the others, unless it is trivia, and gives what then stands before the next.
+#[inline(always)]
+fn see<'text>(
+    seen: &mut Vec<SeenToken<'text>>,
+    trivia: Trivia<'_>,
+    gap: Gap,
+    token: &Token<'text>,
+) -> Result<Gap, Fault>
+    ensures seen { IfOk result (λ next. (others : List Token) → map piece seen.new.items
+        ++ pieces_since next.is_joined next.is_after_line trivia.entry others
+        ≡ map piece seen.old.items
+        ++ pieces_since gap.is_joined gap.is_after_line trivia.entry (token.now ∷ others)) }
     ensures err { IfErr result (λ e. e ≡ Fault.Memory) }
 {
-    if !is_trivia {
-        seen.push(token)?;
+    if is_trivia(trivia, token) {
+        return Ok(Gap {
+            is_joined: false,
+            is_after_line: gap.is_after_line || has_line_end(token.text),
+        });
     }
-    Ok(())
+    seen.push(SeenToken {
+        kind: token.kind,
+        text: token.text,
+        is_joined: gap.is_joined,
+        is_after_line: gap.is_after_line,
+    })?;
+    Ok(Gap {
+        is_joined: true,
+        is_after_line: false,
+    })
+}
+
+fn has_line_end(text: &str) -> bool
+    ensures { result ≡ has_line_end text.now }
+{
+    text.as_bytes().contains(&10)
 }
 
 /// The complaints with the ranges of their tokens.
 fn errors_at(
     alloc: Global,
     tokens: &[Token<'_>],
-    trivia: &[SyntaxKind],
+    trivia: Trivia<'_>,
     complaints: Vec<Complaint>,
 ) -> Result<Vec<SyntaxError>, Fault>
     requires { length (tokens_text tokens.now) ≤ byte_limit }
-    ensures ranges { IfOk result (λ errors.
-        All (λ error. IsErrorRange (texts_of tokens.now) error.range) errors.items) }
+    ensures told { IfOk result (λ errors. map error_value errors.items
+        ≡ map (error_of trivia.entry tokens.now) complaints.items) }
     ensures err { IfErr result (λ e. e ≡ Fault.Memory) }
 {
     let mut errors = Vec::new(alloc);
@@ -207,11 +242,11 @@ fn errors_at(
 fn ranges_of(
     alloc: Global,
     tokens: &[Token<'_>],
-    trivia: &[SyntaxKind],
+    trivia: Trivia<'_>,
 ) -> Result<Vec<TextRange>, Fault>
     requires { length (tokens_text tokens.now) ≤ byte_limit }
-    ensures ranges { IfOk result (λ ranges. All (IsErrorRange (texts_of tokens.now)) ranges.items) }
-    ensures some { IfOk result (λ ranges. 0 < length ranges.items) }
+    ensures ranges { IfOk result (λ ranges. ranges.items
+        ≡ ranges_from 0 trivia.entry tokens.now ++ end_of tokens.now ∷ []) }
     ensures err { IfErr result (λ e. e ≡ Fault.Memory) }
 {
     let mut ranges = Vec::new(alloc);
@@ -219,36 +254,22 @@ fn ranges_of(
     for token in tokens {
         let start = end;
         end += token.text.len() as u32;
-        if !trivia.contains(&token.kind) {
-            ranges.push(TextRange::new(TextSize::from(start), TextSize::from(end)))?;
-        }
+        let range = TextRange::new(TextSize::from(start), TextSize::from(end));
+        push_range(&mut ranges, range, is_trivia(trivia, token))?;
     }
     ranges.push(TextRange::new(TextSize::from(end), TextSize::from(end)))?;
     Ok(ranges)
 }
 
-/// The tokens, of which some have the kinds by which the grammar took them.
-fn rename<'text>(mut tokens: Vec<Token<'text>>, renames: &[Renamed]) -> Vec<Token<'text>>
-    ensures { result.items ≡ with_kinds renames.now tokens.entry.items }
+/// Puts the range of a token behind the others, unless the token is trivia.
+#[inline(always)]
+fn push_range(ranges: &mut Vec<TextRange>, range: TextRange, is_trivia: bool) -> Result<(), Fault>
+    ensures ranges { OnOk result (ranges.new.items
+        ≡ ranges.old.items ++ cond is_trivia [] (range ∷ [])) }
+    ensures err { IfErr result (λ e. e ≡ Fault.Memory) }
 {
-    let mut rest = renames;
-    while let Some((rename, others)) = rest.split_first() {
-        let Renamed { leaf, kind } = *rename;
-        if leaf < tokens.len() {
-            let token = token_with_kind(&tokens[leaf], kind);
-            tokens[leaf] = token;
-        }
-        rest = others;
+    if !is_trivia {
+        ranges.push(range)?;
     }
-    tokens
-}
-
-fn token_with_kind<'text>(token: &Token<'text>, kind: SyntaxKind) -> Token<'text>
-    ensures text { result.text ≡ token.now.text }
-    ensures kind { result.kind ≡ kind }
-{
-    Token {
-        kind,
-        text: token.text,
-    }
+    Ok(())
 }

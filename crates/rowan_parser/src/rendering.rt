@@ -33,8 +33,10 @@ pub fn render(
         render_error(&mut out, &index, error, name)?;
     }
     let more = errors.len().saturating_sub(limit);
-    if more > 0 {
-        writeln!(out, "{more} more errors")?;
+    match more {
+        0 => {}
+        1 => writeln!(out, "1 more error")?,
+        _ => writeln!(out, "{more} more errors")?,
     }
     Ok(out)
 }

@@ -1,7 +1,7 @@
-//! Trees of events: each list of events has a tree, and its leaves are exactly the tokens.
-ghost use Rattle.std.specs.Prelude.{◌≡◌, ◌+◌, ◌-◌, ◌<◌, ◌++◌, ◌∷◌, [], length, IfOk, IfErr, OnOk};
-ghost use Rattle.std.specs.Prelude.{IsTrue, IsSome};
-ghost use Rattle.std.specs.Prelude.{◌==◌, reverse, take, drop, take_while};
+//! Trees of events: each list of events has a tree, and its leaves have the text of the tokens.
+ghost use Rattle.std.specs.Prelude.{◌≡◌, ◌+◌, ◌-◌, ◌<◌, ◌≤◌, ◌++◌, ◌∷◌, [], length, IfOk, IfErr};
+ghost use Rattle.std.specs.Prelude.{◌==◌, OnOk, OnErr, IsTrue, false, cond, take, drop};
+ghost use Rattle.std.specs.Prelude.{take_while, string_bytes};
 ghost use Rattle.std.specs.List.{list_any};
 ghost use Rattle.rowan_green.specs.Cache.{first_seen};
 ghost use Rattle.rowan_green.specs.Loan.{value_of, word_of, loan_of};
@@ -11,11 +11,12 @@ ghost use Rattle.rowan_green.specs.Term.{node_kind, node_text};
 ghost use Rattle.rowan_green.specs.Word.{Open, Close, node_word};
 ghost use Rattle.rowan_green.specs.declared.utility_types.NodeOrToken.TheVariants.{Node};
 ghost use Rattle.rowan_parser.specs.Tokens.{tokens_text, token_terms};
-ghost use Rattle.rowan_parser.specs.Building.{IsBuilt, IsBuilding, WhyRefused};
+ghost use Rattle.rowan_parser.specs.Building.{WhyRefused, WhyNotPut, IsAhead, IsBuilding, IsBuilt};
+ghost use Rattle.rowan_parser.specs.Building.{raw, to_come, AreDone};
 ghost use Rattle.rowan_parser.specs.Events.{begun, is_trivia, stays_outside, past, begins_with};
-ghost use Rattle.rowan_parser.specs.Events.{leaves, closings, opening, openings, around};
-ghost use Rattle.rowan_parser.specs.Events.{spelled_by, tree_word};
-ghost use Rattle.rowan_parser.specs.Events.{Puts};
+ghost use Rattle.rowan_parser.specs.Events.{up_to, behind, leaves, one_leaf, closings};
+ghost use Rattle.rowan_parser.specs.Events.{tree_word, join_some, Puts};
+ghost use Rattle.rowan_parser.specs.Shape.{around, enters, steps, Enter};
 
 use crate::event::Event;
 use crate::lexer::Token;
@@ -42,10 +43,14 @@ pub struct Source<'a, 'text> {
     pub events: &'a [Event],
 }
 
-/// How many tokens are put, and how many nodes are open in the root.
+/// How far the tree is built.
 #[derive(Clone, Copy)]
-struct Progress {
+pub(crate) struct Progress {
+    /// How many tokens are put.
     put: usize,
+    /// The number of the first token from there on that is no trivia.
+    next: usize,
+    /// How many nodes are open in the root.
     depth: usize,
 }
 
@@ -55,15 +60,20 @@ struct Progress {
 ///
 /// Trivia stand before the node that begins behind them, unless they are attached to it, and behind
 /// the node that ends before them; trivia between two parts of a node stand in it.
+///
+/// Errors: `TextTooLong` if the text has more than 4,294,967,295 bytes; `TooManyChildren` if a node
+/// of the tree has more than 4,294,967,295 children; `Memory` if an allocation failed.
 pub fn build_tree(alloc: Global, source: &Source<'_, '_>) -> Result<GreenNode, Fault>
     ensures kind { IfOk result (λ tree. node_kind tree ≡ source.now.root_kind.0) }
-    ensures tokens { IfOk result (λ tree.
-        tokens (Node tree) ≡ token_terms source.now.tokens.now) }
-    ensures text { IfOk result (λ tree. node_text tree ≡ tokens_text source.now.tokens.now) }
     ensures shape { IfOk result (λ tree. node_word tree
         ≡ tree_word source.now.root_kind.0 source.now.trivia source.now.tokens.now
         source.now.events.now) }
-    ensures err { IfErr result (WhyRefused source.now.tokens.now) }
+    ensures text { IfOk result (λ tree. node_text tree ≡ tokens_text source.now.tokens.now) }
+    ensures tokens { join_some source.now.events.now ≡ false → IfOk result (λ tree.
+        tokens (Node tree) ≡ token_terms source.now.tokens.now) }
+    ensures err { IfErr result (WhyRefused
+        (tree_word source.now.root_kind.0 source.now.trivia source.now.tokens.now
+        source.now.events.now) source.now.tokens.now) }
 {
     let mut cache = NodeCache::new(alloc);
     build_tree_with(alloc, source, &mut cache)
@@ -78,13 +88,15 @@ pub fn build_tree_with(
     cache: &mut NodeCache,
 ) -> Result<GreenNode, Fault>
     ensures kind { IfOk result (λ tree. node_kind tree ≡ source.now.root_kind.0) }
-    ensures tokens { IfOk result (λ tree.
-        tokens (Node tree) ≡ token_terms source.now.tokens.now) }
-    ensures text { IfOk result (λ tree. node_text tree ≡ tokens_text source.now.tokens.now) }
     ensures shape { IfOk result (λ tree. node_word tree
         ≡ tree_word source.now.root_kind.0 source.now.trivia source.now.tokens.now
         source.now.events.now) }
-    ensures err { IfErr result (WhyRefused source.now.tokens.now) }
+    ensures text { IfOk result (λ tree. node_text tree ≡ tokens_text source.now.tokens.now) }
+    ensures tokens { join_some source.now.events.now ≡ false → IfOk result (λ tree.
+        tokens (Node tree) ≡ token_terms source.now.tokens.now) }
+    ensures err { IfErr result (WhyRefused
+        (tree_word source.now.root_kind.0 source.now.trivia source.now.tokens.now
+        source.now.events.now) source.now.tokens.now) }
 
     // What is left in the cache.
     ensures interned { IfOk result (λ tree.
@@ -106,46 +118,53 @@ fn replay(
     source: &Source<'_, '_>,
 ) -> Result<(), Fault>
     requires empty { word_of builder.old ≡ [] }
-    ensures ok { OnOk result
-        (IsBuilt source.now.root_kind.0 source.now.tokens.now (word_of builder.new)) }
+    ensures ok { OnOk result (IsBuilt source.now.root_kind.0 (word_of builder.new)) }
     ensures spells { OnOk result (word_of builder.new
         ≡ tree_word source.now.root_kind.0 source.now.trivia source.now.tokens.now
         source.now.events.now) }
-    ensures err { IfErr result (WhyRefused source.now.tokens.now) }
+    ensures err { IfErr result (WhyRefused
+        (tree_word source.now.root_kind.0 source.now.trivia source.now.tokens.now
+        source.now.events.now) source.now.tokens.now) }
     ensures stream { BuildsOn (value_of builder.old) (value_of builder.new) }
     ensures loan { loan_of builder.new ≡ loan_of builder.old }
 {
     builder.start_node(source.root_kind)?;
-    let mut progress = Progress { put: 0, depth: 0 };
+    let mut progress = Progress {
+        put: 0,
+        next: next_seen(source, 0),
+        depth: 0,
+    };
+    let mut kinds = Vec::new(alloc);
     let mut events = source.events;
     while let Some((event, others)) = events.split_first() {
-        progress = put_event(alloc, builder, source, progress, event, others)?;
+        progress = put_event(alloc, builder, source, &mut kinds, progress, event, others)?;
         events = others;
     }
     let progress = close_all(builder, source, progress)?;
-    put_rest(builder, source, progress)?;
+    let all_put = put_rest(builder, source, progress)?;
     builder.finish_node()
 }
 
-/// Puts what an event says, behind which these others stand.
-#[tactic(auto, using(crate::proofs::Spelling::spelled_alone, crate::proofs::Spelling::spelled_open, crate::proofs::Spelling::spelled_close, crate::proofs::Spelling::spelled_token))]
+/// Puts what an event says, behind which these others stand. `kinds` is there to be filled, and is
+/// left empty.
 fn put_event(
     alloc: Global,
     builder: &mut GreenNodeBuilder<'_>,
     source: &Source<'_, '_>,
+    kinds: &mut Vec<SyntaxKind>,
     progress: Progress,
     event: &Event,
     others: &[Event],
 ) -> Result<Progress, Fault>
-    requires { IsBuilding source.now.root_kind.0 source.now.tokens.now (word_of builder.old)
-        progress.put progress.depth }
-    ensures ok { IfOk result (λ p. IsBuilding source.now.root_kind.0 source.now.tokens.now
-        (word_of builder.new) p.put p.depth) }
-    ensures spells { IfOk result (λ p. word_of builder.new
-        ++ spelled_by source.now.trivia p.depth others.now (drop p.put source.now.tokens.now)
-        ≡ word_of builder.old ++ spelled_by source.now.trivia progress.depth
-        (event.now ∷ others.now) (drop progress.put source.now.tokens.now)) }
-    ensures err { IfErr result (WhyRefused source.now.tokens.now) }
+    requires building { IsBuilding source.now (word_of builder.old) progress }
+    requires no_kinds { kinds.old.items ≡ [] }
+    ensures ok { IfOk result (IsBuilding source.now (word_of builder.new)) }
+    ensures spells { IfOk result (λ p. to_come source.now (word_of builder.new) p
+        (steps others.now) ≡ to_come source.now (word_of builder.old) progress
+        (steps (event.now ∷ others.now))) }
+    ensures no_kinds { IfOk result (λ _. kinds.new.items ≡ []) }
+    ensures err { IfErr result (WhyRefused (to_come source.now (word_of builder.old) progress
+        (steps (event.now ∷ others.now))) source.now.tokens.now) }
     ensures stream { BuildsOn (value_of builder.old) (value_of builder.new) }
     ensures loan { loan_of builder.new ≡ loan_of builder.old }
 {
@@ -154,7 +173,7 @@ fn put_event(
             if *outer == 0 {
                 return open_node(builder, source, progress, *kind);
             }
-            let kinds = kinds_around(alloc, others, *outer)?;
+            find_around(kinds, others, *outer)?;
             open_nodes(builder, source, progress, kinds, *kind)
         }
         Event::Close => close_node(builder, source, progress),
@@ -162,23 +181,28 @@ fn put_event(
             let progress = put_trivia(builder, source, progress)?;
             put_token(builder, source, progress)
         }
+        Event::Joined(kind, count) => {
+            let progress = put_trivia(builder, source, progress)?;
+            put_joined(alloc, builder, source, progress, *kind, *count)
+        }
         Event::Around(_, _) => Ok(progress),
         Event::Nothing => Ok(progress),
     }
 }
 
-/// The kinds of the nodes around one, from the inside out, of which the first is so many events on.
-#[tactic(auto, using(crate::proofs::Spelling::around_done))]
-fn kinds_around(alloc: Global, events: &[Event], mut outer: u32) -> Result<Vec<SyntaxKind>, Fault>
-    ensures ok { IfOk result (λ kinds. kinds.items ≡ around outer events.now) }
+/// Fills `kinds` with the kinds of the nodes around one, from the inside out, of which the first is
+/// so many events on.
+#[tactic(auto, using(crate::proofs::Around::around_done))]
+fn find_around(kinds: &mut Vec<SyntaxKind>, events: &[Event], mut outer: u32) -> Result<(), Fault>
+    requires { kinds.old.items ≡ [] }
+    ensures ok { OnOk result (raw kinds.new.items ≡ around outer events.now) }
     ensures err { IfErr result (λ e. e ≡ Fault.Memory) }
 {
-    let mut kinds = Vec::new(alloc);
     let mut rest = events;
     while outer > 0 {
         let distance = outer as usize;
         if distance > rest.len() {
-            return Ok(kinds);
+            return Ok(());
         }
         let (_, others) = rest.split_at(distance);
         match begun(rest[distance - 1]) {
@@ -186,11 +210,11 @@ fn kinds_around(alloc: Global, events: &[Event], mut outer: u32) -> Result<Vec<S
                 kinds.push(node.0)?;
                 outer = node.1;
             }
-            None => return Ok(kinds),
+            None => return Ok(()),
         }
         rest = others;
     }
-    Ok(kinds)
+    Ok(())
 }
 
 /// The kind of the node that begins at an event, and how many events on the one around it begins.
@@ -202,30 +226,26 @@ fn begun(event: Event) -> Option<(SyntaxKind, u32)>
         Event::Around(kind, outer) => Some((kind, outer)),
         Event::Close => None,
         Event::Token => None,
+        Event::Joined(_, _) => None,
         Event::Nothing => None,
     }
 }
 
-/// Opens nodes of these kinds, the last one first, and in them one of this kind.
-#[tactic(auto, using(crate::proofs::Spelling::opening_begins, crate::proofs::Spelling::opening_ends))]
+/// Opens nodes of these kinds, the last one first, and in them one of this kind. No kinds are left.
+#[tactic(auto, using(crate::proofs::Spelling::opening_begins))]
 fn open_nodes(
     builder: &mut GreenNodeBuilder<'_>,
     source: &Source<'_, '_>,
     mut progress: Progress,
-    mut kinds: Vec<SyntaxKind>,
+    kinds: &mut Vec<SyntaxKind>,
     kind: SyntaxKind,
 ) -> Result<Progress, Fault>
-    requires { IsBuilding source.now.root_kind.0 source.now.tokens.now (word_of builder.old)
-        progress.put progress.depth }
-    ensures ok { IfOk result (λ p. IsBuilding source.now.root_kind.0 source.now.tokens.now
-        (word_of builder.new) p.put p.depth) }
-    ensures puts { let left = drop progress.put source.now.tokens.now in
-        IfOk result (λ p. Puts source.now.tokens.now (word_of builder.old)
-        (openings source.now.trivia (reverse kinds.items) kind left)
-        (past (is_trivia source.now.trivia) left) (word_of builder.new) p.put) }
-    ensures more { IfOk result (λ p. p.depth
-        ≡ progress.depth + length kinds.items + 1) }
-    ensures err { IfErr result (WhyRefused source.now.tokens.now) }
+    requires { IsBuilding source.now (word_of builder.old) progress }
+    ensures ok { IfOk result (IsBuilding source.now (word_of builder.new)) }
+    ensures done { IfOk result (AreDone source.now (word_of builder.old) progress
+        (enters (raw kinds.old.items) ++ Enter kind.0 ∷ []) (word_of builder.new)) }
+    ensures no_kinds { IfOk result (λ _. kinds.new.items ≡ []) }
+    ensures err { IfErr result (WhyNotPut source.now.tokens.now) }
     ensures stream { BuildsOn (value_of builder.old) (value_of builder.new) }
     ensures loan { loan_of builder.new ≡ loan_of builder.old }
 {
@@ -244,16 +264,11 @@ fn open_node(
     progress: Progress,
     kind: SyntaxKind,
 ) -> Result<Progress, Fault>
-    requires { IsBuilding source.now.root_kind.0 source.now.tokens.now (word_of builder.old)
-        progress.put progress.depth }
-    ensures ok { IfOk result (λ p. IsBuilding source.now.root_kind.0 source.now.tokens.now
-        (word_of builder.new) p.put p.depth) }
-    ensures puts { let left = drop progress.put source.now.tokens.now in
-        IfOk result (λ p. Puts source.now.tokens.now (word_of builder.old)
-        (opening source.now.trivia kind left)
-        (past (is_trivia source.now.trivia) left) (word_of builder.new) p.put) }
-    ensures more { IfOk result (λ p. p.depth ≡ progress.depth + 1) }
-    ensures err { IfErr result (WhyRefused source.now.tokens.now) }
+    requires { IsBuilding source.now (word_of builder.old) progress }
+    ensures ok { IfOk result (IsBuilding source.now (word_of builder.new)) }
+    ensures done { IfOk result (AreDone source.now (word_of builder.old) progress
+        (Enter kind.0 ∷ []) (word_of builder.new)) }
+    ensures err { IfErr result (WhyNotPut source.now.tokens.now) }
     ensures stream { BuildsOn (value_of builder.old) (value_of builder.new) }
     ensures loan { loan_of builder.new ≡ loan_of builder.old }
 {
@@ -271,15 +286,13 @@ fn start_node(
     progress: Progress,
     kind: SyntaxKind,
 ) -> Result<Progress, Fault>
-    requires { IsBuilding source.now.root_kind.0 source.now.tokens.now (word_of builder.old)
-        progress.put progress.depth }
-    ensures ok { IfOk result (λ p. IsBuilding source.now.root_kind.0 source.now.tokens.now
-        (word_of builder.new) p.put p.depth) }
+    requires { IsBuilding source.now (word_of builder.old) progress }
+    ensures ok { IfOk result (IsBuilding source.now (word_of builder.new)) }
     ensures opens { IfOk result (λ p. word_of builder.new
         ≡ word_of builder.old ++ Open kind.0 ∷ []) }
     ensures same { IfOk result (λ p. p.put ≡ progress.put) }
     ensures more { IfOk result (λ p. p.depth ≡ progress.depth + 1) }
-    ensures err { IfErr result (WhyRefused source.now.tokens.now) }
+    ensures err { IfErr result (WhyNotPut source.now.tokens.now) }
     ensures stream { BuildsOn (value_of builder.old) (value_of builder.new) }
     ensures loan { loan_of builder.new ≡ loan_of builder.old }
 {
@@ -289,6 +302,7 @@ fn start_node(
     builder.start_node(kind)?;
     Ok(Progress {
         put: progress.put,
+        next: progress.next,
         depth,
     })
 }
@@ -299,16 +313,16 @@ fn close_node(
     source: &Source<'_, '_>,
     progress: Progress,
 ) -> Result<Progress, Fault>
-    requires { IsBuilding source.now.root_kind.0 source.now.tokens.now (word_of builder.old)
-        progress.put progress.depth }
-    ensures ok { IfOk result (λ p. IsBuilding source.now.root_kind.0 source.now.tokens.now
-        (word_of builder.new) p.put p.depth) }
+    requires { IsBuilding source.now (word_of builder.old) progress }
+    ensures ok { IfOk result (IsBuilding source.now (word_of builder.new)) }
     ensures closes { 0 < progress.depth
         → IfOk result (λ p. word_of builder.new ≡ word_of builder.old ++ Close ∷ []) }
     ensures none { progress.depth ≡ 0 → word_of builder.new ≡ word_of builder.old }
     ensures same { IfOk result (λ p. p.put ≡ progress.put) }
     ensures less { IfOk result (λ p. p.depth ≡ progress.depth - 1) }
-    ensures err { IfErr result (WhyRefused source.now.tokens.now) }
+    ensures err { IfErr result (WhyRefused (word_of builder.old ++ Close ∷ [])
+        source.now.tokens.now) }
+    ensures some { OnErr result (0 < progress.depth) }
     ensures stream { BuildsOn (value_of builder.old) (value_of builder.new) }
     ensures loan { loan_of builder.new ≡ loan_of builder.old }
 {
@@ -318,6 +332,7 @@ fn close_node(
     builder.finish_node()?;
     Ok(Progress {
         put: progress.put,
+        next: progress.next,
         depth: progress.depth - 1,
     })
 }
@@ -328,15 +343,14 @@ fn close_all(
     source: &Source<'_, '_>,
     mut progress: Progress,
 ) -> Result<Progress, Fault>
-    requires { IsBuilding source.now.root_kind.0 source.now.tokens.now (word_of builder.old)
-        progress.put progress.depth }
-    ensures ok { IfOk result (λ p. IsBuilding source.now.root_kind.0 source.now.tokens.now
-        (word_of builder.new) p.put p.depth) }
+    requires { IsBuilding source.now (word_of builder.old) progress }
+    ensures ok { IfOk result (IsBuilding source.now (word_of builder.new)) }
     ensures closes { IfOk result (λ p. word_of builder.new
         ≡ word_of builder.old ++ closings progress.depth) }
     ensures same { IfOk result (λ p. p.put ≡ progress.put) }
     ensures none { IfOk result (λ p. p.depth ≡ 0) }
-    ensures err { IfErr result (WhyRefused source.now.tokens.now) }
+    ensures err { IfErr result (WhyRefused (word_of builder.old ++ closings progress.depth)
+        source.now.tokens.now) }
     ensures stream { BuildsOn (value_of builder.old) (value_of builder.new) }
     ensures loan { loan_of builder.new ≡ loan_of builder.old }
 {
@@ -347,23 +361,21 @@ fn close_all(
 }
 
 /// Puts the next token, if there is one.
-#[tactic(auto, using(crate::proofs::Spelling::puts_none))]
+#[tactic(auto, using(crate::proofs::Passing::puts_none))]
 fn put_token(
     builder: &mut GreenNodeBuilder<'_>,
     source: &Source<'_, '_>,
     progress: Progress,
 ) -> Result<Progress, Fault>
-    requires { IsBuilding source.now.root_kind.0 source.now.tokens.now (word_of builder.old)
-        progress.put progress.depth }
-    ensures ok { IfOk result (λ p. IsBuilding source.now.root_kind.0 source.now.tokens.now
-        (word_of builder.new) p.put p.depth) }
+    requires { IsBuilding source.now (word_of builder.old) progress }
+    ensures ok { IfOk result (IsBuilding source.now (word_of builder.new)) }
     ensures puts { let left = drop progress.put source.now.tokens.now in
         IfOk result (λ p. Puts source.now.tokens.now (word_of builder.old)
         (leaves (take 1 left)) (drop 1 left) (word_of builder.new) p.put) }
     ensures same { IfOk result (λ p. p.depth ≡ progress.depth) }
     ensures more { progress.put < length source.now.tokens.now
         → IfOk result (λ p. p.put ≡ progress.put + 1) }
-    ensures err { IfErr result (WhyRefused source.now.tokens.now) }
+    ensures err { IfErr result (WhyNotPut source.now.tokens.now) }
     ensures stream { BuildsOn (value_of builder.old) (value_of builder.new) }
     ensures loan { loan_of builder.new ≡ loan_of builder.old }
 {
@@ -373,31 +385,124 @@ fn put_token(
     builder.token(token.kind, token.text)?;
     Ok(Progress {
         put: progress.put + 1,
+        next: next_after(source, progress),
         depth: progress.depth,
     })
 }
 
+/// Puts so many of the next tokens that are no trivia, and what stands between them, as one leaf of
+/// this kind.
+fn put_joined(
+    alloc: Global,
+    builder: &mut GreenNodeBuilder<'_>,
+    source: &Source<'_, '_>,
+    progress: Progress,
+    kind: SyntaxKind,
+    count: u32,
+) -> Result<Progress, Fault>
+    requires { IsBuilding source.now (word_of builder.old) progress }
+    ensures ok { IfOk result (IsBuilding source.now (word_of builder.new)) }
+    ensures puts { let left = drop progress.put source.now.tokens.now in
+        IfOk result (λ p. Puts source.now.tokens.now (word_of builder.old)
+        (one_leaf kind.0 (up_to source.now.trivia count left))
+        (behind source.now.trivia count left) (word_of builder.new) p.put) }
+    ensures same { IfOk result (λ p. p.depth ≡ progress.depth) }
+    ensures err { IfErr result (WhyNotPut source.now.tokens.now) }
+    ensures stream { BuildsOn (value_of builder.old) (value_of builder.new) }
+    ensures loan { loan_of builder.new ≡ loan_of builder.old }
+{
+    let (_, left) = source.tokens.split_at(progress.put);
+    let (tokens, _) = left.split_at(joined_len(left, source.trivia, count));
+    put_leaf(alloc, builder, kind, tokens)?;
+    let put = progress.put + tokens.len();
+    Ok(Progress {
+        put,
+        next: next_seen(source, put),
+        depth: progress.depth,
+    })
+}
+
+/// How many tokens a leaf has that is joined of so many that are no trivia.
+fn joined_len(tokens: &[Token<'_>], trivia: Trivia<'_>, mut count: u32) -> usize
+    ensures { result ≡ length (up_to trivia.entry count tokens.now) }
+{
+    let mut len = 0;
+    for token in tokens {
+        if count == 0 {
+            return len;
+        }
+        count = count_behind(trivia, token, count);
+        len += 1;
+    }
+    len
+}
+
+/// How many tokens that are no trivia are left of so many behind this one.
+#[inline(always)]
+fn count_behind(trivia: Trivia<'_>, token: &Token<'_>, count: u32) -> u32
+    requires { 0 < count }
+    ensures { result ≡ cond (is_trivia trivia.entry token.now) count (count - 1) }
+{
+    if is_trivia(trivia, token) {
+        return count;
+    }
+    count - 1
+}
+
+/// Puts tokens as one leaf, if there are any.
+fn put_leaf(
+    alloc: Global,
+    builder: &mut GreenNodeBuilder<'_>,
+    kind: SyntaxKind,
+    tokens: &[Token<'_>],
+) -> Result<(), Fault>
+    ensures ok { OnOk result (word_of builder.new
+        ≡ word_of builder.old ++ one_leaf kind.0 tokens.now) }
+    ensures err { IfErr result (WhyNotPut tokens.now) }
+    ensures stream { BuildsOn (value_of builder.old) (value_of builder.new) }
+    ensures loan { loan_of builder.new ≡ loan_of builder.old }
+{
+    let Some((token, others)) = tokens.split_first() else {
+        return Ok(());
+    };
+    if others.is_empty() {
+        return builder.token(kind, token.text);
+    }
+    let text = joined_text(alloc, tokens)?;
+    builder.token(kind, text.as_str())
+}
+
+/// The texts of tokens, one after the other.
+fn joined_text(alloc: Global, tokens: &[Token<'_>]) -> Result<String, Fault>
+    ensures ok { IfOk result (λ text. string_bytes text ≡ tokens_text tokens.now) }
+    ensures err { IfErr result (λ e. e ≡ Fault.Memory) }
+{
+    let mut text = String::new(alloc);
+    for token in tokens {
+        text.push_str(token.text)?;
+    }
+    Ok(text)
+}
+
 /// Puts the trivia that come next.
-#[tactic(auto, using(crate::proofs::Spelling::passing_begins, crate::proofs::Spelling::passing_ends))]
+#[tactic(auto, using(crate::proofs::Passing::passing_begins, crate::proofs::Passing::passing_ends))]
 fn put_trivia(
     builder: &mut GreenNodeBuilder<'_>,
     source: &Source<'_, '_>,
     mut progress: Progress,
 ) -> Result<Progress, Fault>
-    requires { IsBuilding source.now.root_kind.0 source.now.tokens.now (word_of builder.old)
-        progress.put progress.depth }
-    ensures ok { IfOk result (λ p. IsBuilding source.now.root_kind.0 source.now.tokens.now
-        (word_of builder.new) p.put p.depth) }
+    requires { IsBuilding source.now (word_of builder.old) progress }
+    ensures ok { IfOk result (IsBuilding source.now (word_of builder.new)) }
     ensures puts { let left = drop progress.put source.now.tokens.now in
         IfOk result (λ p. Puts source.now.tokens.now (word_of builder.old)
         (leaves (take_while (is_trivia source.now.trivia) left))
         (past (is_trivia source.now.trivia) left) (word_of builder.new) p.put) }
     ensures same { IfOk result (λ p. p.depth ≡ progress.depth) }
-    ensures err { IfErr result (WhyRefused source.now.tokens.now) }
+    ensures err { IfErr result (WhyNotPut source.now.tokens.now) }
     ensures stream { BuildsOn (value_of builder.old) (value_of builder.new) }
     ensures loan { loan_of builder.new ≡ loan_of builder.old }
 {
-    while is_trivia_next(source, progress.put) {
+    while is_trivia_next(source, progress) {
         progress = put_token(builder, source, progress)?;
     }
     Ok(progress)
@@ -405,53 +510,89 @@ fn put_trivia(
 
 /// Puts the trivia that come next, up to the first one that is attached to a node of this kind.
 #[inline(always)]
-#[tactic(auto, using(crate::proofs::Spelling::passing_begins, crate::proofs::Spelling::passing_ends))]
+#[tactic(auto, using(crate::proofs::Passing::passing_begins, crate::proofs::Passing::passing_ends))]
 fn put_trivia_before(
     builder: &mut GreenNodeBuilder<'_>,
     source: &Source<'_, '_>,
     mut progress: Progress,
     node: SyntaxKind,
 ) -> Result<Progress, Fault>
-    requires { IsBuilding source.now.root_kind.0 source.now.tokens.now (word_of builder.old)
-        progress.put progress.depth }
-    ensures ok { IfOk result (λ p. IsBuilding source.now.root_kind.0 source.now.tokens.now
-        (word_of builder.new) p.put p.depth) }
+    requires { IsBuilding source.now (word_of builder.old) progress }
+    ensures ok { IfOk result (IsBuilding source.now (word_of builder.new)) }
     ensures puts { let left = drop progress.put source.now.tokens.now in
         IfOk result (λ p. Puts source.now.tokens.now (word_of builder.old)
-        (leaves (take_while (stays_outside source.now.trivia node) left))
-        (past (stays_outside source.now.trivia node) left) (word_of builder.new) p.put) }
+        (leaves (take_while (stays_outside source.now.trivia node.0) left))
+        (past (stays_outside source.now.trivia node.0) left) (word_of builder.new) p.put) }
     ensures same { IfOk result (λ p. p.depth ≡ progress.depth) }
-    ensures err { IfErr result (WhyRefused source.now.tokens.now) }
+    ensures err { IfErr result (WhyNotPut source.now.tokens.now) }
     ensures stream { BuildsOn (value_of builder.old) (value_of builder.new) }
     ensures loan { loan_of builder.new ≡ loan_of builder.old }
 {
-    while is_outside_next(source, progress.put, node) {
+    while is_outside_next(source, progress, node) {
         progress = put_token(builder, source, progress)?;
     }
     Ok(progress)
 }
 
-#[tactic(auto, using(crate::proofs::Spelling::begins_there, crate::proofs::Spelling::begins_nowhere))]
-fn is_trivia_next(source: &Source<'_, '_>, put: usize) -> bool
+#[inline(always)]
+fn is_trivia_next(source: &Source<'_, '_>, progress: Progress) -> bool
+    requires { IsAhead source.now progress.put progress.next }
+    ensures begins { result
+        ≡ begins_with (is_trivia source.now.trivia) (drop progress.put source.now.tokens.now) }
+    ensures there { IsTrue result → progress.put < length source.now.tokens.now }
+{
+    progress.put < progress.next
+}
+
+/// Whether trivia come next that stay outside of a node of this kind.
+#[inline(always)]
+#[tactic(auto, using(crate::proofs::Passing::outside_there, crate::proofs::Passing::outside_nowhere))]
+fn is_outside_next(source: &Source<'_, '_>, progress: Progress, node: SyntaxKind) -> bool
+    requires { IsAhead source.now progress.put progress.next }
+    ensures begins { result ≡ begins_with (stays_outside source.now.trivia node.0)
+        (drop progress.put source.now.tokens.now) }
+    ensures there { IsTrue result → progress.put < length source.now.tokens.now }
+{
+    if !is_trivia_next(source, progress) {
+        return false;
+    }
+    let token = &source.tokens[progress.put];
+    !source.trivia.attached.contains(&(node, token.kind))
+}
+
+/// The number of the first token from this one on that is no trivia.
+fn next_seen(source: &Source<'_, '_>, put: usize) -> usize
+    requires { put ≤ length source.now.tokens.now }
+    ensures { IsAhead source.now put result }
+{
+    let mut next = put;
+    while is_trivia_at(source, next) {
+        next += 1;
+    }
+    next
+}
+
+/// The same behind the next token, which is put.
+#[inline(always)]
+fn next_after(source: &Source<'_, '_>, progress: Progress) -> usize
+    requires ahead { IsAhead source.now progress.put progress.next }
+    requires some { progress.put < length source.now.tokens.now }
+    ensures { IsAhead source.now (progress.put + 1) result }
+{
+    if progress.put < progress.next {
+        return progress.next;
+    }
+    next_seen(source, progress.put + 1)
+}
+
+#[tactic(auto, using(crate::proofs::Passing::begins_there, crate::proofs::Passing::begins_nowhere))]
+fn is_trivia_at(source: &Source<'_, '_>, put: usize) -> bool
     ensures begins { result
         ≡ begins_with (is_trivia source.now.trivia) (drop put source.now.tokens.now) }
     ensures there { IsTrue result → put < length source.now.tokens.now }
 {
     match source.tokens.get(put) {
         Some(token) => is_trivia(source.trivia, token),
-        None => false,
-    }
-}
-
-/// Whether trivia come next that stay outside of a node of this kind.
-#[tactic(auto, using(crate::proofs::Spelling::begins_there, crate::proofs::Spelling::begins_nowhere))]
-fn is_outside_next(source: &Source<'_, '_>, put: usize, node: SyntaxKind) -> bool
-    ensures begins { result
-        ≡ begins_with (stays_outside source.now.trivia node) (drop put source.now.tokens.now) }
-    ensures there { IsTrue result → put < length source.now.tokens.now }
-{
-    match source.tokens.get(put) {
-        Some(token) => stays_outside(source.trivia, token, node),
         None => false,
     }
 }
@@ -465,7 +606,7 @@ pub(crate) fn is_trivia(trivia: Trivia<'_>, token: &Token<'_>) -> bool
 
 // A loop, since lists of kinds are short, and a call of `contains` takes longer.
 #[inline(always)]
-#[tactic(auto, using(crate::proofs::SeenLemmas::any_here, crate::proofs::SeenLemmas::any_later))]
+#[tactic(auto, using(crate::proofs::KindLemmas::any_here, crate::proofs::KindLemmas::any_later))]
 fn has_kind(kinds: &[SyntaxKind], wanted: SyntaxKind) -> bool
     ensures { result ≡ list_any (λ kind. kind.0 == wanted.0) kinds.now }
 {
@@ -479,32 +620,24 @@ fn has_kind(kinds: &[SyntaxKind], wanted: SyntaxKind) -> bool
     false
 }
 
-fn stays_outside(trivia: Trivia<'_>, token: &Token<'_>, node: SyntaxKind) -> bool
-    ensures { result ≡ stays_outside trivia.entry node token.now }
-{
-    is_trivia(trivia, token) && !trivia.attached.contains(&(node, token.kind))
-}
-
 /// Puts all tokens that are left into the root.
-#[tactic(auto, using(crate::proofs::Spelling::rest_more, crate::proofs::Spelling::rest_ends))]
+#[tactic(auto, using(crate::proofs::Passing::rest_more, crate::proofs::Passing::rest_ends))]
 fn put_rest(
     builder: &mut GreenNodeBuilder<'_>,
     source: &Source<'_, '_>,
     mut progress: Progress,
-) -> Result<(), Fault>
-    requires building { IsBuilding source.now.root_kind.0 source.now.tokens.now
-        (word_of builder.old) progress.put progress.depth }
-    requires none { progress.depth ≡ 0 }
-    ensures ok { OnOk result (IsBuilding source.now.root_kind.0 source.now.tokens.now
-        (word_of builder.new) (length source.now.tokens.now) 0) }
-    ensures puts { OnOk result (word_of builder.new ≡ word_of builder.old
+) -> Result<Progress, Fault>
+    requires { IsBuilding source.now (word_of builder.old) progress }
+    ensures ok { IfOk result (IsBuilding source.now (word_of builder.new)) }
+    ensures puts { IfOk result (λ p. word_of builder.new ≡ word_of builder.old
         ++ leaves (drop progress.put source.now.tokens.now)) }
-    ensures err { IfErr result (WhyRefused source.now.tokens.now) }
+    ensures same { IfOk result (λ p. p.depth ≡ progress.depth) }
+    ensures err { IfErr result (WhyNotPut source.now.tokens.now) }
     ensures stream { BuildsOn (value_of builder.old) (value_of builder.new) }
     ensures loan { loan_of builder.new ≡ loan_of builder.old }
 {
     while progress.put < source.tokens.len() {
         progress = put_token(builder, source, progress)?;
     }
-    Ok(())
+    Ok(progress)
 }

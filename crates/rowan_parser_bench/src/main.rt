@@ -2,22 +2,25 @@
 //! arguments it prints how it is called.
 #![tactic(auto)]
 
-mod direct;
+mod direct_json;
+mod direct_sums;
 
-use anyhow::{Result, bail};
-use json_syntax::{Json, next_token};
-use rowan::{GreenNode, SyntaxNode, WalkEvent};
-use rowan_parser::{Event, Parse, lex};
+use anyhow::{Context, Result, bail};
+use arithmetic_syntax::Arithmetic;
+use json_syntax::Json;
+use rowan::{Fault, GreenNode, Language, SyntaxNode, WalkEvent};
+use rowan_parser::{Event, Parse, Token, lex};
 use std::alloc::Global;
 use std::mem::size_of;
 use std::time::Instant;
 use std::{env, io};
 
 const HELP: &str = "\
-usage: rowan_parser_bench lex|direct|events TURNS
-       rowan_parser_bench counts
+usage: rowan_parser_bench json|sums lex|direct|events TURNS
+       rowan_parser_bench json|sums counts
 
-Reads JSON from standard input, and then makes that many turns, in each of which
+Reads JSON, or sums and products, from standard input, and then makes that many turns, in each of
+which
   lex     the text is cut into tokens
   direct  the same, and a tree is built by direct calls of a builder
   events  the text is parsed by a lexer, a grammar and its events
@@ -25,38 +28,84 @@ It prints the time of all turns, and how many bytes the last tree has, or how ma
 counts  prints how many tokens the text has, how many of them are no trivia, how many nodes its tree
         has, what an event takes in memory, and whether both trees are equal";
 
+/// What is measured.
+#[derive(Clone, Copy)]
+enum Input {
+    Json,
+    Sums,
+}
+
+impl Input {
+    fn from_word(word: &str) -> Option<Input> {
+        match word {
+            "json" => Some(Input::Json),
+            "sums" => Some(Input::Sums),
+            _ => None,
+        }
+    }
+
+    fn lex(self, alloc: Global, text: &str) -> Result<Vec<Token<'_>>, Fault> {
+        match self {
+            Input::Json => lex(alloc, text, json_syntax::next_token),
+            Input::Sums => lex(alloc, text, arithmetic_syntax::next_token),
+        }
+    }
+
+    fn build(self, alloc: Global, tokens: &[Token<'_>]) -> Result<GreenNode, Fault> {
+        match self {
+            Input::Json => direct_json::build(alloc, tokens),
+            Input::Sums => direct_sums::build(alloc, tokens),
+        }
+    }
+
+    fn parse(self, alloc: Global, text: &str) -> Result<Parse, Fault> {
+        match self {
+            Input::Json => json_syntax::parse(alloc, text),
+            Input::Sums => arithmetic_syntax::parse(alloc, text),
+        }
+    }
+
+    fn is_trivia(self, token: &Token<'_>) -> bool {
+        match self {
+            Input::Json => direct_json::is_trivia(token),
+            Input::Sums => direct_sums::is_trivia(token),
+        }
+    }
+}
+
 fn main(rt: HostRuntime) -> Result<()> {
     let words: Vec<String> = env::args(&rt)?.skip(1).collect(rt.alloc())?;
-    let Some(command) = words.first() else {
+    let [input, command, ..] = words.as_slice() else {
         println!(rt; "{HELP}")?;
         return Ok(());
     };
-    let turns = match words.get(1) {
+    let input = Input::from_word(input.as_str()).context("there is no such input")?;
+    let turns = match words.get(2) {
         Some(word) => word.parse::<usize>().unwrap_or(0),
         None => 0,
     };
     let text = io::read_to_string(rt.alloc(), rt.reader())?;
     if command.as_str() == "counts" {
-        return count(&rt, text.as_str());
+        return count(&rt, input, text.as_str());
     }
     let start = Instant::now(&rt)?;
     let mut number = 0;
     for _ in 0..turns {
-        number = take_turn(rt.alloc(), command.as_str(), text.as_str())?;
+        number = take_turn(rt.alloc(), input, command.as_str(), text.as_str())?;
     }
     println!(rt; "{} ns, {number}", start.elapsed(&rt)?.as_nanos())?;
     Ok(())
 }
 
 /// Makes one turn, and gives its number.
-fn take_turn(alloc: Global, command: &str, text: &str) -> Result<usize> {
+fn take_turn(alloc: Global, input: Input, command: &str, text: &str) -> Result<usize> {
     match command {
-        "lex" => Ok(lex(alloc, text, next_token)?.len()),
+        "lex" => Ok(input.lex(alloc, text)?.len()),
         "direct" => {
-            let tokens = lex(alloc, text, next_token)?;
-            Ok(len_of(&direct::build(alloc, tokens.as_slice())?))
+            let tokens = input.lex(alloc, text)?;
+            Ok(len_of(&input.build(alloc, tokens.as_slice())?))
         }
-        "events" => Ok(len_of(&json_syntax::parse(alloc, text)?.green)),
+        "events" => Ok(len_of(&input.parse(alloc, text)?.green)),
         _ => bail!("there is no such command"),
     }
 }
@@ -65,15 +114,18 @@ fn len_of(tree: &GreenNode) -> usize {
     u32::from(tree.text_len()) as usize
 }
 
-fn count(rt: &HostRuntime, text: &str) -> Result<()> {
-    let tokens = lex(rt.alloc(), text, next_token)?;
-    let direct = direct::build(rt.alloc(), tokens.as_slice())?;
-    let parse = json_syntax::parse(rt.alloc(), text)?;
+fn count(rt: &HostRuntime, input: Input, text: &str) -> Result<()> {
+    let tokens = input.lex(rt.alloc(), text)?;
+    let direct = input.build(rt.alloc(), tokens.as_slice())?;
+    let parse = input.parse(rt.alloc(), text)?;
     let mut seen = 0usize;
     for token in tokens.iter() {
-        seen = seen.saturating_add(usize::from(!direct::is_trivia(token)));
+        seen = seen.saturating_add(usize::from(!input.is_trivia(token)));
     }
-    let nodes = count_nodes(rt.alloc(), &parse)?;
+    let nodes = match input {
+        Input::Json => count_nodes::<Json>(rt.alloc(), &parse)?,
+        Input::Sums => count_nodes::<Arithmetic>(rt.alloc(), &parse)?,
+    };
     let size = size_of::<Event>();
     let is_same = direct == parse.green;
     println!(rt;
@@ -83,8 +135,8 @@ fn count(rt: &HostRuntime, text: &str) -> Result<()> {
     Ok(())
 }
 
-fn count_nodes(alloc: Global, parse: &Parse) -> Result<usize> {
-    let root: SyntaxNode<Json> = parse.syntax(alloc)?;
+fn count_nodes<L: Language>(alloc: Global, parse: &Parse) -> Result<usize> {
+    let root: SyntaxNode<L> = parse.syntax(alloc)?;
     let mut nodes = 0usize;
     for event in root.preorder() {
         if let WalkEvent::Enter(_) = event? {

@@ -1,7 +1,8 @@
-//! Users of the parser library: sums and products, and tests of these and of lines.
+//! Tests of the parser library: sums and products, trees of events, and lines.
 #![tactic(auto)]
 
-pub mod arithmetic;
+#[cfg(test)]
+mod arithmetic;
 #[cfg(test)]
 mod lines;
 #[cfg(test)]

@@ -11,7 +11,12 @@ loop-rest-preserved g c =
     let token = token_said g.X.Lexer.says c.loop-rest.lexer c.next-len.new.self c.loop-rest.rest.now
     c.next-len.result c.max.result c.ceil_char_boundary.result
     (record { kind = c.next-len.result.0; text = c.split_at.result.0 }) c.next-len.ensures.says
-    refl c.max.ensures cut.bound cut.nearest parts.front_len in
+    refl c.max.ensures (record {
+      border = cut.boundary;
+      reached = cut.bound;
+      first = cut.nearest;
+      past = cut.beyond;
+    }) parts.front_len in
     record {
       utf8 = search rules;
       ready = search rules;

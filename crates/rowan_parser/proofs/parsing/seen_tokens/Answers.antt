@@ -1,9 +1,22 @@
-use Rattle.std.proofs.Common.{refl, arith}
-use Rattle.rowan_parser.proofs.SeenLemmas.{seen_kinds_next}
+use Rattle.std.proofs.Common.{ap, sym, ◌∙◌, ◌++◌, ◌+◌, map, drop, arith}
+use Rattle.std.proofs.lemmas.List.{drop_more}
+use Rattle.rowan_parser.specs.Parsing.{pieces_since, pieces}
+use Rattle.rowan_parser.specs.Seen.{piece}
+use Rattle.rowan_parser.proofs.Pieces.{seen_all}
 use Rattle.rowan_parser.proofs.parsing.seen_tokens.Goals as goal
+
+pub loop-token-init : goal.loop-token-init
+loop-token-init c =
+    ap (λ ts. map piece ts ++ pieces c.args.trivia c.args.tokens.now) c.in_ok-seen.ensures.items
 
 pub loop-token-preserved : goal.loop-token-preserved
 loop-token-preserved c =
-    seen_kinds_next c.args.trivia c.args.tokens.now c.loop-token.token-index _ _ _
-    c.is_trivia.result _ (omega arith) c.loop-token.invariant c.is_trivia.ensures refl
-    c.in_ok-push_seen.ensures.kinds
+    c.in_ok-gap.ensures.seen (drop (c.loop-token.token-index + 1) c.args.tokens.now)
+    ∙ ap (λ ts. map piece c.loop-token.seen.items ++ pieces_since c.loop-token.gap.is_joined
+    c.loop-token.gap.is_after_line c.args.trivia ts)
+    (sym (drop_more c.args.tokens.now c.loop-token.token-index _ (omega arith)))
+    ∙ c.loop-token.invariant
+
+pub returns-clause-seen : goal.returns-clause-seen
+returns-clause-seen c = seen_all _ _ _ c.args.trivia c.args.tokens.now c.loop-token.token-index _
+    (omega arith) c.loop-token.invariant

@@ -1,8 +1,9 @@
-use Rattle.std.proofs.Common.{◌≡◌, take}
-use Rattle.rowan_parser.specs.Events.{seen_kinds}
-use Rattle.rowan_parser.specs.Seen.{kinds_from}
+use Rattle.std.proofs.Common.{◌≡◌, ◌++◌, map, drop}
+use Rattle.rowan_parser.specs.Parsing.{pieces_since, pieces}
+use Rattle.rowan_parser.specs.Seen.{piece}
 use Rattle.rowan_parser.proofs.parsing.seen_tokens.Given as goal
 
 abbrev pub invariant-loop-token : goal.invariant-loop-token
-invariant-loop-token l =
-    kinds_from 0 l.seen.items ≡ seen_kinds l.trivia (take l.token-index l.tokens)
+invariant-loop-token l = map piece l.seen.items
+    ++ pieces_since l.gap.is_joined l.gap.is_after_line l.trivia (drop l.token-index l.tokens)
+    ≡ pieces l.trivia l.tokens

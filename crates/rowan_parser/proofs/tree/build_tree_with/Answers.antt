@@ -2,23 +2,40 @@ use Rattle.std.proofs.Common.{◌≡◌, sym, ◌∙◌, ap, subst}
 use Rattle.std.specs.Result.{OnOk}
 use Rattle.rowan_green.specs.declared.utility_types.NodeOrToken.TheVariants.{Node}
 use Rattle.rowan_green.specs.Stream.{subterms}
+use Rattle.rowan_green.specs.Word.{word_text, word_tokens}
+use Rattle.rowan_green.proofs.LeafLaws.{tokens-finished}
 use Rattle.rowan_green.proofs.StreamLemmas.{InternsWord-starts, InternsWord-finished, intern_all-first_seen}
-use Rattle.rowan_parser.proofs.Steps.{IsBuilt-kind, IsBuilt-tokens, IsBuilt-text, IsBuilt-finishes}
-use Rattle.rowan_parser.proofs.Spelling.{IsBuilt-spells}
+use Rattle.rowan_green.proofs.TextLemmas.{text-finished}
+use Rattle.rowan_parser.proofs.Leaves.{tree-text, tree-tokens}
+use Rattle.rowan_parser.proofs.Refusals.{IsBuilt-finishes}
+use Rattle.rowan_parser.proofs.Steps.{IsBuilt-kind, IsBuilt-word}
 use Rattle.rowan_parser.proofs.tree.build_tree_with.Goals as goal
 
 pub unreachable-requires : goal.unreachable-requires
-unreachable-requires c = IsBuilt-finishes _ _ _ c.in-Err._unfinished.fault c.in_ok-replay.ensures.ok
+unreachable-requires c = IsBuilt-finishes _ _ c.in-Err._unfinished.fault c.in_ok-replay.ensures.ok
     c.in-Err.ensures.err
 
 pub returns-in-Ok-clause-kind : goal.returns-in-Ok-clause-kind
-returns-in-Ok-clause-kind c = IsBuilt-kind _ _ _ _ c.in_ok-replay.ensures.ok c.in-Ok.ensures.ok
+returns-in-Ok-clause-kind c = IsBuilt-kind _ _ _ c.in_ok-replay.ensures.ok c.in-Ok.ensures.ok
 
-pub returns-in-Ok-clause-tokens : goal.returns-in-Ok-clause-tokens
-returns-in-Ok-clause-tokens c = IsBuilt-tokens _ _ _ _ c.in_ok-replay.ensures.ok c.in-Ok.ensures.ok
+pub returns-in-Ok-clause-shape : goal.returns-in-Ok-clause-shape
+returns-in-Ok-clause-shape c =
+    sym (IsBuilt-word _ _ _ c.in_ok-replay.ensures.ok c.in-Ok.ensures.ok)
+    ∙ c.in_ok-replay.ensures.spells
 
 pub returns-in-Ok-clause-text : goal.returns-in-Ok-clause-text
-returns-in-Ok-clause-text c = IsBuilt-text _ _ _ _ c.in_ok-replay.ensures.ok c.in-Ok.ensures.ok
+returns-in-Ok-clause-text c =
+    text-finished _ _ c.in-Ok.ensures.ok
+    ∙ ap word_text c.in_ok-replay.ensures.spells
+    ∙ tree-text c.args.source.now.root_kind.0 c.args.source.now.trivia c.args.source.now.tokens.now
+    c.args.source.now.events.now
+
+pub returns-in-Ok-clause-tokens : goal.returns-in-Ok-clause-tokens
+returns-in-Ok-clause-tokens c = λ none.
+    sym (tokens-finished _ _ c.in-Ok.ensures.ok)
+    ∙ ap word_tokens c.in_ok-replay.ensures.spells
+    ∙ tree-tokens c.args.source.now.root_kind.0 c.args.source.now.trivia
+    c.args.source.now.tokens.now c.args.source.now.events.now none
 
 pub returns-in-Ok-clause-interned : goal.returns-in-Ok-clause-interned
 returns-in-Ok-clause-interned c =
@@ -35,7 +52,3 @@ returns-in-Ok-clause-interned c =
     c.in-Ok.tree intern c.in-Ok.ensures.ok in
     ap (λ d. d.seen) (all ∙ intern_all-first_seen c.args.cache.now (subterms (Node c.in-Ok.tree))
     c.with_cache-builder.ensures.first)
-
-pub returns-in-Ok-clause-shape : goal.returns-in-Ok-clause-shape
-returns-in-Ok-clause-shape c = IsBuilt-spells _ _ _ _ _ c.in_ok-replay.ensures.ok c.in-Ok.ensures.ok
-    c.in_ok-replay.ensures.spells

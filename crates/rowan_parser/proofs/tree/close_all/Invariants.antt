@@ -7,8 +7,7 @@ use Rattle.rowan_parser.proofs.tree.close_all.Given as goal
 
 abbrev pub invariant-loop-progress : goal.invariant-loop-progress
 invariant-loop-progress l = record {
-  building : IsBuilding l.source.root_kind.0 l.source.tokens.now (word_of l.builder) l.progress.put
-      l.progress.depth;
+  building : IsBuilding l.source (word_of l.builder) l.progress;
   stream : BuildsOn (value_of l.fn.builder) (value_of l.builder);
   loan : loan_of l.builder ≡ loan_of l.fn.builder;
   closes : word_of l.builder ++ closings l.progress.depth ≡ word_of l.fn.builder ++ closings

@@ -7,9 +7,8 @@ use Rattle.rowan_parser.proofs.tree.put_rest.Given as goal
 
 abbrev pub invariant-loop-progress : goal.invariant-loop-progress
 invariant-loop-progress l = record {
-  building : IsBuilding l.source.root_kind.0 l.source.tokens.now (word_of l.builder) l.progress.put
-      l.progress.depth;
-  none : l.progress.depth ≡ 0;
+  building : IsBuilding l.source (word_of l.builder) l.progress;
+  same : l.progress.depth ≡ l.fn.progress.depth;
   stream : BuildsOn (value_of l.fn.builder) (value_of l.builder);
   loan : loan_of l.builder ≡ loan_of l.fn.builder;
   puts : word_of l.builder ++ leaves (drop l.progress.put l.source.tokens.now) ≡ word_of

@@ -3,17 +3,16 @@ use Rattle.rowan_green.specs.Loan.{value_of, word_of, loan_of}
 use Rattle.rowan_green.specs.Stream.{BuildsOn}
 use Rattle.rowan_parser.specs.Building.{IsBuilding}
 use Rattle.rowan_parser.specs.Events.{is_trivia}
-use Rattle.rowan_parser.proofs.Spelling.{IsPassing}
+use Rattle.rowan_parser.proofs.Passing.{IsPassing}
 use Rattle.rowan_parser.proofs.tree.put_trivia.Given as goal
 
 abbrev pub invariant-loop-builder : goal.invariant-loop-builder
 invariant-loop-builder l = record {
-  building : IsBuilding l.source.root_kind.0 l.source.tokens.now (word_of l.builder) l.progress.put
-      l.progress.depth;
+  building : IsBuilding l.source (word_of l.builder) l.progress;
   stream : BuildsOn (value_of l.fn.builder) (value_of l.builder);
   loan : loan_of l.builder ≡ loan_of l.fn.builder;
-  passing : IsPassing (is_trivia l.source.trivia) l.source.tokens.now (word_of l.fn.builder)
-      l.fn.progress.put (word_of l.builder) l.progress.put;
+  passing : IsPassing (is_trivia l.source.trivia) l.source.tokens.now (word_of l.fn.builder) l.fn.progress.put
+      (word_of l.builder) l.progress.put;
   same : l.progress.depth ≡ l.fn.progress.depth;
 }
 

@@ -1,11 +1,12 @@
-use Rattle.std.proofs.Common.{◌≡◌, length}
-use Rattle.rowan_parser.specs.Seen.{from_any}
+use Rattle.std.proofs.Common.{length}
+use Rattle.rowan_parser.specs.Log.{with_event}
+use Rattle.rowan_parser.specs.Seen.{has}
+use Rattle.rowan_parser.specs.declared.event.Event.TheVariants.{Nothing}
+use Rattle.rowan_parser.proofs.Skipping.{IsSkipping}
 use Rattle.rowan_parser.proofs.parser.Parser.recover_until.Given as goal
 
-abbrev pub invariant-loop-self : goal.invariant-loop-self
-invariant-loop-self g l =
-    let left = from_any g.L.Language.meaning g.L.Kind.PartialEq.eq l.kinds in
-    left l.self ≡ left l.fn.self
+abbrev pub invariant-skip : goal.invariant-skip
+invariant-skip g l = IsSkipping (has l.set.0) (with_event Nothing l.fn.self) l.self
 
-abbrev pub decreases-loop-self : goal.decreases-loop-self
-decreases-loop-self g l = length l.self
+abbrev pub decreases-skip : goal.decreases-skip
+decreases-skip g l = length l.self.left

@@ -1,0 +1,81 @@
+//! The kinds of sums and products.
+use rowan::{Language, SyntaxKind};
+
+/// The language of sums and products.
+#[derive(Clone, Copy, PartialEq, Eq, PartialOrd, Ord, Hash, Debug)]
+pub struct Arithmetic;
+
+/// The kind of a token or a node.
+#[derive(Clone, Copy, PartialEq, Eq, PartialOrd, Ord, Hash, Debug)]
+pub enum Kind {
+    /// A space.
+    Space = 0,
+    /// Digits.
+    Number = 1,
+    Plus = 2,
+    Star = 3,
+    Open = 4,
+    Close = 5,
+    /// Any other character, and a node where an operand is missing.
+    Error = 6,
+    /// A node of a number.
+    Literal = 7,
+    /// A node from a parenthesis to the one that closes it.
+    Group = 8,
+    /// Two factors and the star between them.
+    Product = 9,
+    /// Two summands and the plus sign between them.
+    Sum = 10,
+    /// The node of the whole text.
+    Root = 11,
+}
+
+impl Language for Arithmetic {
+    type Kind = Kind;
+
+    ghost use Rattle.arithmetic_syntax.specs.Kinds.{kind_of, name_of, number_of};
+
+    ghost meaning = { kind_of };
+
+    ghost name = { name_of };
+
+    ghost code = { number_of };
+
+    fn kind_from_raw(raw: SyntaxKind) -> Kind {
+        match raw.0 {
+            0 => Kind::Space,
+            1 => Kind::Number,
+            2 => Kind::Plus,
+            3 => Kind::Star,
+            4 => Kind::Open,
+            5 => Kind::Close,
+            7 => Kind::Literal,
+            8 => Kind::Group,
+            9 => Kind::Product,
+            10 => Kind::Sum,
+            11 => Kind::Root,
+            _ => Kind::Error,
+        }
+    }
+
+    fn kind_to_raw(kind: Kind) -> SyntaxKind {
+        SyntaxKind(kind as u16)
+    }
+
+    fn kind_name(kind: Kind) -> &'static str {
+        match kind {
+            Kind::Space => "SPACE",
+            Kind::Number => "NUMBER",
+            Kind::Plus => "PLUS",
+            Kind::Star => "STAR",
+            Kind::Open => "OPEN",
+            Kind::Close => "CLOSE",
+            Kind::Error => "ERROR",
+            Kind::Literal => "LITERAL",
+            Kind::Group => "GROUP",
+            Kind::Product => "PRODUCT",
+            Kind::Sum => "SUM",
+            Kind::Root => "ROOT",
+        }
+    }
+}
