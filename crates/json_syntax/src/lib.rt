@@ -12,8 +12,8 @@ ghost use Rattle.rowan_parser.specs.Parsing.{WhyNoTree};
 
 pub use kinds::{Json, Kind};
 pub use lexer::next_token;
-use rowan::{Fault, Language};
-use rowan_parser::{Parse, Parser, Trivia};
+use rowan::Fault;
+use rowan_parser::{Parse, Parser, Trivia, token_set};
 use std::alloc::Global;
 
 /// Parses a text, with arrays and objects at most 512 deep. Else as `parse_to_depth`.
@@ -33,7 +33,7 @@ pub fn parse_to_depth(alloc: Global, text: &str, depth: usize) -> Result<Parse, 
     ensures too_long { byte_limit < length text.now → result ≡ Err Fault.TextTooLong }
 {
     let trivia = Trivia {
-        kinds: &[Kind::Whitespace, Kind::Comment].map(Json::kind_to_raw),
+        kinds: token_set![Kind::Whitespace, Kind::Comment],
         attached: &[],
     };
     let document = |p: &mut Parser<Json>| grammar::document(p, depth);
