@@ -147,9 +147,11 @@ pub ruleset making = (
   then_precedes,
   then_complains,
   then_misses,
-  then_tells,
   then_ends,
 )
+
+-- a function that complains of a range or of a node names this besides
+pub ruleset told = (then_tells)
 
 -- lists with separators
 pub ruleset lists = (
