@@ -9,7 +9,7 @@ ghost use Rattle.rowan.specs.Term.{node_text};
 
 pub use kinds::{Arithmetic, Kind};
 use rowan::{Fault, Language, SyntaxKind};
-use rowan_parser::{CompletedMarker, Parse, Parser, Trivia};
+use rowan_parser::{CompletedMarker, Parse, Parser, Trivia, token_set};
 use std::alloc::Global;
 
 /// How many groups may stand one in the other.
@@ -20,7 +20,7 @@ pub fn parse(alloc: Global, text: &str) -> Result<Parse, Fault>
     ensures { IfOk result (λ parse. node_text parse.green ≡ text.now) }
 {
     let trivia = Trivia {
-        kinds: &[raw(Kind::Space)],
+        kinds: token_set![Kind::Space],
         attached: &[],
     };
     rowan_parser::parse(alloc, text, next_token, trivia, Kind::Root, document)

@@ -3,7 +3,7 @@ ghost use Rattle.std.specs.Prelude.{◌≡◌, true, false};
 
 /// The greatest depth of arrays and objects that a parse takes, whatever its options say. Each level
 /// takes stack, and so many fit into the usual stack of 8 MB.
-pub const MAX_DEPTH: usize = 4096;
+pub const MAX_DEPTH: usize = 2048;
 
 /// What a text may have without an error. What is not allowed is still in the tree, as it would be if
 /// it were allowed.

@@ -32,7 +32,7 @@ pub fn parse(alloc: Global, text: &str) -> Result<Parse, Fault>
 }
 
 /// Parses as `parse` does, with arrays and objects at most so deep, or `MAX_DEPTH` deep, which is
-/// 4,096: each level takes stack, and so many fit into the usual 8 MB. What is deeper stands in one
+/// 2,048: each level takes stack, and so many fit into the usual 8 MB. What is deeper stands in one
 /// error node to the end of the text.
 pub fn parse_to_depth(alloc: Global, text: &str, depth: usize) -> Result<Parse, Fault>
     ensures text { IfOk result (λ parse. node_text parse.green ≡ text.now) }

@@ -87,17 +87,18 @@ fn errors_of(alloc: Global, levels: usize, depth: usize) -> Result<String, Fault
 fn no_depth_is_more_than_the_limit(rt: HostRuntime) -> Result<(), Fail> {
     let errors = errors_of(rt.alloc(), MAX_DEPTH, usize::MAX)?;
     assert!(rt; errors.is_empty(), "{errors}");
-    let errors = errors_of(rt.alloc(), 4097, usize::MAX)?;
-    let deeper = "4096..4097 expected no more nesting\n8194..8194 expected `,` or `]`\n";
+    let errors = errors_of(rt.alloc(), 2049, usize::MAX)?;
+    let deeper = "2048..2049 expected no more nesting\n4098..4098 expected `,` or `]`\n";
     assert!(rt; errors.as_str() == deeper, "{errors}");
     Ok(())
 }
 
-/// The heaviest levels are objects in objects.
+/// The levels of objects take the most stack.
 #[test]
-fn a_million_levels_leave_stack(rt: HostRuntime) -> Result<(), Fail> {
-    for opening in ["[", "{\"a\":", "[{\"a\":"] {
-        let text = opening.repeat(rt.alloc(), 1_000_000)?;
+fn too_many_levels_leave_stack(rt: HostRuntime) -> Result<(), Fail> {
+    let openings = [("[", 1_000_000), ("{\"a\":", 10_000), ("[{\"a\":", 10_000)];
+    for (opening, count) in openings {
+        let text = opening.repeat(rt.alloc(), count)?;
         let parse = parse_to_depth(rt.alloc(), text.as_str(), usize::MAX)?;
         assert!(rt; parse.errors.len() == 2, "{opening}");
         assert!(rt;

@@ -1,13 +1,12 @@
 -- The leaves of what events spell have the text of the tokens, and where none are joined they are
 -- the tokens.
-use Rattle.std.proofs.Common.{◌≡◌, ℕ, zero, suc, Bool, true, false, cond, List, [], ◌∷◌, ◌++◌, take, drop, refl, sym, ◌∙◌, ap, subst, append_assoc, append-nil}
+use Rattle.std.proofs.Common.{◌≡◌, ℕ, zero, suc, false, List, [], ◌∷◌, ◌++◌, take, drop, refl, sym, ◌∙◌, ap, subst, append_assoc, append-nil}
 use Rattle.std.specs.Prelude.{take_while, ⊤}
 use Rattle.std.proofs.lemmas.List.{map-append, take-append-drop}
-use Rattle.std.proofs.lemmas.List.Sums.{take_while-cons}
 use Rattle.rowan_green.proofs.LeafLaws.{word_tokens-append}
 use Rattle.rowan_green.proofs.Words.{word_text-append}
 use Rattle.rowan_green.specs.Word.{Symbol, Open, Close, word_text, word_tokens}
-use Rattle.rowan_parser.specs.Events.{is_trivia, stays_outside, past, up_to, behind, leaves, one_leaf, opening, closings, spelled_by, tree_word, join_some}
+use Rattle.rowan_parser.specs.Events.{is_trivia, outside, past, up_to, behind, leaves, one_leaf, opening, closings, spelled_by, tree_word, join_some}
 use Rattle.rowan_parser.specs.Shape.{Step, Enter, Take, TakeAs, Exit, around, enters, steps}
 use Rattle.rowan_parser.specs.Tokens.{token_term, token_terms, tokens_text}
 use Rattle.rowan_parser.specs.declared.event.Event.{Event}
@@ -15,7 +14,7 @@ use Rattle.rowan_parser.specs.declared.event.Event.TheVariants as event
 use Rattle.rowan_parser.specs.declared.lexer.Token.{Token}
 use Rattle.rowan_parser.specs.declared.tree.Trivia.{Trivia}
 use Rattle.rowan_parser.proofs.Joining.{up_to-behind}
-use Rattle.rowan_parser.proofs.Spelling.{past-both, outside-trivia}
+use Rattle.rowan_parser.proofs.Trivial.{taken-past, outside-parts}
 use Rattle.rowan_parser.proofs.Steps.{tokens_text-append}
 
 -- what is read of a word and of tokens, each leaf by itself
@@ -36,16 +35,6 @@ CanJoin h g (TakeAs kind n ∷ ss) =
     ((ts : List Token) → h (one_leaf kind ts) ≡ g ts) × CanJoin h g ss
 CanJoin h g (Exit ∷ ss) = CanJoin h g ss
 
-taken-past : (p : Token → Bool) (ts : List Token) → take_while p ts ++ past p ts ≡ ts
-taken-past p [] = refl
-taken-past p (t ∷ ts) =
-    ap (λ us. us ++ past p (t ∷ ts)) (take_while-cons p t ts) ∙ by (p t) (taken-past p ts)
-  where
-    by : (b : Bool) → take_while p ts ++ past p ts ≡ ts
-        → cond b (t ∷ take_while p ts) [] ++ cond b (past p ts) (t ∷ ts) ≡ t ∷ ts
-    by true rest = ap (λ (us : List Token). t ∷ us) rest
-    by false rest = refl
-
 read-both : {A : Type 0} (h : List Symbol → List A) (g : List Token → List A) → Reads h g
     → (v w : List Symbol) (ts us all : List Token) → h v ≡ g ts → h w ≡ g us → ts ++ us ≡ all
     → h (v ++ w) ≡ g all
@@ -63,27 +52,13 @@ closings-read h g r (suc n) = r.closes (closings n) ∙ closings-read h g r n
 
 opening-read : {A : Type 0} (h : List Symbol → List A) (g : List Token → List A) → Reads h g
     → (trivia : Trivia) (kind : ℕ) (ts : List Token) → h (opening trivia kind ts)
-    ≡ g (take_while (stays_outside trivia kind) ts
-    ++ take_while (is_trivia trivia) (past (stays_outside trivia kind) ts))
+    ≡ g (take (outside trivia kind ts) ts
+    ++ take_while (is_trivia trivia) (drop (outside trivia kind ts) ts))
 opening-read h g r trivia kind ts =
-    let outside = take_while (stays_outside trivia kind) ts in
-    let inside = take_while (is_trivia trivia) (past (stays_outside trivia kind) ts) in
-    read-both h g r (leaves outside) (Open kind ∷ leaves inside) outside inside (outside ++ inside)
-    (r.of_leaves outside) (r.opens kind (leaves inside) ∙ r.of_leaves inside) refl
-
-opening-parts : (trivia : Trivia) (kind : ℕ) (ts : List Token)
-    → (take_while (stays_outside trivia kind) ts
-    ++ take_while (is_trivia trivia) (past (stays_outside trivia kind) ts))
-    ++ past (is_trivia trivia) ts ≡ ts
-opening-parts trivia kind ts =
-    let stays = stays_outside trivia kind in
-    let outside = take_while stays ts in
-    let inside = take_while (is_trivia trivia) (past stays ts) in
-    append_assoc outside inside (past (is_trivia trivia) ts)
-    ∙ ap (λ us. outside ++ (inside ++ us))
-    (sym (past-both (is_trivia trivia) stays ts (outside-trivia trivia kind)))
-    ∙ ap (λ us. outside ++ us) (taken-past (is_trivia trivia) (past stays ts))
-    ∙ taken-past stays ts
+    let before = take (outside trivia kind ts) ts in
+    let inside = take_while (is_trivia trivia) (drop (outside trivia kind ts) ts) in
+    read-both h g r (leaves before) (Open kind ∷ leaves inside) before inside (before ++ inside)
+    (r.of_leaves before) (r.opens kind (leaves inside) ∙ r.of_leaves inside) refl
 
 spelled-read : {A : Type 0} (h : List Symbol → List A) (g : List Token → List A) → Reads h g
     → (trivia : Trivia) (n : ℕ) (ss : List Step) (ts : List Token) → CanJoin h g ss
@@ -96,7 +71,7 @@ spelled-read h g r trivia n (Enter kind ∷ ss) ts can =
     let left = past (is_trivia trivia) ts in
     read-both h g r (opening trivia kind ts) (spelled_by trivia (suc n) ss left) _ left ts
     (opening-read h g r trivia kind ts) (spelled-read h g r trivia (suc n) ss left can)
-    (opening-parts trivia kind ts)
+    (outside-parts trivia kind ts)
 spelled-read h g r trivia n (Take ∷ ss) ts can =
     let before = take_while (is_trivia trivia) ts in
     let left = past (is_trivia trivia) ts in

@@ -1,26 +1,34 @@
 -- One more token of a text.
-use Rattle.std.proofs.Common.{◌≡◌, ℕ, List, [], ◌∷◌, ◌++◌, length, max, refl, sym, ◌∙◌, ap, subst, arith, append_assoc}
+use Rattle.std.proofs.Common.{Bor, ◌≡◌, ℕ, List, [], ◌∷◌, ◌++◌, length, max, refl, sym, ◌∙◌, ap, subst, arith, append_assoc}
+use Rattle.std.specs.Prelude.{Option}
 use Rattle.rowan_green.specs.declared.green.SyntaxKind.{SyntaxKind}
+use Rattle.rowan_parser.specs.declared.lexer.Lexeme.{Lexeme}
 use Rattle.rowan_parser.specs.declared.lexer.Token.{Token}
 use Rattle.rowan_parser.specs.Tokens.{tokens_text, IsNextEnd, IsSaid, AreSaid}
 
-pub token_said : {X : Type 0} (says : X → List ℕ → SyntaxKind × ℕ → X → Type 0) (lexer later : X)
-    (rest : List ℕ) (r : SyntaxKind × ℕ) (asked cut : ℕ) (token : Token)
+pub token_said : {X : Type 0} (says : X → List ℕ → Lexeme → X → Type 0) (lexer later : X)
+    (rest : List ℕ) (r : Lexeme) (asked cut : ℕ) (token : Token)
     → says lexer rest r later
-    → token.kind ≡ r.0
-    → asked ≡ max r.1 1
+    → token.kind ≡ r.kind
+    → token.message ≡ r.message
+    → asked ≡ max r.len 1
     → IsNextEnd rest asked cut
     → length token.text.now ≡ cut
     → IsSaid says lexer rest token later
-token_said says lexer later rest r asked cut token said same e ends fits = record {
-  len = r.1;
-  said = subst (λ k. says lexer rest (k, r.1) later) (sym same) said;
-  cut = subst (λ end. IsNextEnd rest (max r.1 1) end) (sym fits)
-      (subst (λ place. IsNextEnd rest place cut) e ends);
-}
+token_said says lexer later rest r asked cut token said kind message e ends fits =
+    let P : SyntaxKind → Type 0 =
+    λ k. says lexer rest (record { kind = k; len = r.len; message = r.message }) later in
+    let Q : Option (Bor (List ℕ)) → Type 0 =
+    λ m. says lexer rest (record { kind = token.kind; len = r.len; message = m }) later in
+    record {
+      len = r.len;
+      said = subst Q (sym message) (subst P (sym kind) said);
+      cut = subst (λ end. IsNextEnd rest (max r.len 1) end) (sym fits)
+          (subst (λ place. IsNextEnd rest place cut) e ends);
+    }
 
 -- the tokens with one more, before those of what is then left
-pub said_more : {X : Type 0} (says : X → List ℕ → SyntaxKind × ℕ → X → Type 0)
+pub said_more : {X : Type 0} (says : X → List ℕ → Lexeme → X → Type 0)
     (first lexer later : X) (rest back : List ℕ) (token : Token) (tokens more others : List Token)
     → IsSaid says lexer rest token later
     → token.text.now ++ back ≡ rest

@@ -3,7 +3,6 @@ pub mod Columns
 pub mod Gluing
 pub mod Growing
 pub mod Joining
-pub mod KindLemmas
 pub mod Leaves
 pub mod Lexing
 pub mod LineLemmas
@@ -15,8 +14,10 @@ pub mod Pieces
 pub mod Ranges
 pub mod Refusals
 pub mod Rules
+pub mod Sets
 pub mod ShapeLemmas
 pub mod Skipping
 pub mod Spelling
 pub mod Steps
 pub mod Taking
+pub mod Trivial

@@ -8,7 +8,8 @@ use Rattle.std.proofs.lemmas.List.Elements.{All-push}
 use Rattle.rowan_parser.specs.declared.event.Event.{Event}
 use Rattle.rowan_parser.specs.declared.event.Event.TheVariants.{Nothing}
 use Rattle.rowan_parser.specs.declared.event.Event.TheVariants as event
-use Rattle.rowan_parser.specs.Log.{Seen, Place, Piece, Is, with_event, with_token, bumped}
+use Rattle.rowan_parser.specs.Log.{Seen, Place, Extent, Piece, Is, with_event, with_token, bumped}
+use Rattle.rowan_parser.specs.Log.{extent_of}
 use Rattle.rowan_parser.specs.Log.{complained, completed, begun_at, skipped, stops_here, recovered}
 use Rattle.rowan_parser.specs.Log.{refused_unless, ended}
 use Rattle.rowan_parser.specs.Shape.{Forest, none, token_then, node_then, joined}
@@ -20,7 +21,7 @@ use Rattle.rowan_parser.proofs.Making.{joined-none, joined-assoc, begins, adds, 
 use Rattle.rowan_parser.proofs.Making.{eats_not, each-append}
 
 -- a node
-pub made_node : (P : Forest → Type 0) (old s : Seen) (c kind : ℕ) (f : Forest)
+pub made_node : (P : Forest → Type 0) (old s : Seen) (c : Extent) (kind : ℕ) (f : Forest)
     → IsEnded old s c kind f
     → P (node_then kind f none) → IsMade P old s
 made_node P old s c kind f ended p = record {
@@ -32,7 +33,7 @@ made_node P old s c kind f ended p = record {
       record { part = h.node; joins = h.joins; is = part_node h.i h.node kind f h.is };
 }
 
-pub made_list : (P Q : Forest → Type 0) (front : Forest) (old s : Seen) (c kind : ℕ)
+pub made_list : (P Q : Forest → Type 0) (front : Forest) (old s : Seen) (c : Extent) (kind : ℕ)
     → IsListNode Q front old s c kind
     → ((f : Forest) → IsListOf Q front kind f → P f) → IsMade P old s
 made_list P Q front old s c kind h to =
@@ -139,8 +140,9 @@ made_recovered P old new kind stops is to = by (stops_here stops old.left) is
         let m = begun_at old in
         let begun = begins old s m (at_once s) refl in
         let many = skips stops old.left old s m none refl begun in
-        made_node P old new m.at kind (tokens many.n)
-        (ends old (skipped stops old.left s) new m m.at kind (tokens many.n) many.begun is refl)
+        let all = skipped stops old.left s in
+        made_node P old new (extent_of m all) kind (tokens many.n)
+        (ends old all new m (extent_of m all) kind (tokens many.n) many.begun is refl)
         (to (node_then kind (tokens many.n) none) (inr (many.n, refl)))
 
 -- `error_to_end`, and `deeper` at depth 0
@@ -166,8 +168,9 @@ made_refused P old new kind message stops false is e to =
     let took = takes s s1 (bumped s1) (begun_at s) none begun (at_once (bumped s1))
     (some old.left e) in
     made_behind P old s new (λ w. w) (λ w. refl)
-    (made_node P s new (length s.events) kind (tokens 1)
-    (ends s (bumped s1) new (begun_at s) (length s.events) kind (tokens 1) took is refl)
+    (made_node P s new (extent_of (begun_at s) (bumped s1)) kind (tokens 1)
+    (ends s (bumped s1) new (begun_at s) (extent_of (begun_at s) (bumped s1)) kind (tokens 1) took
+    is refl)
     (to (node_then kind (tokens 1) none) (inr (1, refl))))
   where
     some : (left : List Piece) → false ≡ stops_here stops left → 0 < length left

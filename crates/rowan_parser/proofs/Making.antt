@@ -9,9 +9,12 @@ use Rattle.rowan_green.specs.declared.green.SyntaxKind.{SyntaxKind}
 use Rattle.rowan_parser.specs.declared.event.Event.{Event}
 use Rattle.rowan_parser.specs.declared.event.Event.TheVariants.{Open, Around, Close, Nothing}
 use Rattle.rowan_parser.specs.declared.event.Event.TheVariants as event
-use Rattle.rowan_parser.specs.Log.{Seen, Place, Piece, Is, with_event, with_token, with_joined}
-use Rattle.rowan_parser.specs.Log.{bumped, bumped_as, glued, completed, closed_at, outer_at}
-use Rattle.rowan_parser.specs.Log.{complained}
+use Rattle.rowan_parser.specs.Log.{Seen, Place, Extent, Piece, Is, with_event, with_token}
+use Rattle.rowan_parser.specs.Log.{with_joined, bumped, bumped_as, glued, completed, closed_at}
+use Rattle.rowan_parser.specs.Log.{closed_by, outer_at, begun_at, extent_of, place_around}
+use Rattle.rowan_parser.specs.Log.{noted, with_errors, missed}
+use Rattle.rowan_parser.specs.Told.{Told}
+use Rattle.rowan_parser.specs.declared.parser.Spot.TheVariants.{Behind}
 use Rattle.rowan_parser.specs.Shape.{Step, Forest, none, token_then, joined_then, node_then}
 use Rattle.rowan_parser.specs.Shape.{word, steps, joined, IsPart}
 use Rattle.rowan_parser.specs.Making.{HasNode, IsBegun, IsEnded, HasItems, HasList, IsListNode}
@@ -33,7 +36,7 @@ joined-assoc (node_then kind inside f) g h = ap (node_then kind inside) (joined-
 
 -- `start`
 pub begins : (old new : Seen) (m : Place) → Is (with_event Nothing old) new
-    → m ≡ record { at = length old.events; inner = None }
+    → m ≡ begun_at old
     → IsBegun old new m none
 begins old new m is at = record {
   was = λ whole. subst IsTrue (ap (λ (s : Seen). s.is_whole) (is.all whole)) whole;
@@ -45,7 +48,7 @@ begins old new m is at = record {
         node = Open raw 0 ∷ (more ++ Close ∷ []);
         i = 0;
         joins = ap (λ (p : Place). closed_at p raw (new.events ++ more)) at
-            ∙ ap (closed_at (record { at = length old.events; inner = None }) raw) same
+            ∙ ap (closed_by None (length old.events) raw) same
             ∙ closed_alone old.events more raw;
         there = ap (λ (p : Place). p.at) at ∙ omega arith;
         is = node_ends more g raw part;
@@ -165,10 +168,10 @@ takes_glued old s new m f kind n begun is some one =
     events-joined kind zero s h = absurd (omega (arith, h))
     events-joined kind (suc k) s h = refl
 
--- `error`
-pub complains : (old s s2 : Seen) (m : Place) (f : Forest) (message : List ℕ)
-    → IsBegun old s m f → Is (complained message s) s2 → IsBegun old s2 m f
-complains old s s2 m f message begun is =
+-- the calls that complain
+pub complains : (old s s2 : Seen) (m : Place) (f : Forest) (errors : List Told)
+    → IsBegun old s m f → Is (with_errors errors s) s2 → IsBegun old s2 m f
+complains old s s2 m f errors begun is =
     keeps old s s2 m f begun
     (λ whole. let e = ap (λ (p : Seen). p.is_whole) (is.all whole) in subst IsTrue e whole)
     (λ whole. ap (λ (p : Seen). p.events) (is.all whole))
@@ -188,8 +191,9 @@ eats_not old s s2 m f false begun h is = keeps old s s2 m f begun
     (λ whole. ap (λ (p : Seen). p.events) (is.all whole))
 
 -- `complete`
-pub ends : (old s new : Seen) (m : Place) (c kind : ℕ) (f : Forest)
-    → IsBegun old s m f → Is (completed m kind s) new → c ≡ m.at → IsEnded old new c kind f
+pub ends : (old s new : Seen) (m : Place) (c : Extent) (kind : ℕ) (f : Forest)
+    → IsBegun old s m f → Is (completed m kind s) new → c ≡ extent_of m s
+    → IsEnded old new c kind f
 ends old s new m c kind f begun is at =
     let so : IsTrue new.is_whole → IsTrue s.is_whole =
     λ whole. subst IsTrue (ap (λ (p : Seen). p.is_whole) (is.all whole)) whole in
@@ -204,13 +208,13 @@ ends old s new m c kind f begun is at =
           let R : ℕ → Type 0 = λ n. HasNode old.events new.events n kind f in
           let same : closed_at m raw (s.events ++ []) ≡ new.events =
           ap (closed_at m raw) (append-nil s.events) ∙ sym (ap (λ (p : Seen). p.events) e) in
-          subst R (sym at) (subst Q (joined-none f) (subst P same h));
+          subst R (sym (ap (λ (e : Extent). e.at) at)) (subst Q (joined-none f) (subst P same h));
     }
 
 -- `precede`
-pub precedes : (old s new : Seen) (m : Place) (c kind : ℕ) (f : Forest)
+pub precedes : (old s new : Seen) (m : Place) (c : Extent) (kind : ℕ) (f : Forest)
     → IsEnded old s c kind f → Is (with_event Nothing s) new
-    → m ≡ record { at = length s.events; inner = Some c }
+    → m ≡ place_around c s
     → IsBegun old new m (node_then kind f none)
 precedes old s new m c kind f ended is at = record {
   was = λ whole. ended.was (subst IsTrue (ap (λ (p : Seen). p.is_whole) (is.all whole)) whole);
@@ -220,12 +224,19 @@ precedes old s new m c kind f ended is at = record {
       let was : IsTrue s.is_whole = subst IsTrue (ap (λ (p : Seen). p.is_whole) e) whole in
       let h = ended.is was in
       let at_end = length before + (length h.node + 0) in
-      let place : Place = record { at = at_end; inner = Some (length before + h.i) } in
+      let place : Place = record {
+        at = at_end;
+        inner = Some (length before + h.i);
+        first = c.first;
+      } in
       let long : length s.events ≡ length before + (length h.node + 0) =
       ap length h.joins ∙ length-append before h.node ∙ omega arith in
       let where_is : m ≡ place =
-      at ∙ ap (λ (n : ℕ). let p : Place = record { at = n; inner = Some c } in p) long
-      ∙ ap (λ (n : ℕ). let p : Place = record { at = at_end; inner = Some n } in p) h.there in
+      at
+      ∙ ap (λ (n : ℕ).
+      let p : Place = record { at = n; inner = Some c.at; first = c.first } in p) long
+      ∙ ap (λ (n : ℕ).
+      let p : Place = record { at = at_end; inner = Some n; first = c.first } in p) h.there in
       let same : new.events ++ more ≡ before ++ h.node ++ [] ++ Nothing ∷ more =
       ap (λ (p : Seen). p.events ++ more) e
       ∙ append_assoc s.events (Nothing ∷ []) more
@@ -248,7 +259,7 @@ precedes old s new m c kind f ended is at = record {
 }
 
 -- a function of a grammar that makes one node
-pub adds_node : (old s s2 : Seen) (m : Place) (f h : Forest) (c kind : ℕ)
+pub adds_node : (old s s2 : Seen) (m : Place) (f h : Forest) (c : Extent) (kind : ℕ)
     → IsBegun old s m f → IsEnded s s2 c kind h
     → IsBegun old s2 m (joined f (node_then kind h none))
 adds_node old s s2 m f h c kind begun ended = record {
@@ -294,7 +305,7 @@ no_more P old s m front h =
 
 -- an element, and no separator was eaten
 pub adds_item : (P : Forest → Type 0) (old s s2 s3 : Seen) (m : Place) (front h : Forest)
-    (c kind : ℕ) (b : Bool)
+    (c : Extent) (kind : ℕ) (b : Bool)
     → HasItems P old s m front → IsEnded s s2 c kind h → P (node_then kind h none)
     → b ≡ false → Is (if b then bumped s2 else s2) s3 → HasList P old s3 m front
 adds_item P old s s2 s3 m front h c kind b has ended p no_token is =
@@ -309,7 +320,7 @@ adds_item P old s s2 s3 m front h c kind b has ended p no_token is =
 
 -- an element, and a separator was eaten
 pub adds_item_and : (P : Forest → Type 0) (old s s2 s3 : Seen) (m : Place) (front h : Forest)
-    (c kind : ℕ) (b : Bool)
+    (c : Extent) (kind : ℕ) (b : Bool)
     → HasItems P old s m front → IsEnded s s2 c kind h → P (node_then kind h none)
     → b ≡ true → Is (if b then bumped s2 else s2) s3 → (IsTrue b → 0 < length s2.left)
     → HasItems P old s3 m front
@@ -333,9 +344,9 @@ adds_item_and P old s s2 s3 m front h c kind b has ended p token is some =
 -- a token that was expected, and the end of the node
 pub closes : (P : Forest → Type 0) (old s s2 new : Seen) (m : Place) (front : Forest) (b : Bool)
     (message : List ℕ)
-    (c kind : ℕ) → HasList P old s m front
-    → Is (if b then bumped s else complained message s) s2 → (IsTrue b → 0 < length s.left)
-    → Is (completed m kind s2) new → c ≡ m.at → IsListNode P front old new c kind
+    (c : Extent) (kind : ℕ) → HasList P old s m front
+    → Is (if b then bumped s else missed message s) s2 → (IsTrue b → 0 < length s.left)
+    → Is (completed m kind s2) new → c ≡ extent_of m s2 → IsListNode P front old new c kind
 closes P old s s2 new m front true message c kind has is some done at =
     let all = joined (joined front (each_ended has.items)) has.last in
     record {
@@ -357,5 +368,6 @@ closes P old s s2 new m front false message c kind has is some done at =
       back = none;
       is_back = inl refl;
       ended = subst Q (sym (joined-none all))
-          (ends old s2 new m c kind all (complains old s s2 m all message has.begun is) done at);
+          (ends old s2 new m c kind all
+          (complains old s s2 m all (noted s.taken Behind message s.errors) has.begun is) done at);
     }

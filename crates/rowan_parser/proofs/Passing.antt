@@ -1,12 +1,12 @@
 -- The tokens that pass, put one after the other.
-use Rattle.std.proofs.Common.{◌≡◌, ℕ, zero, suc, ◌+◌, ◌<◌, ◌≤◌, Bool, true, false, cond, List, [], ◌∷◌, ◌++◌, length, take, drop, get_or, refl, sym, ◌∙◌, ap, arith, append_assoc, append-nil}
-use Rattle.std.specs.Prelude.{take_while, not, ◌&&◌, ltb}
+use Rattle.std.proofs.Common.{◌≡◌, ℕ, zero, suc, ◌+◌, ◌-◌, ◌<◌, ◌≤◌, Bool, true, false, cond, List, [], ◌∷◌, ◌++◌, length, take, drop, get_or, refl, sym, ◌∙◌, ap, arith, append_assoc, append-nil}
+use Rattle.std.specs.Prelude.{take_while, ltb}
 use Rattle.std.proofs.lemmas.Bool.{ltb-true, ltb-false}
 use Rattle.std.proofs.lemmas.List.{drop_more, drop-drop, length-drop}
 use Rattle.std.proofs.lemmas.List.Sums.{take_while-cons}
 use Rattle.rowan_green.specs.Word.{Symbol, Leaf}
 use Rattle.rowan_parser.specs.Building.{IsAhead}
-use Rattle.rowan_parser.specs.Events.{is_trivia, is_attached, stays_outside, past, leaves, begins_with, Puts}
+use Rattle.rowan_parser.specs.Events.{is_trivia, past, leaves, begins_with, Puts}
 use Rattle.rowan_parser.specs.Tokens.{token_term}
 use Rattle.rowan_parser.specs.declared.lexer.Token.{Token}
 use Rattle.rowan_parser.specs.declared.tree.Source.{Source}
@@ -210,36 +210,85 @@ ahead_more source put next h less =
           ∙ ap (past p) (drop-one ts put);
     }
 
--- ---- trivia outside of a node
+-- ---- so many tokens
 
-outside-both : (a b : Bool) → false ≡ a → false ≡ (a && b)
-outside-both true b e = absurd cc
-outside-both false b e = refl
+-- so many are still to be put, in a loop over these, which began behind the first `from` tokens
+pub record IsPuttingSome (ts : List Token) (u : List Symbol) (from all : ℕ) (v : List Symbol)
+    (put count : ℕ) : Type 0 where
+  pub word : v ++ leaves (take count (drop put ts)) ≡ u ++ leaves (take all (drop from ts))
+  pub left : drop count (drop put ts) ≡ drop all (drop from ts)
 
-outside-first : (a b : Bool) → true ≡ a → b ≡ (a && b)
-outside-first true b e = refl
-outside-first false b e = absurd cc
+pub some_begin : (ts : List Token) (u : List Symbol) (from all : ℕ)
+    → IsPuttingSome ts u from all u from all
+some_begin ts u from all = record { word = refl; left = refl }
 
-pub outside_nowhere : (source : Source) (put kind : ℕ) → false ≡ begins_with
-    (is_trivia source.trivia) (drop put source.tokens.now) → false ≡ begins_with
-    (stays_outside source.trivia kind) (drop put source.tokens.now)
-outside_nowhere source put kind e = by (drop put source.tokens.now) e
+pub some_more : (ts : List Token) (u v w : List Symbol) (from all put next count less : ℕ)
+    → 0 < count → less ≡ count - 1
+    → IsPuttingSome ts u from all v put count
+    → Puts ts v (leaves (take 1 (drop put ts))) (drop 1 (drop put ts)) w next
+    → IsPuttingSome ts u from all w next less
+some_more ts u v w from all put next zero less some is h k = absurd (omega (arith, some))
+some_more ts u v w from all put next (suc m) less some is h k =
+    let same : less ≡ m = omega (arith, is) in
+    record {
+      word =
+          ap (λ n. w ++ leaves (take n (drop next ts))) same
+          ∙ ap (λ us. w ++ leaves (take m us)) k.left
+          ∙ ap (λ s. s ++ leaves (take m (drop 1 (drop put ts)))) k.word
+          ∙ append_assoc v (leaves (take 1 (drop put ts))) (leaves (take m (drop 1 (drop put ts))))
+          ∙ ap (λ s. v ++ s) (parts (drop put ts))
+          ∙ h.word;
+      left =
+          ap (λ n. drop n (drop next ts)) same
+          ∙ ap (drop m) k.left
+          ∙ behind (drop put ts)
+          ∙ h.left;
+    }
   where
-    by : (us : List Token) → false ≡ begins_with (is_trivia source.trivia) us → false ≡ begins_with
-        (stays_outside source.trivia kind) us
-    by [] e = refl
-    by (t ∷ us) e = outside-both (is_trivia source.trivia t) (not (is_attached source.trivia kind t))
-        e
+    parts : (us : List Token) → leaves (take 1 us) ++ leaves (take m (drop 1 us))
+        ≡ leaves (take (suc m) us)
+    parts [] = ap (λ (us : List Token). leaves us) (none m)
+      where
+        none : (n : ℕ) → take {A = Token} n [] ≡ []
+        none zero = refl
+        none (suc n) = refl
+    parts (t ∷ us) = refl
 
-pub outside_there : (source : Source) (put kind : ℕ) (t : Token) → put < length source.tokens.now
-    → t ≡ get_or source.tokens.now put t → true ≡ begins_with (is_trivia source.trivia)
-    (drop put source.tokens.now) → not (is_attached source.trivia kind t) ≡ begins_with
-    (stays_outside source.trivia kind) (drop put source.tokens.now)
-outside_there source put kind t some is e =
-    let trivia = source.trivia in
-    outside-first (is_trivia trivia t) (not (is_attached trivia kind t))
-    (e ∙ sym (begins_there (is_trivia trivia) source.tokens.now put t some is))
-    ∙ begins_there (stays_outside trivia kind) source.tokens.now put t some is
+    behind : (us : List Token) → drop m (drop 1 us) ≡ drop (suc m) us
+    behind [] = none m
+      where
+        none : (n : ℕ) → drop {A = Token} n [] ≡ []
+        none zero = refl
+        none (suc n) = refl
+    behind (t ∷ us) = refl
+
+pub some_end : (ts : List Token) (u v : List Symbol) (from all put count : ℕ) → count ≡ 0
+    → IsPuttingSome ts u from all v put count
+    → Puts ts u (leaves (take all (drop from ts))) (drop all (drop from ts)) v put
+some_end ts u v from all put count none h = record {
+  word = sym (append-nil v)
+      ∙ ap (λ n. v ++ leaves (take n (drop put ts))) (sym none) ∙ h.word;
+  left = ap (λ n. drop n (drop put ts)) (sym none) ∙ h.left;
+}
+
+-- how many tokens stand before the next one that is no trivia
+pub run_length : (source : Source) (put next count : ℕ) → IsAhead source put next
+    → put ≤ length source.tokens.now → count ≡ next - put
+    → length (past (is_trivia source.trivia) (drop put source.tokens.now)) + count
+    ≡ length (drop put source.tokens.now)
+run_length source put next count h within e =
+    let ts = source.tokens.now in
+    let less = length-past (is_trivia source.trivia) (drop put ts) in
+    omega (
+      arith,
+      e,
+      within,
+      less,
+      h.within,
+      ap length h.ahead,
+      length-drop put ts,
+      length-drop next ts,
+    )
 
 -- ---- the tokens that are left at the end
 

@@ -1,14 +1,15 @@
 -- Where the tokens that are no trivia stand in their text.
-use Rattle.std.proofs.Common.{◌≡◌, ℕ, zero, suc, ◌+◌, ◌-◌, Bool, true, false, cond, List, [], ◌∷◌, ◌++◌, map, length, get_or, min, sym, ◌∙◌, ap, ap₂, arith, append_assoc, append-nil, length-append}
+use Rattle.std.proofs.Common.{◌≡◌, ℕ, ◌+◌, ◌≤◌, Bool, true, false, cond, List, [], ◌∷◌, ◌++◌, map, length, drop, sym, ◌∙◌, ap, ap₂, arith, append_assoc, append-nil, length-append}
 use Rattle.std.specs.Prelude.{string_bytes}
-use Rattle.std.proofs.lemmas.List.{map-append}
+use Rattle.std.proofs.lemmas.List.{map-append, drop_all}
 use Rattle.rowan_green.specs.Span.{Span}
 use Rattle.rowan_parser.specs.Events.{is_trivia}
-use Rattle.rowan_parser.specs.Parsing.{Error, error_value, error_of, ranges_from, range_of, end_of}
+use Rattle.rowan_parser.specs.Parsing.{Error, error_value, error_of, ranges_from, range_at}
 use Rattle.rowan_parser.specs.Tokens.{tokens_text}
 use Rattle.rowan_parser.specs.Told.{Told}
 use Rattle.rowan_parser.specs.declared.lexer.Token.{Token}
 use Rattle.rowan_parser.specs.declared.parsed.SyntaxError.{SyntaxError}
+use Rattle.rowan_parser.specs.declared.parser.Spot.{Spot}
 use Rattle.rowan_parser.specs.declared.tree.Trivia.{Trivia}
 
 abbrev pub span : ℕ → ℕ → Span
@@ -55,21 +56,14 @@ ranges_more trivia tokens rest others start next t range b old new first e is ki
         ∙ before
 
 -- behind the last token
-pub ranges_end : (trivia : Trivia) (tokens rest : List Token) (start : ℕ) (range : Span)
-    (old new : List Span)
-    → length rest ≡ 0
-    → start + length (tokens_text rest) ≡ length (tokens_text tokens)
-    → range ≡ record { start = start; end = start }
-    → new ≡ old ++ range ∷ []
-    → old ++ ranges_from start trivia rest ≡ ranges_from 0 trivia tokens
-    → new ≡ ranges_from 0 trivia tokens ++ end_of tokens ∷ []
-ranges_end trivia tokens (t ∷ rest) start range old new none all is pushed so_far =
-    absurd (omega (arith, none))
-ranges_end trivia tokens [] start range old new none all is pushed so_far =
-    let at : start ≡ length (tokens_text tokens) = omega (arith, all) in
-    pushed
-    ∙ ap (λ (r : Span). old ++ r ∷ []) (is ∙ ap (λ n. record { start = n; end = n }) at)
-    ∙ ap (λ (s : List Span). s ++ end_of tokens ∷ []) (sym (append-nil old) ∙ so_far)
+pub ranges_end : (trivia : Trivia) (tokens : List Token) (start i : ℕ) (ranges : List Span)
+    → length tokens ≤ i
+    → ranges ++ ranges_from start trivia (drop i tokens) ≡ ranges_from 0 trivia tokens
+    → ranges ≡ ranges_from 0 trivia tokens
+ranges_end trivia tokens start i ranges none so_far =
+    sym (append-nil ranges)
+    ∙ ap (λ us. ranges ++ ranges_from start trivia us) (sym (drop_all i tokens none))
+    ∙ so_far
 
 pub left_more : (rest others : List Token) (t : Token) (start all : ℕ) → rest ≡ t ∷ others → start +
     length (tokens_text rest) ≡ all → (start + length t.text.now) + length (tokens_text others) ≡ all
@@ -81,35 +75,6 @@ left_more rest others t start all first e =
       length-append t.text.now (tokens_text others),
     )
 
--- ---- one of the ranges
-
-range-among : (ranges : List Span) (end d : Span) (n : ℕ) → get_or (ranges ++ end ∷ [])
-    (min n (length ranges)) d ≡ get_or ranges n end
-range-among [] end d n =
-    let e : min n (length {A = Span} []) ≡ 0 = omega arith in
-    ap (λ k. get_or (end ∷ []) k d) e
-range-among (r ∷ ranges) end d zero =
-    let e : min zero (length (r ∷ ranges)) ≡ 0 = omega arith in
-    ap (λ k. get_or (r ∷ (ranges ++ end ∷ [])) k d) e
-range-among (r ∷ ranges) end d (suc n) =
-    let e : min (suc n) (length (r ∷ ranges)) ≡ suc (min n (length ranges)) = omega arith in
-    ap (λ k. get_or (r ∷ (ranges ++ end ∷ [])) k d) e ∙ range-among ranges end d n
-
-pub range_there : (ranges all : List Span) (end range : Span) (n last i : ℕ)
-    → all ≡ ranges ++ end ∷ []
-    → last ≡ length all - 1
-    → i ≡ min n last
-    → range ≡ get_or all i range
-    → range ≡ get_or ranges n end
-range_there ranges all end range n last i are is at e =
-    let same : i ≡ min n (length ranges) =
-    at ∙ ap (min n) (let k : last ≡ length ranges = omega
-    (arith, is, ap length are, length-append ranges (end ∷ [])) in k) in
-    e
-    ∙ ap (λ xs. get_or xs i range) are
-    ∙ ap (λ k. get_or (ranges ++ end ∷ []) k range) same
-    ∙ range-among ranges end range n
-
 -- ---- errors
 
 abbrev error_by : List ℕ → Span → Error
@@ -117,18 +82,16 @@ error_by message range = record { message = message; range = range }
 
 -- the error that is made of a complaint
 pub told_is : (trivia : Trivia) (tokens : List Token) (told : Told) (error : SyntaxError)
-    (place : ℕ) (all : List Span) (last i : ℕ)
-    → record { place = place; message = string_bytes error.message } ≡ told
-    → all ≡ ranges_from 0 trivia tokens ++ end_of tokens ∷ []
-    → last ≡ length all - 1
-    → i ≡ min place last
-    → error.range ≡ get_or all i error.range
+    (place : ℕ) (spot : Spot) (ranges : List Span)
+    → record { place = place; spot = spot; message = string_bytes error.message } ≡ told
+    → ranges ≡ ranges_from 0 trivia tokens
+    → error.range ≡ range_at ranges place spot
     → error_value error ≡ error_of trivia tokens told
-told_is trivia tokens told error place all last i view are is at there =
-    let range = range_there (ranges_from 0 trivia tokens) all (end_of tokens) error.range place last i
-    are is at there in
+told_is trivia tokens told error place spot ranges view are is =
+    let all = ranges_from 0 trivia tokens in
     ap₂ error_by (ap (λ (t : Told). t.message) view)
-    (range ∙ ap (λ (t : Told). range_of trivia tokens t.place) view)
+    (is ∙ ap (λ rs. range_at rs place spot) are
+    ∙ ap (λ (t : Told). range_at all t.place t.spot) view)
 
 pub told_more : (trivia : Trivia) (tokens : List Token) (told : Told) (error : SyntaxError)
     (left others : List Told) (old new : List SyntaxError) (all : List Error)

@@ -1,13 +1,16 @@
 -- By which rules an author says the shape of a function: one for each call, in the order in which a
 -- search can use them. What the call did comes first, and tells from which parser it went. A file
 -- of a grammar names them by `#![tactic(auto, using(rowan_parser::proofs::Rules::grammar))]`.
-use Rattle.std.proofs.Common.{◌≡◌, ℕ, ◌<◌, ◌≤◌, IsTrue, List, Bool, true, false, length, sym}
+use Rattle.std.proofs.Common.{◌≡◌, ℕ, ◌<◌, ◌≤◌, IsTrue, List, [], ◌∷◌, ◌++◌, Bool, true, false}
+use Rattle.std.proofs.Common.{length, sym}
 use Rattle.std.proofs.Common.{subst}
-use Rattle.std.specs.Prelude.{Some, None}
 use Rattle.std.specs.Bool.{if◌then◌else◌}
 use Rattle.rowan_parser.specs.declared.event.Event.TheVariants.{Nothing}
-use Rattle.rowan_parser.specs.Log.{Seen, Place, Is, with_event, bumped, bumped_as, glued}
-use Rattle.rowan_parser.specs.Log.{completed, complained}
+use Rattle.rowan_parser.specs.Log.{Seen, Place, Extent, Is, with_event, bumped, bumped_as, glued}
+use Rattle.rowan_parser.specs.Log.{completed, begun_at, extent_of, place_around, noted}
+use Rattle.rowan_parser.specs.Log.{complained, missed, told_of}
+use Rattle.rowan_parser.specs.declared.parser.Spot.{Spot}
+use Rattle.rowan_parser.specs.declared.parser.Spot.TheVariants.{Here, Behind}
 use Rattle.rowan_parser.specs.Shape.{Forest, none, token_then, joined_then, node_then, joined}
 use Rattle.rowan_parser.specs.Making.{IsBegun, IsEnded, HasItems, HasList, IsListNode, IsMade, init}
 use Rattle.rowan_parser.proofs.Made.{adds_made_item, adds_made_item_and, made_node, made_list}
@@ -17,7 +20,7 @@ use Rattle.rowan_parser.proofs.Making.{ends, precedes, no_items, no_more, adds_i
 use Rattle.rowan_parser.proofs.Making.{closes}
 
 pub then_begins : (old new : Seen) (m : Place) → Is (with_event Nothing old) new
-    → m ≡ record { at = length old.events; inner = None } → IsBegun old new m none
+    → m ≡ begun_at old → IsBegun old new m none
 then_begins = begins
 
 pub then_takes : (old s new : Seen) (m : Place) (g : Forest) → Is (bumped s) new
@@ -27,28 +30,42 @@ then_takes old s new m g is begun some e =
     let Q : Forest → Type 0 = λ k. IsBegun old new m k in
     subst Q e (takes old s new m (init g) begun is some)
 
-pub then_node : (old s new : Seen) (m : Place) (c kind : ℕ) (g h : Forest) → IsEnded s new c kind h
+pub then_node : (old s new : Seen) (m : Place) (c : Extent) (kind : ℕ) (g h : Forest) → IsEnded s new c kind h
     → IsBegun old s m (init g)
     → joined (init g) (node_then kind h none) ≡ g → IsBegun old new m g
 then_node old s new m c kind g h ended begun e =
     let Q : Forest → Type 0 = λ k. IsBegun old new m k in
     subst Q e (adds_node old s new m (init g) h c kind begun ended)
 
-pub then_precedes : (old s new : Seen) (m : Place) (c kind : ℕ) (f : Forest)
+pub then_precedes : (old s new : Seen) (m : Place) (c : Extent) (kind : ℕ) (f : Forest)
     → Is (with_event Nothing s) new
-    → m ≡ record { at = length s.events; inner = Some c }
+    → m ≡ place_around c s
     → IsEnded old s c kind f → IsBegun old new m (node_then kind f none)
 then_precedes old s new m c kind f is at ended = precedes old s new m c kind f ended is at
 
-pub then_ends : (old s new : Seen) (m : Place) (c kind : ℕ) (f : Forest)
-    → Is (completed m kind s) new → c ≡ m.at
+pub then_ends : (old s new : Seen) (m : Place) (c : Extent) (kind : ℕ) (f : Forest)
+    → Is (completed m kind s) new → c ≡ extent_of m s
     → IsBegun old s m f → IsEnded old new c kind f
 then_ends old s new m c kind f is at begun = ends old s new m c kind f begun is at
 
 pub then_complains : (old s new : Seen) (m : Place) (f : Forest) (message : List ℕ)
     → Is (complained message s) new
     → IsBegun old s m f → IsBegun old new m f
-then_complains old s new m f message is begun = complains old s new m f message begun is
+then_complains old s new m f message is begun =
+    complains old s new m f (noted s.taken Here message s.errors) begun is
+
+pub then_misses : (old s new : Seen) (m : Place) (f : Forest) (message : List ℕ)
+    → Is (missed message s) new
+    → IsBegun old s m f → IsBegun old new m f
+then_misses old s new m f message is begun =
+    complains old s new m f (noted s.taken Behind message s.errors) begun is
+
+pub then_tells : (old s new : Seen) (m : Place) (f : Forest) (spot : Spot) (message : List ℕ)
+    → Is (told_of spot message s) new
+    → IsBegun old s m f → IsBegun old new m f
+then_tells old s new m f spot message is begun =
+    complains old s new m f
+    (s.errors ++ record { place = s.taken; spot = spot; message = message } ∷ []) begun is
 
 pub then_takes_as : (old s new : Seen) (m : Place) (g : Forest) (kind : ℕ)
     → Is (bumped_as kind s) new → IsBegun old s m (init g)
@@ -76,7 +93,7 @@ pub then_no_more : (P : Forest → Type 0) (old s : Seen) (m : Place) (front : F
 then_no_more = no_more
 
 pub then_item_and : (P : Forest → Type 0) (old s s2 new : Seen) (m : Place) (front h : Forest)
-    (c kind : ℕ) (b : Bool)
+    (c : Extent) (kind : ℕ) (b : Bool)
     → Is (if b then bumped s2 else s2) new → b ≡ true → (IsTrue b → 0 < length s2.left)
     → IsEnded s s2 c kind h → HasItems P old s m front → P (node_then kind h none)
     → HasItems P old new m front
@@ -84,7 +101,7 @@ then_item_and P old s s2 new m front h c kind b is token some ended has p =
     adds_item_and P old s s2 new m front h c kind b has ended p token is some
 
 pub then_item : (P : Forest → Type 0) (old s s2 new : Seen) (m : Place) (front h : Forest)
-    (c kind : ℕ) (b : Bool)
+    (c : Extent) (kind : ℕ) (b : Bool)
     → Is (if b then bumped s2 else s2) new → b ≡ false
     → IsEnded s s2 c kind h → HasItems P old s m front → P (node_then kind h none)
     → HasList P old new m front
@@ -93,8 +110,8 @@ then_item P old s s2 new m front h c kind b is no_token ended has p =
 
 pub then_closes : (P : Forest → Type 0) (old s s2 new : Seen) (m : Place) (front : Forest)
     (b : Bool) (message : List ℕ)
-    (c kind : ℕ) → Is (completed m kind s2) new → c ≡ m.at
-    → Is (if b then bumped s else complained message s) s2 → (IsTrue b → 0 < length s.left)
+    (c : Extent) (kind : ℕ) → Is (completed m kind s2) new → c ≡ extent_of m s2
+    → Is (if b then bumped s else missed message s) s2 → (IsTrue b → 0 < length s.left)
     → HasList P old s m front → IsListNode P front old new c kind
 then_closes P old s s2 new m front b message c kind done at is some has =
     closes P old s s2 new m front b message c kind has is some done at
@@ -129,6 +146,8 @@ pub ruleset making = (
   then_node,
   then_precedes,
   then_complains,
+  then_misses,
+  then_tells,
   then_ends,
 )
 

@@ -7,7 +7,7 @@ use Rattle.rowan_green.specs.declared.green.SyntaxKind.{SyntaxKind}
 use Rattle.rowan_parser.specs.declared.event.Event.{Event}
 use Rattle.rowan_parser.specs.declared.event.Event.TheVariants.{Open, Around, Close, Nothing}
 use Rattle.rowan_parser.specs.declared.event.Event.TheVariants as event
-use Rattle.rowan_parser.specs.Log.{outer_at, closed_at}
+use Rattle.rowan_parser.specs.Log.{outer_at, closed_by}
 use Rattle.rowan_parser.specs.Shape.{Step, Enter, Take, TakeAs, Exit, Forest, none, token_then}
 use Rattle.rowan_parser.specs.Shape.{joined_then, node_then, around, enters, steps, word, joined}
 use Rattle.rowan_parser.specs.Shape.{IsPart, IsNode, reach}
@@ -137,7 +137,7 @@ length-outer (b ∷ x) zero d = refl
 length-outer (b ∷ x) (suc i) d = ap suc (length-outer x i d)
 
 pub closed_alone : (before inside : List Event) (kind : SyntaxKind)
-    → closed_at (record { at = length before; inner = None }) kind (before ++ Nothing ∷ inside)
+    → closed_by None (length before) kind (before ++ Nothing ∷ inside)
     ≡ before ++ Open kind 0 ∷ (inside ++ Close ∷ [])
 closed_alone before inside kind =
     ap (λ (es : List Event). es ++ Close ∷ [])
@@ -148,9 +148,8 @@ closed_alone before inside kind =
 
 pub closed_around : (before node gap inside : List Event) (kind : SyntaxKind) (i : ℕ)
     → i < length node
-    → closed_at
-    (record { at = length before + (length node + length gap); inner = Some (length before + i) })
-    kind (before ++ node ++ gap ++ Nothing ∷ inside)
+    → closed_by (Some (length before + i)) (length before + (length node + length gap)) kind
+    (before ++ node ++ gap ++ Nothing ∷ inside)
     ≡ before ++ outer_at i ((length node + length gap) - i) node ++ gap
     ++ Around kind 0 ∷ (inside ++ Close ∷ [])
 closed_around before node gap inside kind i in_node =

@@ -1,9 +1,7 @@
 -- How the word of a builder grows to what the steps of events spell.
-use Rattle.std.proofs.Common.{◌≡◌, ℕ, zero, suc, ◌+◌, ◌-◌, ◌<◌, ◌&&◌, Bool, true, false, cond, not, List, [], ◌∷◌, ◌++◌, length, drop, refl, sym, ◌∙◌, ap, arith, append_assoc, append-nil}
-use Rattle.std.specs.Prelude.{take_while, ◌==◌, Result, Ok, Err, IfOk}
-use Rattle.std.proofs.lemmas.List.{map-append, nil_from_length}
-use Rattle.std.proofs.Math.Bool.{and-true}
-use Rattle.std.specs.List.{list_any}
+use Rattle.std.proofs.Common.{◌≡◌, ℕ, zero, suc, ◌+◌, ◌-◌, ◌<◌, List, [], ◌∷◌, ◌++◌, length, take, drop, refl, sym, ◌∙◌, ap, arith, append_assoc, append-nil}
+use Rattle.std.specs.Prelude.{take_while, Result, Ok, Err, IfOk}
+use Rattle.std.proofs.lemmas.List.{map-append}
 use Rattle.rowan_green.specs.declared.fault.Fault.{Fault}
 use Rattle.rowan_green.specs.declared.green.SyntaxKind.{SyntaxKind}
 use Rattle.rowan_green.specs.Word.{Symbol, Open, Close}
@@ -12,108 +10,57 @@ use Rattle.rowan_parser.specs.declared.tree.Progress.{Progress}
 use Rattle.rowan_parser.specs.declared.tree.Source.{Source}
 use Rattle.rowan_parser.specs.declared.tree.Trivia.{Trivia}
 use Rattle.rowan_parser.specs.Building.{raw, to_come, AreDone}
-use Rattle.rowan_parser.specs.Events.{is_trivia, is_attached, stays_outside, past, leaves, opening, closings, spelled_by, Puts}
+use Rattle.rowan_parser.specs.Events.{is_trivia, outside, past, leaves, opening, closings, spelled_by, Puts}
 use Rattle.rowan_parser.specs.Shape.{Step, Enter, enters}
-use Rattle.rowan_parser.proofs.Passing.{take-failing}
+use Rattle.rowan_parser.proofs.Trivial.{past-outside, none-inside, none-attached, taken-past}
 
 -- ---- a node begins
 
-pub past-both : (p q : Token → Bool) (ts : List Token) → ((t : Token) → q t ≡ true → p t ≡ true) → past
-    p (past q ts) ≡ past p ts
-past-both p q [] h = refl
-past-both p q (t ∷ ts) h = by (q t) refl (past-both p q ts h)
-  where
-    by : (b : Bool) → q t ≡ b → past p (past q ts) ≡ past p ts → past p
-        (cond b (past q ts) (t ∷ ts)) ≡ past p (t ∷ ts)
-    by true e rest = rest ∙ ap (λ c. cond c (past p ts) (t ∷ ts)) (sym (h t e))
-    by false e rest = refl
-
-pub outside-trivia : (trivia : Trivia) (kind : ℕ) (t : Token) → stays_outside trivia kind t ≡
-    true → is_trivia trivia t ≡ true
-outside-trivia trivia kind t e = left (is_trivia trivia t) (not (is_attached trivia kind t)) e
-  where
-    left : (a b : Bool) → (a && b) ≡ true → a ≡ true
-    left true b e = refl
-    left false b e = e
-
 pub puts_opening : (trivia : Trivia) (kind : ℕ) (ts : List Token) (u v w x : List Symbol)
     (from put same next : ℕ)
-    → Puts ts u (leaves (take_while (stays_outside trivia kind) (drop from ts)))
-    (past (stays_outside trivia kind) (drop from ts)) v put
+    → Puts ts u (leaves (take (outside trivia kind (drop from ts)) (drop from ts)))
+    (drop (outside trivia kind (drop from ts)) (drop from ts)) v put
     → w ≡ v ++ Open kind ∷ []
     → same ≡ put
     → Puts ts w (leaves (take_while (is_trivia trivia) (drop same ts)))
     (past (is_trivia trivia) (drop same ts)) x next
     → Puts ts u (opening trivia kind (drop from ts)) (past (is_trivia trivia) (drop from ts)) x next
 puts_opening trivia kind ts u v w x from put same next h e is k =
-    let before = leaves (take_while (stays_outside trivia kind) (drop from ts)) in
-    let left : drop same ts ≡ past (stays_outside trivia kind) (drop from ts) = ap (λ n. drop n ts)
-    is ∙ h.left in
+    let p = is_trivia trivia in
+    let us = drop from ts in
+    let n = outside trivia kind us in
+    let before = leaves (take n us) in
+    let inside = leaves (take_while p (drop n us)) in
+    let left : drop same ts ≡ drop n us = ap (λ n. drop n ts) is ∙ h.left in
     record {
       word =
           k.word
-          ∙ ap (λ s. w ++ leaves (take_while (is_trivia trivia) s)) left
-          ∙ ap (λ s. s ++ leaves (take_while (is_trivia trivia)
-          (past (stays_outside trivia kind) (drop from ts))))
-          (e ∙ ap (λ s. s ++ Open kind ∷ []) h.word)
-          ∙ append_assoc (u ++ before) (Open kind ∷ []) (leaves
-          (take_while (is_trivia trivia) (past (stays_outside trivia kind) (drop from ts))))
-          ∙ append_assoc u before (Open kind ∷ leaves (take_while (is_trivia trivia)
-          (past (stays_outside trivia kind) (drop from ts))));
-      left =
-          k.left
-          ∙ ap (past (is_trivia trivia)) left
-          ∙ past-both (is_trivia trivia) (stays_outside trivia kind) (drop from ts)
-          (outside-trivia trivia kind);
+          ∙ ap (λ s. w ++ leaves (take_while p s)) left
+          ∙ ap (λ s. s ++ inside) (e ∙ ap (λ s. s ++ Open kind ∷ []) h.word)
+          ∙ append_assoc (u ++ before) (Open kind ∷ []) inside
+          ∙ append_assoc u before (Open kind ∷ inside);
+      left = k.left ∙ ap (past p) left ∙ past-outside trivia kind us;
     }
 
 -- where no trivia are attached, none are left behind those that stay outside
-outside-all : (trivia : Trivia) (kind : ℕ) (t : Token) → trivia.attached.now ≡ [] →
-    stays_outside trivia kind t ≡ is_trivia trivia t
-outside-all trivia kind t none =
-    ap (λ (b : Bool). is_trivia trivia t && not b) (ap (λ (pairs : List (SyntaxKind × SyntaxKind)).
-    list_any (λ pair. (pair.0.0 == kind) && (pair.1.0 == t.kind.0)) pairs) none)
-    ∙ and-true (is_trivia trivia t)
-
-take-none : (p q : Token → Bool) (ts : List Token) → ((t : Token) → q t ≡ p t) → take_while p
-    (past q ts) ≡ []
-take-none p q [] h = refl
-take-none p q (t ∷ ts) h = by (q t) refl (take-none p q ts h)
-  where
-    by : (b : Bool) → q t ≡ b → take_while p (past q ts) ≡ [] → take_while p
-        (cond b (past q ts) (t ∷ ts)) ≡ []
-    by true e rest = rest
-    by false e rest = take-failing p t ts (sym (sym (h t) ∙ e))
-
-past-stays : (p q : Token → Bool) (ts : List Token) → ((t : Token) → q t ≡ p t) → past p (past q ts)
-    ≡ past q ts
-past-stays p q [] h = refl
-past-stays p q (t ∷ ts) h = by (q t) refl (past-stays p q ts h)
-  where
-    by : (b : Bool) → q t ≡ b → past p (past q ts) ≡ past q ts → past p (cond b (past q ts) (t ∷ ts))
-        ≡ cond b (past q ts) (t ∷ ts)
-    by true e rest = rest
-    by false e rest = ap (λ (c : Bool). cond c (past p ts) (t ∷ ts)) (sym (h t) ∙ e)
-
 pub puts_unattached : (trivia : Trivia) (kind : ℕ) (ts : List Token) (u v w : List Symbol)
     (from put same : ℕ)
     → length trivia.attached.now ≡ 0
-    → Puts ts u (leaves (take_while (stays_outside trivia kind) (drop from ts)))
-    (past (stays_outside trivia kind) (drop from ts)) v put
+    → Puts ts u (leaves (take (outside trivia kind (drop from ts)) (drop from ts)))
+    (drop (outside trivia kind (drop from ts)) (drop from ts)) v put
     → w ≡ v ++ Open kind ∷ []
     → same ≡ put
     → Puts ts u (opening trivia kind (drop from ts)) (past (is_trivia trivia) (drop from ts)) w same
 puts_unattached trivia kind ts u v w from put same none h e is =
-    let left : drop same ts ≡ past (stays_outside trivia kind) (drop from ts) = ap (λ n. drop n ts)
-    is ∙ h.left in
-    let all : (t : Token) → stays_outside trivia kind t ≡ is_trivia trivia t = λ t.
-    outside-all trivia kind t (nil_from_length trivia.attached.now none) in
-    let untaken : take_while (is_trivia trivia) (drop same ts) ≡ [] = ap
-    (take_while (is_trivia trivia)) left ∙ take-none (is_trivia trivia) (stays_outside trivia kind)
-    (drop from ts) all in
-    let unpassed : drop same ts ≡ past (is_trivia trivia) (drop same ts) = left ∙ sym
-    (past-stays (is_trivia trivia) (stays_outside trivia kind) (drop from ts) all) ∙ ap
-    (past (is_trivia trivia)) (sym left) in
+    let p = is_trivia trivia in
+    let us = drop from ts in
+    let n = outside trivia kind us in
+    let left : drop same ts ≡ drop n us = ap (λ n. drop n ts) is ∙ h.left in
+    let empty = none-inside trivia kind us
+    (none-attached trivia kind none) in
+    let untaken : take_while p (drop same ts) ≡ [] = ap (take_while p) left ∙ empty in
+    let unpassed : drop same ts ≡ past p (drop same ts) =
+    sym (taken-past p (drop same ts)) ∙ ap (λ xs. xs ++ past p (drop same ts)) untaken in
     puts_opening trivia kind ts u v w w from put same same h e is (record {
       word = sym (ap (λ s. w ++ leaves s) untaken ∙ append-nil w);
       left = unpassed;

@@ -11,7 +11,10 @@ use Rattle.rowan_parser.specs.declared.event.Event.{Event}
 use Rattle.rowan_parser.specs.declared.event.Event.TheVariants.{Open, Around, Close, Nothing}
 use Rattle.rowan_parser.specs.declared.event.Event.TheVariants as event
 use Rattle.rowan_parser.specs.declared.lexer.Token.{Token}
+use Rattle.rowan_parser.specs.declared.token_set.TokenSet.{TokenSet}
 use Rattle.rowan_parser.specs.declared.tree.Trivia.{Trivia}
+use Rattle.rowan_parser.specs.Outside.{outside_of}
+use Rattle.rowan_parser.specs.Seen.{has}
 use Rattle.rowan_parser.specs.Shape.{Step, Enter, Take, TakeAs, Exit, steps as steps_of}
 use Rattle.rowan_parser.specs.Shape.{Forest, none, token_then, joined_then, node_then}
 use Rattle.rowan_parser.specs.Tokens.{token_term, tokens_text}
@@ -19,16 +22,20 @@ use Rattle.rowan_parser.specs.Tokens.{token_term, tokens_text}
 -- ---- trivia
 
 abbrev pub is_trivia : Trivia → Token → Bool
-is_trivia trivia token = list_any (λ kind. kind.0 == token.kind.0) trivia.kinds.now
+is_trivia trivia token = has trivia.kinds.0 token.kind.0
+
+-- this pair says that tokens of this kind belong to such a node
+abbrev pub is_pair : ℕ → ℕ → SyntaxKind × TokenSet → Bool
+is_pair node kind pair = (pair.0.0 == node) && has pair.1.0 kind
 
 -- trivia of this kind belong to a node of that kind which begins behind them
 abbrev pub is_attached : Trivia → ℕ → Token → Bool
-is_attached trivia node token =
-    list_any (λ pair. (pair.0.0 == node) && (pair.1.0 == token.kind.0)) trivia.attached.now
+is_attached trivia node token = list_any (is_pair node token.kind.0) trivia.attached.now
 
--- trivia that stay outside of a node of this kind which begins behind them
-abbrev pub stays_outside : Trivia → ℕ → Token → Bool
-stays_outside trivia node token = is_trivia trivia token && not (is_attached trivia node token)
+-- how many of the trivia that come next stay outside of a node of this kind which begins behind them
+abbrev pub outside : Trivia → ℕ → List Token → ℕ
+outside trivia node tokens =
+    outside_of (is_attached trivia node) (take_while (is_trivia trivia) tokens)
 
 -- the tokens from the first one on that does not pass
 abbrev pub past : (Token → Bool) → List Token → List Token
@@ -64,12 +71,12 @@ one_leaf kind [] = []
 one_leaf kind (token ∷ tokens) = Leaf (token_of kind (tokens_text (token ∷ tokens))) ∷ []
 
 -- A node begins before the first one of these tokens that is no trivia: behind the trivia that stay
--- outside of it, and around those that are left, from the first one on that is attached to it.
+-- outside of it, and around those that are left, which belong to it.
 abbrev pub opening : Trivia → ℕ → List Token → List Symbol
 opening trivia kind tokens =
-    leaves (take_while (stays_outside trivia kind) tokens)
+    leaves (take (outside trivia kind tokens) tokens)
     ++ word.Open kind
-    ∷ leaves (take_while (is_trivia trivia) (past (stays_outside trivia kind) tokens))
+    ∷ leaves (take_while (is_trivia trivia) (drop (outside trivia kind tokens) tokens))
 
 abbrev pub closings : ℕ → List Symbol
 closings zero = []

@@ -3,6 +3,7 @@ pub mod Events
 pub mod Lines
 pub mod Log
 pub mod Making
+pub mod Outside
 pub mod Parsing
 pub mod Running
 pub mod Seen

@@ -1,5 +1,5 @@
 -- The value of a parser: what it has left and what it has done. And what each call makes of it.
-use Rattle.std.specs.Prelude.{◌≡◌, ◌==◌, ℕ, zero, suc, ◌+◌, ◌-◌, min, Bool, true, false, cond}
+use Rattle.std.specs.Prelude.{◌≡◌, ◌==◌, ◌&&◌, ℕ, zero, suc, ◌+◌, ◌-◌, min, Bool, true, false, cond}
 use Rattle.std.specs.Prelude.{if◌then◌else◌, IsTrue, List, [], ◌∷◌, ◌++◌, length, drop}
 use Rattle.std.specs.Prelude.{Option, Some, None, slice_get, slice_set}
 use Rattle.rowan_green.specs.declared.green.SyntaxKind.{SyntaxKind}
@@ -7,12 +7,15 @@ use Rattle.rowan_parser.specs.Told.{Told}
 use Rattle.rowan_parser.specs.declared.event.Event.{Event}
 use Rattle.rowan_parser.specs.declared.event.Event.TheVariants.{Open, Around, Close, Nothing}
 use Rattle.rowan_parser.specs.declared.event.Event.TheVariants as event
+use Rattle.rowan_parser.specs.declared.parser.Spot.{Spot}
+use Rattle.rowan_parser.specs.declared.parser.Spot.TheVariants.{Here, Behind, Given, Over}
 
--- A token that is no trivia: its raw kind and its text, whether it touches the token before, and
--- whether a line ended between these two.
+-- A token that is no trivia: its raw kind, its text and the offset at which this starts, whether it
+-- touches the token before, and whether a line ended between these two.
 pub record Piece : Type 0 where
   pub kind : ℕ
   pub text : List ℕ
+  pub start : ℕ
   pub is_joined : Bool
   pub is_after_line : Bool
 
@@ -30,10 +33,18 @@ pub record Is (wanted got : Seen) : Type 0 where
   pub left : got.left ≡ wanted.left
   pub all : IsTrue got.is_whole → got ≡ wanted
 
--- Where a node begins, and where the one begins around which it stands, if it stands around one.
+-- Where a node begins, where the one begins around which it stands, if it stands around one, and
+-- the number of its first token.
 pub record Place : Type 0 where
   pub at : ℕ
   pub inner : Option ℕ
+  pub first : ℕ
+
+-- Where a node begins that ended, the number of its first token, and that of the one behind it.
+pub record Extent : Type 0 where
+  pub at : ℕ
+  pub first : ℕ
+  pub end : ℕ
 
 -- ---- tokens
 
@@ -80,24 +91,47 @@ glued kind n s = with_joined kind (min (length s.left) n) s
 
 -- ---- errors
 
+-- it stands where the parser was, and not where the grammar said
+abbrev pub is_by_place : Spot → Bool
+is_by_place Here = true
+is_by_place Behind = true
+is_by_place (Given range) = false
+is_by_place (Over first end) = false
+
 abbrev pub stands_at : ℕ → Option Told → Bool
 stands_at place None = false
-stands_at place (Some e) = e.place == place
+stands_at place (Some e) = is_by_place e.spot && (e.place == place)
 
 -- a second complaint of one place is not noted
-abbrev pub noted : ℕ → List ℕ → List Told → List Told
-noted place message errors =
+abbrev pub noted : ℕ → Spot → List ℕ → List Told → List Told
+noted place spot message errors =
     if stands_at place (slice_get errors (length errors - 1)) then errors
-    else errors ++ record { place = place; message = message } ∷ []
+    else errors ++ record { place = place; spot = spot; message = message } ∷ []
 
-abbrev pub complained : List ℕ → Seen → Seen
-complained message s = record {
+abbrev pub with_errors : List Told → Seen → Seen
+with_errors errors s = record {
   left = s.left;
   taken = s.taken;
   events = s.events;
-  errors = noted s.taken message s.errors;
+  errors = errors;
   is_whole = s.is_whole;
 }
+
+abbrev pub complained_at : Spot → List ℕ → Seen → Seen
+complained_at spot message s = with_errors (noted s.taken spot message s.errors) s
+
+-- of the current token
+abbrev pub complained : List ℕ → Seen → Seen
+complained message s = complained_at Here message s
+
+-- of what is missing behind the last token that was taken
+abbrev pub missed : List ℕ → Seen → Seen
+missed message s = complained_at Behind message s
+
+-- of what the grammar says
+abbrev pub told_of : Spot → List ℕ → Seen → Seen
+told_of spot message s =
+    with_errors (s.errors ++ record { place = s.taken; spot = spot; message = message } ∷ []) s
 
 -- ---- nodes
 
@@ -133,10 +167,18 @@ completed place kind s = record {
   is_whole = s.is_whole;
 }
 
+-- the node that was begun at a place and ends now
+abbrev pub extent_of : Place → Seen → Extent
+extent_of place s = record { at = place.at; first = place.first; end = s.taken }
+
+-- the place around a node that ended
+abbrev pub place_around : Extent → Seen → Place
+place_around e s = record { at = length s.events; inner = Some e.at; first = e.first }
+
 -- ---- recovery
 
 abbrev pub begun_at : Seen → Place
-begun_at s = record { at = length s.events; inner = None }
+begun_at s = record { at = length s.events; inner = None; first = s.taken }
 
 -- a node of this kind around the next token
 abbrev pub with_error_node : ℕ → Seen → Seen
@@ -147,16 +189,36 @@ abbrev pub stops_here : (ℕ → Bool) → List Piece → Bool
 stops_here stops [] = true
 stops_here stops (t ∷ left) = stops t.kind
 
--- of these tokens, which are left, those up to the first one of these kinds are taken
+-- Of these tokens, which are left, those up to the first one are taken at which it halts. It halts by
+-- a level and a kind, and each token that is taken leads to another level.
+abbrev pub skipped_by : (ℕ → ℕ → Bool) → (ℕ → ℕ → ℕ) → ℕ → List Piece → Seen → Seen
+skipped_by halts next n [] s = s
+skipped_by halts next n (t ∷ left) s = cond (halts n t.kind) s
+    (skipped_by halts next (next n t.kind) left (with_token event.Token (t ∷ left) s))
+
+-- up to the first token of these kinds
 abbrev pub skipped : (ℕ → Bool) → List Piece → Seen → Seen
-skipped stops [] s = s
-skipped stops (t ∷ left) s =
-    cond (stops t.kind) s (skipped stops left (with_token event.Token (t ∷ left) s))
+skipped stops left s = skipped_by (λ n k. stops k) (λ n k. n) 0 left s
+
+-- one level deeper behind a token that opens, and one less behind one that closes
+abbrev pub level_behind : (ℕ → Bool) → (ℕ → Bool) → ℕ → ℕ → ℕ
+level_behind opens closes n k = if opens k then suc n else if closes k then n - 1 else n
+
+-- it halts at these kinds where no bracket is open
+abbrev pub halts_outside : (ℕ → Bool) → ℕ → ℕ → Bool
+halts_outside stops n k = (n == 0) && stops k
 
 -- these tokens, if there are any, in a node of this kind
 abbrev pub recovered : ℕ → (ℕ → Bool) → Seen → Seen
 recovered kind stops s = cond (stops_here stops s.left) s
     (completed (begun_at s) kind (skipped stops s.left (with_event Nothing s)))
+
+-- the same, and what stands in brackets that open among these tokens does not stop
+abbrev pub recovered_over : ℕ → (stops opens closes : ℕ → Bool) → Seen → Seen
+recovered_over kind stops opens closes s = cond (stops_here stops s.left) s
+    (completed (begun_at s) kind
+    (skipped_by (halts_outside stops) (level_behind opens closes) 0 s.left
+    (with_event Nothing s)))
 
 -- unless it is so, a node of this kind around the next token
 abbrev pub refused_unless : Bool → ℕ → Seen → Seen

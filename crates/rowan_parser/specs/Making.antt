@@ -3,7 +3,7 @@
 -- then.
 use Rattle.std.specs.Prelude.{◌≡◌, ◌⊎◌, ℕ, zero, suc, ◌+◌, IsTrue, All, List, [], ◌∷◌, ◌++◌, length}
 use Rattle.rowan_green.specs.declared.green.SyntaxKind.{SyntaxKind}
-use Rattle.rowan_parser.specs.Log.{Seen, Place, closed_at}
+use Rattle.rowan_parser.specs.Log.{Seen, Place, Extent, closed_at}
 use Rattle.rowan_parser.specs.Shape.{Forest, none, token_then, joined_then, node_then, joined}
 use Rattle.rowan_parser.specs.Shape.{IsPart, IsNode}
 use Rattle.rowan_parser.specs.declared.event.Event.{Event}
@@ -27,12 +27,12 @@ pub record IsBegun (old s : Seen) (m : Place) (f : Forest) : Type 0 where
       → HasNode old.events (closed_at m raw (s.events ++ more)) m.at raw.0 (joined f g)
 
 -- since then one node of this kind over this forest was made, and that is its marker
-pub record IsEnded (old s : Seen) (marker kind : ℕ) (f : Forest) : Type 0 where
+pub record IsEnded (old s : Seen) (marker : Extent) (kind : ℕ) (f : Forest) : Type 0 where
   pub was : IsTrue s.is_whole → IsTrue old.is_whole
-  pub is : IsTrue s.is_whole → HasNode old.events s.events marker kind f
+  pub is : IsTrue s.is_whole → HasNode old.events s.events marker.at kind f
 
 -- since then one node of such a shape was made, and that is its marker
-pub record IsNodeOf (P : Forest → Type 0) (old s : Seen) (marker : ℕ) : Type 0 where
+pub record IsNodeOf (P : Forest → Type 0) (old s : Seen) (marker : Extent) : Type 0 where
   pub kind : ℕ
   pub inside : Forest
   pub is : P (node_then kind inside none)
@@ -67,8 +67,8 @@ pub record HasList (P : Forest → Type 0) (old s : Seen) (m : Place) (front : F
 
 -- One node of this kind was made: over this, elements with separators between them, and a token
 -- that may be missing.
-pub record IsListNode (P : Forest → Type 0) (front : Forest) (old s : Seen) (marker kind : ℕ)
-    : Type 0 where
+pub record IsListNode (P : Forest → Type 0) (front : Forest) (old s : Seen) (marker : Extent)
+    (kind : ℕ) : Type 0 where
   pub items : List Forest
   pub last : Forest
   pub row : IsRow P items last

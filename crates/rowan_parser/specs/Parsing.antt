@@ -1,13 +1,12 @@
 -- From a text to its tree: the tokens of a lexer, what a grammar did over those that are no trivia,
 -- and the tree of its events.
 use Rattle.std.specs.Prelude.{◌≡◌, ℕ, ◌+◌, ◌<◌, ◌==◌, ◌||◌, Bool, true, false, cond, List, [], ◌∷◌}
-use Rattle.std.specs.Prelude.{map, length, get_or, string_bytes}
-use Rattle.std.specs.Borrow.{MutBor}
+use Rattle.std.specs.Prelude.{◌++◌, map, length, get_or, min, string_bytes, Option, Some, None}
+use Rattle.std.specs.Borrow.{Bor, MutBor}
 use Rattle.std.specs.Fn.{Once}
 use Rattle.std.specs.List.{list_any}
 use Rattle.rowan_green.specs.declared.fault.Fault.{Fault}
 use Rattle.rowan_green.specs.declared.fault.Fault.TheVariants.{TextTooLong, TooManyChildren, Memory}
-use Rattle.rowan_green.specs.declared.green.SyntaxKind.{SyntaxKind}
 use Rattle.rowan_green.specs.declared.utility_types.NodeOrToken.TheVariants.{Node}
 use Rattle.rowan_green.specs.Fits.{byte_limit}
 use Rattle.rowan_green.specs.Path.{tokens as tokens_of}
@@ -22,8 +21,11 @@ use Rattle.rowan_parser.specs.Seen.{started}
 use Rattle.rowan_parser.specs.Told.{Told}
 use Rattle.rowan_parser.specs.Tokens.{tokens_text, token_terms, AreSaid}
 use Rattle.rowan_parser.specs.declared.event.Event.{Event}
+use Rattle.rowan_parser.specs.declared.lexer.Lexeme.{Lexeme}
 use Rattle.rowan_parser.specs.declared.lexer.Token.{Token}
 use Rattle.rowan_parser.specs.declared.parsed.SyntaxError.{SyntaxError}
+use Rattle.rowan_parser.specs.declared.parser.Spot.{Spot}
+use Rattle.rowan_parser.specs.declared.parser.Spot.TheVariants.{Here, Behind, Given, Over}
 use Rattle.rowan_parser.specs.declared.tree.Trivia.{Trivia}
 
 -- ---- what a grammar sees
@@ -31,22 +33,24 @@ use Rattle.rowan_parser.specs.declared.tree.Trivia.{Trivia}
 abbrev pub has_line_end : List ℕ → Bool
 has_line_end bytes = list_any (λ byte. byte == 10) bytes
 
--- The tokens that are no trivia. It is said whether the first token touches the one before, and
--- whether a line ended since the last one that is no trivia.
-abbrev pub pieces_since : Bool → Bool → Trivia → List Token → List Piece
-pieces_since is_joined is_after_line trivia [] = []
-pieces_since is_joined is_after_line trivia (token ∷ tokens) =
+-- The tokens that are no trivia. It is said where the first token starts, whether it touches the one
+-- before, and whether a line ended since the last one that is no trivia.
+abbrev pub pieces_since : ℕ → Bool → Bool → Trivia → List Token → List Piece
+pieces_since start is_joined is_after_line trivia [] = []
+pieces_since start is_joined is_after_line trivia (token ∷ tokens) =
+    let next = start + length token.text.now in
     cond (is_trivia trivia token)
-    (pieces_since false (is_after_line || has_line_end token.text.now) trivia tokens)
+    (pieces_since next false (is_after_line || has_line_end token.text.now) trivia tokens)
     (record {
       kind = token.kind.0;
       text = token.text.now;
+      start = start;
       is_joined = is_joined;
       is_after_line = is_after_line;
-    } ∷ pieces_since true false trivia tokens)
+    } ∷ pieces_since next true false trivia tokens)
 
 abbrev pub pieces : Trivia → List Token → List Piece
-pieces trivia tokens = pieces_since false false trivia tokens
+pieces trivia tokens = pieces_since 0 false false trivia tokens
 
 -- ---- errors
 
@@ -59,14 +63,27 @@ ranges_from start trivia (token ∷ tokens) =
     (record { start = start; end = start + length token.text.now }
     ∷ ranges_from (start + length token.text.now) trivia tokens)
 
--- the empty range at the end
-abbrev pub end_of : List Token → Span
-end_of tokens =
-    record { start = length (tokens_text tokens); end = length (tokens_text tokens) }
+abbrev pub empty_at : ℕ → Span
+empty_at offset = record { start = offset; end = offset }
 
--- where token number n of those that are no trivia stands, or the end where there is none
-abbrev pub range_of : Trivia → List Token → ℕ → Span
-range_of trivia tokens n = get_or (ranges_from 0 trivia tokens) n (end_of tokens)
+-- where the first n of these ranges end, or all of them where they are fewer
+abbrev pub end_behind : List Span → ℕ → ℕ
+end_behind ranges n = get_or (0 ∷ map (λ range. range.end) ranges) (min n (length ranges)) 0
+
+-- range number n, or the empty one behind the last where there is none
+abbrev pub nth_range : List Span → ℕ → Span
+nth_range ranges n = get_or ranges n (empty_at (end_behind ranges n))
+
+-- Where a complaint stands before which so many tokens were taken. These are the ranges of all
+-- tokens.
+abbrev pub range_at : List Span → ℕ → Spot → Span
+range_at ranges n Here = nth_range ranges n
+range_at ranges n Behind = empty_at (end_behind ranges n)
+range_at ranges n (Given range) = range
+range_at ranges n (Over first end) = record {
+  start = min (nth_range ranges first).start (end_behind ranges end);
+  end = end_behind ranges end;
+}
 
 -- an error: the bytes of its message, and its range
 pub record Error : Type 0 where
@@ -78,15 +95,29 @@ error_value error = record { message = string_bytes error.message; range = error
 
 -- the error of a complaint
 abbrev pub error_of : Trivia → List Token → Told → Error
-error_of trivia tokens told =
-    record { message = told.message; range = range_of trivia tokens told.place }
+error_of trivia tokens told = record {
+  message = told.message;
+  range = range_at (ranges_from 0 trivia tokens) told.place told.spot;
+}
+
+-- what the lexer said of a token with this range, if it complained of it
+abbrev pub said_of : Option (Bor (List ℕ)) → Span → List Error
+said_of None range = []
+said_of (Some message) range = record { message = message.now; range = range } ∷ []
+
+-- what the lexer said of these tokens, the first of which starts at this offset
+abbrev pub lexer_errors : ℕ → List Token → List Error
+lexer_errors start [] = []
+lexer_errors start (token ∷ tokens) =
+    let end = start + length token.text.now in
+    said_of token.message (record { start = start; end = end }) ++ lexer_errors end tokens
 
 -- ---- a run
 
 -- The tokens are what the lexer tells, one after the other, from the start of the text to its end.
--- The grammar ran over those that are no trivia. In the end its parser had these events, and
--- complaints with these errors.
-pub record IsRun {X G : Type 0} (says : X → List ℕ → SyntaxKind × ℕ → X → Type 0) (lexer : X)
+-- The grammar ran over those that are no trivia. In the end its parser had these events. The errors
+-- are those that the lexer told, and then those of the parser's complaints.
+pub record IsRun {X G : Type 0} (says : X → List ℕ → Lexeme → X → Type 0) (lexer : X)
     (calls : Once G (MutBor Seen × Unit {0}) (Unit {0} × (MutBor Seen × Unit {0})))
     (grammar : G) (trivia : Trivia) (text : List ℕ)
     (tokens : List Token) (events : List Event) (errors : List SyntaxError) : Type 0 where
@@ -94,7 +125,8 @@ pub record IsRun {X G : Type 0} (says : X → List ℕ → SyntaxKind × ℕ →
   pub whole : tokens_text tokens ≡ text
   pub complaints : List Told
   pub makes : Makes calls grammar (started (pieces trivia tokens)) events complaints
-  pub told : map error_value errors ≡ map (error_of trivia tokens) complaints
+  pub told : map error_value errors
+      ≡ lexer_errors 0 tokens ++ map (error_of trivia tokens) complaints
 
 -- why a text is not run over
 abbrev pub WhyNotRun : List ℕ → Fault → Type 0

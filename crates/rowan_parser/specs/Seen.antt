@@ -1,7 +1,10 @@
 -- What a grammar sees when it looks at the tokens that are left.
-use Rattle.std.specs.Prelude.{ℕ, ◌==◌, ◌&&◌, ◌||◌, ◌/◌, ◌%◌, ◌^◌, ltb, Bool, true, false}
+use Rattle.std.specs.Prelude.{ℕ, ◌+◌, ◌==◌, ◌&&◌, ◌||◌, ◌/◌, ◌%◌, ◌^◌, ltb, Bool, true, false}
+use Rattle.std.specs.Prelude.{if◌then◌else◌, length}
 use Rattle.std.specs.Prelude.{List, [], ◌∷◌, map, drop, Option, Some, None, slice_get}
 use Rattle.std.specs.Option.{option_map}
+use Rattle.rowan_green.specs.Fits.{byte_limit}
+use Rattle.rowan_green.specs.Span.{Span}
 use Rattle.rowan_parser.specs.Log.{Seen, Piece}
 use Rattle.rowan_parser.specs.declared.parser.SeenToken.{SeenToken}
 
@@ -9,6 +12,7 @@ abbrev pub piece : SeenToken → Piece
 piece t = record {
   kind = t.kind.0;
   text = t.text.now;
+  start = t.start;
   is_joined = t.is_joined;
   is_after_line = t.is_after_line;
 }
@@ -49,6 +53,23 @@ text_of (Some t) = t.text
 -- the text of the token so many places ahead, or none behind the end
 abbrev pub text_ahead : List Piece → ℕ → List ℕ
 text_ahead left n = text_of (slice_get left n)
+
+-- whether it halts at the first token, or there is none
+abbrev pub halts_here : (ℕ → ℕ → Bool) → ℕ → List Piece → Bool
+halts_here halts n [] = true
+halts_here halts n (t ∷ left) = halts n t.kind
+
+-- the level behind the first token, if there is one
+abbrev pub next_here : (ℕ → ℕ → ℕ) → ℕ → List Piece → ℕ
+next_here next n [] = n
+next_here next n (t ∷ left) = next n t.kind
+
+-- The range of a token. A text of more bytes than a range can say has none, and no parser.
+abbrev pub range_of : Option Piece → Option Span
+range_of None = None
+range_of (Some t) =
+    if ltb byte_limit (t.start + length t.text) then None
+    else Some (record { start = t.start; end = t.start + length t.text })
 
 -- whether a line ended before the first token
 abbrev pub is_after_line : List Piece → Bool

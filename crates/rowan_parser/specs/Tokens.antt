@@ -2,8 +2,8 @@
 use Rattle.std.specs.Prelude.{◌≡◌, ℕ, ◌<◌, ◌≤◌, max, List, [], ◌∷◌, map, length, ⊤}
 use Rattle.std.specs.List.{flat_map}
 use Rattle.std.specs.Str.{IsCharBoundary}
-use Rattle.rowan_green.specs.declared.green.SyntaxKind.{SyntaxKind}
 use Rattle.rowan_green.specs.Term.{TokenTerm, token_of}
+use Rattle.rowan_parser.specs.declared.lexer.Lexeme.{Lexeme}
 use Rattle.rowan_parser.specs.declared.lexer.Token.{Token}
 
 -- the texts of the tokens, one after the other
@@ -25,17 +25,18 @@ pub record IsNextEnd (text : List ℕ) (place end : ℕ) : Type 0 where
   pub first : (i : ℕ) → place ≤ i → i < end → IsCharBoundary text i → ⊥
   pub past : length text < place → end ≡ length text
 
--- A lexer tells of the text that is left this kind and a length, and is then the later one. The
--- token has that kind. It ends where a character ends: at that length, or else at the next such
--- place, and behind at least one byte.
-pub record IsSaid {X : Type 0} (says : X → List ℕ → SyntaxKind × ℕ → X → Type 0)
+-- A lexer tells of the text that is left this kind, this message and a length, and is then the later
+-- one. The token has that kind and message. It ends where a character ends: at that length, or else
+-- at the next such place, and behind at least one byte.
+pub record IsSaid {X : Type 0} (says : X → List ℕ → Lexeme → X → Type 0)
     (lexer : X) (rest : List ℕ) (token : Token) (later : X) : Type 0 where
   pub len : ℕ
-  pub said : says lexer rest (token.kind, len) later
+  pub said : says lexer rest
+      (record { kind = token.kind; len = len; message = token.message }) later
   pub cut : IsNextEnd rest (max len 1) (length token.text.now)
 
 -- the lexer tells each token, in turn, of its text and of those behind it
-abbrev pub AreSaid : {X : Type 0} → (X → List ℕ → SyntaxKind × ℕ → X → Type 0)
+abbrev pub AreSaid : {X : Type 0} → (X → List ℕ → Lexeme → X → Type 0)
     → X → List Token → Type 0
 AreSaid says lexer [] = ⊤
 AreSaid {X} says lexer (token ∷ tokens) =

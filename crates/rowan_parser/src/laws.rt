@@ -5,7 +5,7 @@ ghost use Rattle.rowan_green.specs.Term.{NodeTerm};
 ghost use Rattle.rowan_green.specs.Word.{node_word, word_text, word_tokens};
 ghost use Rattle.rowan_green.specs.declared.green.SyntaxKind.{SyntaxKind};
 ghost use Rattle.rowan_parser.specs.Events.{tree_word, spelled_by, grown, after, seen, join_some};
-ghost use Rattle.rowan_parser.specs.Log.{closed_at, outer_at};
+ghost use Rattle.rowan_parser.specs.Log.{closed_by, outer_at};
 ghost use Rattle.rowan_parser.specs.Parsing.{IsRun, IsParsed};
 ghost use Rattle.rowan_parser.specs.Shape.{Forest, none, token_then, joined_then, node_then};
 ghost use Rattle.rowan_parser.specs.Shape.{joined, IsPart, IsNode, steps, token_count};
@@ -42,8 +42,7 @@ pub fn parts_join()
 /// A completed marker is a node of its kind over what was made since it began.
 pub fn a_completed_marker_is_a_node()
     ensures events { (before inside : List Event) (kind : SyntaxKind)
-        → closed_at (record { at = length before; inner = None }) kind
-        (before ++ Nothing ∷ inside)
+        → closed_by None (length before) kind (before ++ Nothing ∷ inside)
         ≡ before ++ Open kind 0 ∷ (inside ++ Close ∷ []) }
     ensures node { (inside : List Event) (f : Forest) (kind : SyntaxKind) → IsPart inside f
         → IsNode 0 (Open kind 0 ∷ (inside ++ Close ∷ [])) kind.0 f }
@@ -54,12 +53,8 @@ pub fn a_completed_marker_is_a_node()
 pub fn precede_puts_one_around()
     ensures events { (before node gap inside : List Event) (kind : SyntaxKind) (i : ℕ)
         → i < length node
-        → closed_at
-        (record {
-          at = length before + (length node + length gap);
-          inner = Some (length before + i);
-        })
-        kind (before ++ node ++ gap ++ Nothing ∷ inside)
+        → closed_by (Some (length before + i)) (length before + (length node + length gap)) kind
+        (before ++ node ++ gap ++ Nothing ∷ inside)
         ≡ before ++ outer_at i ((length node + length gap) - i) node ++ gap
         ++ Around kind 0 ∷ (inside ++ Close ∷ []) }
     ensures node { (node gap inside : List Event) (f g h : Forest) (kind : SyntaxKind)

@@ -1,31 +1,42 @@
 //! The tokens of a text, cut as a lexer says.
-ghost use Rattle.std.specs.Prelude.{◌≡◌, ℕ, ◌<◌, List, length, All, IfOk, IfErr};
+ghost use Rattle.std.specs.Prelude.{◌≡◌, ℕ, ◌<◌, List, length, All, None, IfOk, IfErr};
 ghost use Rattle.std.specs.Fn.{CalledAt};
-ghost use Rattle.rowan_green.specs.declared.green.SyntaxKind.{SyntaxKind};
 ghost use Rattle.rowan_parser.specs.Tokens.{tokens_text, AreSaid};
+ghost use Rattle.rowan_parser.specs.declared.lexer.Lexeme.{Lexeme};
 
 use rowan::{Fault, SyntaxKind};
 use std::alloc::Global;
 
-/// A piece of a text, with its kind.
+/// A piece of a text, with its kind, and what the lexer complained of in it.
 #[derive(Clone, Copy)]
 pub struct Token<'text> {
     pub kind: SyntaxKind,
     pub text: &'text str,
+    pub message: Option<&'text str>,
+}
+
+/// What a lexer says of the first token of a text: its kind, its length in bytes, and, where
+/// something is wrong in it, as a string without its end, what that is. The message is among the
+/// errors of the parse.
+#[derive(Clone, Copy)]
+pub struct Lexeme {
+    pub kind: SyntaxKind,
+    pub len: usize,
+    pub message: Option<&'static str>,
 }
 
 /// Says how a text begins. It may keep a state, as the mode inside of a string. It has nothing to
 /// prove: a length that does not fit is cut to one that does.
 ///
-/// Each closure and function of this shape is a lexer. A type of your own writes `ghost is_ready`
-/// and `ghost says`, which may both claim nothing.
+/// Each closure and function from a text to a kind and a length is a lexer that never complains. A
+/// type of your own writes `ghost is_ready` and `ghost says`, which may both claim nothing.
 pub trait Lexer {
     ghost is_ready: { Self → Type 0 };
 
-    ghost says: { Self → List ℕ → SyntaxKind × ℕ → Self → Type 0 };
+    ghost says: { Self → List ℕ → Lexeme → Self → Type 0 };
 
-    /// The kind of the first token of `rest`, which is not empty, and its length in bytes.
-    fn next(&mut self, rest: &str) -> (SyntaxKind, usize)
+    /// What the first token of `rest` is, which is not empty.
+    fn next(&mut self, rest: &str) -> Lexeme
         requires { is_ready self.old }
         ensures says { says self.old rest.now result self.new }
         ensures ready { is_ready self.new };
@@ -34,10 +45,16 @@ pub trait Lexer {
 impl<F: FnMut(&str) -> (SyntaxKind, usize)> Lexer for F {
     ghost is_ready = { λ lexer. F.IsAlwaysCallable lexer };
 
-    ghost says = { λ lexer rest token later. CalledAt F.FnMut lexer rest token later };
+    ghost says = { λ lexer rest lexeme later. (lexeme.message ≡ None)
+        × CalledAt F.FnMut lexer rest (lexeme.kind, lexeme.len) later };
 
-    fn next(&mut self, rest: &str) -> (SyntaxKind, usize) {
-        self(rest)
+    fn next(&mut self, rest: &str) -> Lexeme {
+        let (kind, len) = self(rest);
+        Lexeme {
+            kind,
+            len,
+            message: None,
+        }
     }
 }
 
@@ -60,9 +77,13 @@ pub fn lex<X: Lexer + Drop>(
     let mut tokens = Vec::new(alloc);
     let mut rest = text;
     while !rest.is_empty() {
-        let (kind, len) = lexer.next(rest);
+        let Lexeme { kind, len, message } = lexer.next(rest);
         let (text, others) = rest.split_at(rest.ceil_char_boundary(len.max(1)));
-        tokens.push(Token { kind, text })?;
+        tokens.push(Token {
+            kind,
+            text,
+            message,
+        })?;
         rest = others;
     }
     Ok(tokens)

@@ -15,11 +15,11 @@ pub mod token_set;
 pub mod tree;
 
 pub use event::Event;
-pub use lexer::{Lexer, Token, lex};
+pub use lexer::{Lexeme, Lexer, Token, lex};
 pub use line_index::{LineColumn, LineIndex};
 pub use parsed::{Parse, SyntaxError};
 pub use parser::{CompletedMarker, Marker, Parser};
 pub use parsing::{Ran, parse, parse_with, run};
 pub use rendering::render;
-pub use token_set::TokenSet;
+pub use token_set::{Brackets, TokenSet};
 pub use tree::{Source, Trivia, build_tree, build_tree_with};

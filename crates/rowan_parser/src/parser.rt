@@ -1,21 +1,25 @@
 //! What a grammar works with: the tokens that are no trivia, and the events and errors so far.
-ghost use Rattle.std.specs.Prelude.{◌≡◌, ◌↔◌, ◌+◌, ◌-◌, ◌<◌, ◌≤◌, ◌==◌, if◌then◌else◌};
+ghost use Rattle.std.specs.Prelude.{◌≡◌, ◌↔◌, ◌+◌, ◌-◌, ◌^◌, ◌<◌, ◌≤◌, ◌==◌, if◌then◌else◌};
 ghost use Rattle.std.specs.Prelude.{IsTrue, IsSome, IsNone, IfSome, IfOk, IfErr, MatchResult};
 ghost use Rattle.std.specs.Prelude.{true, false, [], length, Some, None, slice_get, slice_set};
 ghost use Rattle.std.specs.Prelude.{string_bytes};
 ghost use Rattle.std.specs.Option.{option_map};
 ghost use Rattle.rowan_parser.specs.Log.{Is, with_event, with_token, bumped, bumped_as, glued};
-ghost use Rattle.rowan_parser.specs.Log.{complained, stands_at, completed, around_by};
-ghost use Rattle.rowan_parser.specs.Log.{outer_at, stops_here, recovered, ended, refused_unless};
-ghost use Rattle.rowan_parser.specs.Log.{with_error_node};
+ghost use Rattle.rowan_parser.specs.Log.{complained_at, complained, missed, told_of, stands_at};
+ghost use Rattle.rowan_parser.specs.Log.{is_by_place, completed, begun_at, extent_of, place_around};
+ghost use Rattle.rowan_parser.specs.Log.{around_by, outer_at, stops_here, recovered, ended};
+ghost use Rattle.rowan_parser.specs.Log.{refused_unless, with_error_node, recovered_over};
+ghost use Rattle.rowan_parser.specs.Log.{halts_outside, level_behind};
 ghost use Rattle.rowan_parser.specs.Seen.{piece, start_of, kind_ahead, is_at, is_in, has};
 ghost use Rattle.rowan_parser.specs.Seen.{text_ahead, is_after_line, is_glued, is_next_glued};
+ghost use Rattle.rowan_parser.specs.Seen.{range_of, halts_here, next_here};
 ghost use Rattle.rowan_parser.specs.declared.event.Event.TheVariants.{Nothing};
+ghost use Rattle.rowan_parser.specs.declared.parser.Spot.TheVariants.{Given, Over};
 
 use crate::event::Event;
 use crate::running::Made;
-use crate::token_set::TokenSet;
-use rowan::{Fault, Language, SyntaxKind};
+use crate::token_set::{Brackets, TokenSet};
+use rowan::{Fault, Language, SyntaxKind, TextRange, TextSize};
 use std::alloc::{AllocError, Global};
 use std::marker::{Model, PhantomData};
 
@@ -40,17 +44,33 @@ pub struct Parser<'t, L> {
 pub(crate) struct SeenToken<'t> {
     pub kind: SyntaxKind,
     pub text: &'t str,
+    /// Where it starts in the text, in bytes.
+    pub start: u32,
     /// It touches the token before it.
     pub is_joined: bool,
     /// A line ended between it and the token before it.
     pub is_after_line: bool,
 }
 
-/// A message, and how many tokens that are no trivia were taken before it.
+/// Where a complaint stands.
+#[derive(Clone, Copy)]
+pub(crate) enum Spot {
+    /// At the current token, or behind the last one where none is left.
+    Here,
+    /// Behind the last token that was taken.
+    Behind,
+    /// In this range.
+    Given(TextRange),
+    /// From the token of this number on, up to the one of that number.
+    Over(usize, usize),
+}
+
+/// A message, where it stands, and how many tokens that are no trivia were taken before it.
 #[derive(Drop)]
 pub(crate) struct Complaint {
     pub message: String,
     pub place: usize,
+    pub spot: Spot,
 }
 
 impl Model for Complaint {
@@ -59,7 +79,11 @@ impl Model for Complaint {
 
     ghost Value = { Told };
 
-    ghost view = { λ c. record { place = c.place; message = string_bytes c.message } };
+    ghost view = { λ c. record {
+      place = c.place;
+      spot = c.spot;
+      message = string_bytes c.message;
+    } };
 }
 
 impl<'t, L> Model for Parser<'t, L> {
@@ -83,6 +107,7 @@ impl<'t, L> Model for Parser<'t, L> {
 pub struct Marker {
     place: usize,
     inner: Option<usize>,
+    first: usize,
 }
 
 impl Model for Marker {
@@ -90,21 +115,23 @@ impl Model for Marker {
 
     ghost Value = { Place };
 
-    ghost view = { λ m. record { at = m.place; inner = m.inner } };
+    ghost view = { λ m. record { at = m.place; inner = m.inner; first = m.first } };
 }
 
 /// A node that ended. `precede` begins another one around it.
 #[derive(Drop)]
 pub struct CompletedMarker {
     place: usize,
+    first: usize,
+    end: usize,
 }
 
 impl Model for CompletedMarker {
-    ghost use Rattle.std.specs.Prelude.{ℕ};
+    ghost use Rattle.rowan_parser.specs.Log.{Extent};
 
-    ghost Value = { ℕ };
+    ghost Value = { Extent };
 
-    ghost view = { λ m. m.place };
+    ghost view = { λ m. record { at = m.place; first = m.first; end = m.end } };
 }
 
 impl<'t, L: Language> Parser<'t, L> {
@@ -234,6 +261,19 @@ impl<'t, L: Language> Parser<'t, L> {
         }
     }
 
+    /// Where the current token stands in the text, in bytes. `None` at the end.
+    pub fn range(&self) -> Option<TextRange>
+        ensures { result ≡ range_of (slice_get self.now.left 0) }
+    {
+        let token = self.ahead(0)?;
+        let end = (token.start as usize).checked_add(token.text.len())?;
+        if end > u32::MAX as usize {
+            return None;
+        }
+        let start = TextSize::from(token.start);
+        Some(TextRange::new(start, TextSize::from(end as u32)))
+    }
+
     /// Whether the current token has this text, as a word that is a keyword only here.
     pub fn at_contextual(&self, text: &str) -> bool
         ensures { IsTrue result ↔ (text_ahead self.now.left 0 ≡ text.now) }
@@ -317,28 +357,57 @@ impl<'t, L: Language> Parser<'t, L> {
         true
     }
 
-    /// Takes the current token where it has this kind, and else complains.
+    /// Takes the current token where it has this kind, and else complains of what is missing behind
+    /// the last token that was taken: of a missing `;` in its line, and not at the next statement.
     pub fn expect(&mut self, kind: L::Kind, message: &str) -> bool
         ensures there { result ≡ is_at L.meaning L.Kind.eq kind self.old.left }
         ensures some { IsTrue result → 0 < length self.old.left }
-        ensures taken { Is (if result then bumped self.old else complained message.now self.old)
+        ensures taken { Is (if result then bumped self.old else missed message.now self.old)
             self.new }
     {
         let eaten = self.eat(kind);
         if !eaten {
-            self.error(message);
+            self.missing(message);
         }
         eaten
     }
 
-    /// Complains of the current token, or of the end, unless the last complaint was of the same.
+    /// Complains of the current token, or behind the last one where none is left, unless the last
+    /// complaint was of the same place.
     pub fn error(&mut self, message: &str)
         ensures { Is (complained message.now self.old) self.new }
     {
         match String::from_str(self.alloc, message) {
-            Ok(message) => self.complain(message),
+            Ok(message) => self.complain(Spot::Here, message),
             Err(_) => self.has_memory = false,
         }
+    }
+
+    /// Complains of what is missing behind the last token that was taken, by an empty range there,
+    /// unless the last complaint was of the same place. `expect` does this.
+    pub fn missing(&mut self, message: &str)
+        ensures { Is (missed message.now self.old) self.new }
+    {
+        match String::from_str(self.alloc, message) {
+            Ok(message) => self.complain(Spot::Behind, message),
+            Err(_) => self.has_memory = false,
+        }
+    }
+
+    /// Complains of a range of the text, in bytes. What is past the end of the text stands for the
+    /// end.
+    pub fn error_at(&mut self, range: TextRange, message: &str)
+        ensures { Is (told_of (Given range) message.now self.old) self.new }
+    {
+        self.tell(Spot::Given(range), message);
+    }
+
+    /// Complains of a node that ended: of the tokens that were taken between its beginning and its
+    /// end, without the trivia around them.
+    pub fn error_over(&mut self, node: &CompletedMarker, message: &str)
+        ensures { Is (told_of (Over node.now.first node.now.end) message.now self.old) self.new }
+    {
+        self.tell(Spot::Over(node.first, node.end), message);
     }
 
     /// Complains by a message that was formatted, as by `format!(in p.alloc(); ..)`.
@@ -348,7 +417,7 @@ impl<'t, L: Language> Parser<'t, L> {
             (λ _. (self.new.left ≡ self.old.left) × (self.new.is_whole ≡ false)) }
     {
         match message {
-            Ok(message) => self.complain(message),
+            Ok(message) => self.complain(Spot::Here, message),
             Err(_) => self.has_memory = false,
         }
     }
@@ -400,6 +469,50 @@ impl<'t, L: Language> Parser<'t, L> {
         self.complete(marker, error);
     }
 
+    /// Puts a node of this kind around the tokens up to the first one of this set, or to the end,
+    /// if there are any. A token of the set does not stop between brackets that open among these
+    /// tokens.
+    pub fn recover_over(&mut self, set: TokenSet, brackets: Brackets, error: L::Kind)
+        ensures { Is (recovered_over (L.code error) (has set.0) (has brackets.open.0)
+            (has brackets.close.0) self.old) self.new }
+    {
+        if self.at_stop(set) {
+            return;
+        }
+        let most = self.tokens_left();
+        let marker = self.start();
+        let mut level = 0;
+        'skip: while !self.halts(set, level) {
+            level = self.level_behind(brackets, level);
+            self.bump();
+        }
+        self.complete(marker, error);
+    }
+
+    /// Whether recovery that is so many brackets deep stops at the current token.
+    fn halts(&self, set: TokenSet, level: usize) -> bool
+        ensures { result ≡ halts_here (halts_outside (has set.0)) level self.now.left }
+    {
+        match self.ahead(0) {
+            Some(token) => level == 0 && set.contains(token.kind),
+            None => true,
+        }
+    }
+
+    /// How many brackets are open behind the current token, before which so many are.
+    fn level_behind(&self, brackets: Brackets, level: usize) -> usize
+        requires { level < 2 ^ 64 - 1 }
+        ensures { result
+            ≡ next_here (level_behind (has brackets.open.0) (has brackets.close.0)) level
+            self.now.left }
+    {
+        match self.ahead(0) {
+            Some(token) if brackets.open.contains(token.kind) => level + 1,
+            Some(token) if brackets.close.contains(token.kind) => level.saturating_sub(1),
+            _ => level,
+        }
+    }
+
     /// Complains, and puts a node of this kind around all tokens that are left, if there are any.
     pub fn error_to_end(&mut self, kind: L::Kind, message: &str)
         ensures ended { Is (ended (L.code kind) message.now self.old) self.new }
@@ -427,28 +540,63 @@ impl<'t, L: Language> Parser<'t, L> {
         less
     }
 
+    /// The depth for what stands one level deeper, as `deeper` gives it. At depth 0 there is none:
+    /// the parser complains, and puts a node of this kind around the tokens up to the first one of
+    /// this set that stands outside of brackets, as `recover_over` does.
+    pub fn deeper_or_recover(
+        &mut self,
+        depth: usize,
+        kind: L::Kind,
+        message: &str,
+        set: TokenSet,
+        brackets: Brackets,
+    ) -> Option<usize>
+        ensures depth { IfSome result (λ less. less + 1 ≡ depth) }
+        ensures none { IsNone result → depth ≡ 0 }
+        ensures kept { IsSome result → self.new ≡ self.old }
+        ensures recovered { IsNone result → Is (recovered_over (L.code kind) (has set.0)
+            (has brackets.open.0) (has brackets.close.0) (complained message.now self.old))
+            self.new }
+    {
+        let less = depth.checked_sub(1);
+        if less.is_none() {
+            self.error(message);
+            self.recover_over(set, brackets, kind);
+        }
+        less
+    }
+
     /// Begins a node here.
     pub fn start(&mut self) -> Marker
         ensures began { Is (with_event Nothing self.old) self.new }
-        ensures marker { result ≡ record { at = length self.old.events; inner = None } }
+        ensures marker { result ≡ begun_at self.old }
     {
         let place = self.events.len();
+        let first = self.position;
         self.push(Event::Nothing);
-        Marker { place, inner: None }
+        Marker {
+            place,
+            inner: None,
+            first,
+        }
     }
 
     /// Begins a node around one that ended. What was made behind that one stands in it too.
     pub fn precede(&mut self, completed: CompletedMarker) -> Marker
         ensures began { Is (with_event Nothing self.old) self.new }
-        ensures marker { result
-            ≡ record { at = length self.old.events; inner = Some completed } }
+        ensures marker { result ≡ place_around completed self.old }
     {
-        let CompletedMarker { place: inner } = completed;
+        let CompletedMarker {
+            place: inner,
+            first,
+            end: _,
+        } = completed;
         let place = self.events.len();
         self.push(Event::Nothing);
         Marker {
             place,
             inner: Some(inner),
+            first,
         }
     }
 
@@ -458,10 +606,15 @@ impl<'t, L: Language> Parser<'t, L> {
     /// innermost one ends here.
     pub fn complete(&mut self, marker: Marker, kind: L::Kind) -> CompletedMarker
         ensures node { Is (completed marker (L.code kind) self.old) self.new }
-        ensures marker { result ≡ marker.at }
+        ensures marker { result ≡ extent_of marker self.old }
     {
-        let Marker { place, inner } = marker;
+        let Marker {
+            place,
+            inner,
+            first,
+        } = marker;
         let raw = L::kind_to_raw(kind);
+        let end = self.position;
         match inner {
             None => set(&mut self.events, place, Event::Open(raw, 0)),
             Some(inner) => {
@@ -472,14 +625,18 @@ impl<'t, L: Language> Parser<'t, L> {
             }
         }
         self.push(Event::Close);
-        CompletedMarker { place }
+        CompletedMarker { place, first, end }
     }
 
     /// Gives up a node that was begun: what was put into it stands in the node around.
     pub fn abandon(&mut self, marker: Marker)
         ensures { self.new ≡ self.old }
     {
-        let Marker { place: _, inner: _ } = marker;
+        let Marker {
+            place: _,
+            inner: _,
+            first: _,
+        } = marker;
     }
 
     /// Takes the current token, if there is one, by this event.
@@ -501,16 +658,47 @@ impl<'t, L: Language> Parser<'t, L> {
     }
 
     /// Complains, unless the last complaint was of this place.
-    fn complain(&mut self, message: String)
-        ensures { Is (complained (string_bytes message) self.old) self.new }
+    fn complain(&mut self, spot: Spot, message: String)
+        ensures { Is (complained_at spot (string_bytes message) self.old) self.new }
+    {
+        if !is_last_at(self.complaints.as_slice(), self.position) {
+            self.note(spot, message);
+        }
+    }
+
+    fn tell(&mut self, spot: Spot, message: &str)
+        ensures { Is (told_of spot message.now self.old) self.new }
+    {
+        match String::from_str(self.alloc, message) {
+            Ok(message) => self.note(spot, message),
+            Err(_) => self.has_memory = false,
+        }
+    }
+
+    fn note(&mut self, spot: Spot, message: String)
+        ensures { Is (told_of spot (string_bytes message) self.old) self.new }
     {
         let place = self.position;
-        if is_last_at(self.complaints.as_slice(), place) {
-            return;
-        }
-        if self.complaints.push(Complaint { message, place }).is_err() {
+        let complaint = Complaint {
+            message,
+            place,
+            spot,
+        };
+        if self.complaints.push(complaint).is_err() {
             self.has_memory = false;
         }
+    }
+}
+
+/// Whether a complaint stands where the parser was, and not where the grammar said.
+fn is_by_place(spot: Spot) -> bool
+    ensures { result ≡ is_by_place spot }
+{
+    match spot {
+        Spot::Here => true,
+        Spot::Behind => true,
+        Spot::Given(_) => false,
+        Spot::Over(_, _) => false,
     }
 }
 
@@ -519,7 +707,7 @@ fn is_last_at(complaints: &[Complaint], place: usize) -> bool
     ensures { result ≡ stands_at place (slice_get complaints.now (length complaints.now - 1)) }
 {
     match complaints.last() {
-        Some(last) => last.place == place,
+        Some(last) => is_by_place(last.spot) && last.place == place,
         None => false,
     }
 }

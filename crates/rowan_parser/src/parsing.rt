@@ -1,13 +1,15 @@
 //! From a text to its tree, by a lexer and a grammar.
-ghost use Rattle.std.specs.Prelude.{◌≡◌, ◌<◌, ◌≤◌, ◌++◌, ◌∷◌, [], length, map, get_or, cond};
-ghost use Rattle.std.specs.Prelude.{IfOk, IfErr, OnOk, List};
+ghost use Rattle.std.specs.Prelude.{◌≡◌, ◌+◌, ◌<◌, ◌≤◌, ◌++◌, ◌∷◌, [], length, map, cond};
+ghost use Rattle.std.specs.Prelude.{IfOk, IfErr, OnOk, List, false};
 ghost use Rattle.rowan_green.specs.Cache.{first_seen};
 ghost use Rattle.rowan_green.specs.Fits.{byte_limit};
 ghost use Rattle.rowan_green.specs.Stream.{subterms, Grows};
 ghost use Rattle.rowan_green.specs.Term.{node_kind, node_text};
 ghost use Rattle.rowan_green.specs.declared.utility_types.NodeOrToken.TheVariants.{Node};
-ghost use Rattle.rowan_parser.specs.Parsing.{has_line_end, pieces_since, pieces, ranges_from, end_of};
-ghost use Rattle.rowan_parser.specs.Parsing.{error_value, error_of, IsRun, WhyNotRun};
+ghost use Rattle.rowan_parser.specs.Parsing.{has_line_end, pieces_since, pieces, ranges_from};
+ghost use Rattle.rowan_parser.specs.Parsing.{empty_at, end_behind, nth_range, range_at};
+ghost use Rattle.rowan_parser.specs.Parsing.{error_value, error_of};
+ghost use Rattle.rowan_parser.specs.Parsing.{said_of, lexer_errors, IsRun, WhyNotRun};
 ghost use Rattle.rowan_parser.specs.Parsing.{IsParsed, WhyNotParsed, WhyNoTree};
 ghost use Rattle.rowan_parser.specs.Seen.{piece};
 ghost use Rattle.rowan_parser.specs.Tokens.{tokens_text};
@@ -16,7 +18,7 @@ ghost use Rattle.rowan_parser.specs.declared.lexer.Token.{Token};
 use crate::event::Event;
 use crate::lexer::{Lexer, Token, lex};
 use crate::parsed::{Parse, SyntaxError};
-use crate::parser::{Complaint, Parser, SeenToken};
+use crate::parser::{Complaint, Parser, SeenToken, Spot};
 use crate::running::{Made, run_grammar};
 use crate::tree::{Source, Trivia, build_tree_with, is_trivia};
 use rowan::{Fault, Language, NodeCache, TextRange, TextSize};
@@ -28,13 +30,13 @@ pub struct Ran<'text> {
     pub tokens: Vec<Token<'text>>,
     /// What `build_tree` makes a tree of.
     pub events: Vec<Event>,
-    /// In the order in which the grammar complained.
+    /// What the lexer said, and then what the grammar complained of, in that order.
     pub errors: Vec<SyntaxError>,
 }
 
 /// Parses a text. The tree has every byte of it, whatever the lexer says and the grammar does: it is
-/// the tree of the grammar's events over the lexer's tokens. An error stands at the token that was
-/// the current one when the grammar complained, or at the end of the text.
+/// the tree of the grammar's events over the lexer's tokens. Its errors are what the lexer said, in
+/// the order of the text, and then what the grammar complained of.
 ///
 /// Errors: `TextTooLong` if the text has more than 4,294,967,295 bytes; `TooManyChildren` if a node
 /// of the tree has more than 4,294,967,295 children; `Memory` if an allocation failed.
@@ -135,10 +137,11 @@ pub fn run<'text, L: Language, X: Lexer + Drop, G: FnOnce(&mut Parser<'text, L>)
         return Err(Fault::TextTooLong);
     }
     let tokens = lex(alloc, text, lexer)?;
-    let seen = seen_tokens(alloc, tokens.as_slice(), trivia)?;
+    let mut errors = Vec::new(alloc);
+    let seen = seen_tokens(alloc, tokens.as_slice(), trivia, &mut errors)?;
     let made = run_grammar(alloc, seen, grammar)?;
     let Made { events, complaints } = made;
-    let errors = errors_at(alloc, tokens.as_slice(), trivia, complaints)?;
+    push_errors(alloc, &mut errors, tokens.as_slice(), trivia, complaints)?;
     Ok(Ran {
         tokens,
         events,
@@ -149,47 +152,87 @@ pub fn run<'text, L: Language, X: Lexer + Drop, G: FnOnce(&mut Parser<'text, L>)
 /// What stands between a token and the one before it that is no trivia.
 #[derive(Clone, Copy)]
 struct Gap {
+    /// Where the token starts, in bytes.
+    start: u32,
     is_joined: bool,
     is_after_line: bool,
 }
 
-/// The tokens that are no trivia.
+/// The tokens that are no trivia. Puts what the lexer said into `errors`, which are none yet.
 fn seen_tokens<'text>(
     alloc: Global,
     tokens: &[Token<'text>],
     trivia: Trivia<'_>,
+    errors: &mut Vec<SyntaxError>,
 ) -> Result<Vec<SeenToken<'text>>, Fault>
+    requires short { length (tokens_text tokens.now) ≤ byte_limit }
+    requires none { errors.old.items ≡ [] }
     ensures seen { IfOk result (λ seen.
         map piece seen.items ≡ pieces trivia.entry tokens.now) }
+    ensures told { IfOk result (λ _.
+        map error_value errors.new.items ≡ lexer_errors 0 tokens.now) }
     ensures err { IfErr result (λ e. e ≡ Fault.Memory) }
 {
     let mut seen = Vec::with_capacity(alloc, tokens.len())?;
     let mut gap = Gap {
+        start: 0,
         is_joined: false,
         is_after_line: false,
     };
     for token in tokens {
-        gap = see(&mut seen, trivia, gap, token)?;
+        let end = gap.start + token.text.len() as u32;
+        push_said(alloc, errors, token.message, gap.start, end)?;
+        gap = see(&mut seen, trivia, gap, token, end)?;
     }
     Ok(seen)
 }
 
-/// Puts a token behind the others, unless it is trivia, and gives what then stands before the next.
+/// Puts what the lexer said of a token with this range behind the other errors, if it complained.
+#[inline(always)]
+fn push_said(
+    alloc: Global,
+    errors: &mut Vec<SyntaxError>,
+    message: Option<&str>,
+    start: u32,
+    end: u32,
+) -> Result<(), Fault>
+    requires { start ≤ end }
+    ensures told { OnOk result (map error_value errors.new.items
+        ≡ map error_value errors.old.items
+        ++ said_of message.entry (record { start = start; end = end })) }
+    ensures err { IfErr result (λ e. e ≡ Fault.Memory) }
+{
+    let Some(message) = message else {
+        return Ok(());
+    };
+    let message = String::from_str(alloc, message)?;
+    let range = TextRange::new(TextSize::from(start), TextSize::from(end));
+    errors.push(SyntaxError { message, range })?;
+    Ok(())
+}
+
+/// Puts a token, which ends here, behind the others, unless it is trivia, and gives what then stands
+/// before the next.
 #[inline(always)]
 fn see<'text>(
     seen: &mut Vec<SeenToken<'text>>,
     trivia: Trivia<'_>,
     gap: Gap,
     token: &Token<'text>,
+    end: u32,
 ) -> Result<Gap, Fault>
+    requires { end ≡ gap.start + length token.now.text.now }
+    ensures start { IfOk result (λ next. next.start ≡ end) }
     ensures seen { IfOk result (λ next. (others : List Token) → map piece seen.new.items
-        ++ pieces_since next.is_joined next.is_after_line trivia.entry others
+        ++ pieces_since next.start next.is_joined next.is_after_line trivia.entry others
         ≡ map piece seen.old.items
-        ++ pieces_since gap.is_joined gap.is_after_line trivia.entry (token.now ∷ others)) }
+        ++ pieces_since gap.start gap.is_joined gap.is_after_line trivia.entry
+        (token.now ∷ others)) }
     ensures err { IfErr result (λ e. e ≡ Fault.Memory) }
 {
     if is_trivia(trivia, token) {
         return Ok(Gap {
+            start: end,
             is_joined: false,
             is_after_line: gap.is_after_line || has_line_end(token.text),
         });
@@ -197,10 +240,12 @@ fn see<'text>(
     seen.push(SeenToken {
         kind: token.kind,
         text: token.text,
+        start: gap.start,
         is_joined: gap.is_joined,
         is_after_line: gap.is_after_line,
     })?;
     Ok(Gap {
+        start: end,
         is_joined: true,
         is_after_line: false,
     })
@@ -212,41 +257,86 @@ fn has_line_end(text: &str) -> bool
     text.as_bytes().contains(&10)
 }
 
-/// The complaints with the ranges of their tokens.
-fn errors_at(
+/// Puts the complaints, with their ranges, behind the other errors.
+fn push_errors(
     alloc: Global,
+    errors: &mut Vec<SyntaxError>,
     tokens: &[Token<'_>],
     trivia: Trivia<'_>,
     complaints: Vec<Complaint>,
-) -> Result<Vec<SyntaxError>, Fault>
+) -> Result<(), Fault>
     requires { length (tokens_text tokens.now) ≤ byte_limit }
-    ensures told { IfOk result (λ errors. map error_value errors.items
-        ≡ map (error_of trivia.entry tokens.now) complaints.items) }
+    ensures told { OnOk result (map error_value errors.new.items
+        ≡ map error_value errors.old.items
+        ++ map (error_of trivia.entry tokens.now) complaints.items) }
     ensures err { IfErr result (λ e. e ≡ Fault.Memory) }
 {
-    let mut errors = Vec::new(alloc);
     if complaints.is_empty() {
-        return Ok(errors);
+        return Ok(());
     }
     let ranges = ranges_of(alloc, tokens, trivia)?;
-    let last = ranges.len() - 1;
     for complaint in complaints {
-        let Complaint { message, place } = complaint;
-        let range = ranges[place.min(last)];
+        let Complaint {
+            message,
+            place,
+            spot,
+        } = complaint;
+        let range = range_at(ranges.as_slice(), place, spot);
         errors.push(SyntaxError { message, range })?;
     }
-    Ok(errors)
+    Ok(())
 }
 
-/// The ranges of the tokens that are no trivia, and behind them the empty one at the end.
+/// Where a complaint stands before which so many tokens were taken.
+fn range_at(ranges: &[TextRange], place: usize, spot: Spot) -> TextRange
+    ensures { result ≡ range_at ranges.now place spot }
+{
+    match spot {
+        Spot::Here => nth_range(ranges, place),
+        Spot::Behind => empty_at(end_behind(ranges, place)),
+        Spot::Given(range) => range,
+        Spot::Over(first, end) => {
+            let end = end_behind(ranges, end);
+            let start = u32::from(nth_range(ranges, first).start());
+            TextRange::new(TextSize::from(start.min(u32::from(end))), end)
+        }
+    }
+}
+
+/// One of the ranges, or the empty one behind the last where there are fewer.
+fn nth_range(ranges: &[TextRange], n: usize) -> TextRange
+    ensures { result ≡ nth_range ranges.now n }
+{
+    match ranges.get(n) {
+        Some(range) => *range,
+        None => empty_at(end_behind(ranges, n)),
+    }
+}
+
+fn empty_at(offset: TextSize) -> TextRange
+    ensures { result ≡ empty_at offset }
+{
+    TextRange::new(offset, offset)
+}
+
+/// Where the first so many ranges end, or all of them where they are fewer.
+fn end_behind(ranges: &[TextRange], n: usize) -> TextSize
+    ensures { result ≡ end_behind ranges.now n }
+{
+    match n.min(ranges.len()).checked_sub(1) {
+        Some(last) => ranges[last].end(),
+        None => TextSize::from(0),
+    }
+}
+
+/// The ranges of the tokens that are no trivia.
 fn ranges_of(
     alloc: Global,
     tokens: &[Token<'_>],
     trivia: Trivia<'_>,
 ) -> Result<Vec<TextRange>, Fault>
     requires { length (tokens_text tokens.now) ≤ byte_limit }
-    ensures ranges { IfOk result (λ ranges. ranges.items
-        ≡ ranges_from 0 trivia.entry tokens.now ++ end_of tokens.now ∷ []) }
+    ensures ranges { IfOk result (λ ranges. ranges.items ≡ ranges_from 0 trivia.entry tokens.now) }
     ensures err { IfErr result (λ e. e ≡ Fault.Memory) }
 {
     let mut ranges = Vec::new(alloc);
@@ -257,7 +347,6 @@ fn ranges_of(
         let range = TextRange::new(TextSize::from(start), TextSize::from(end));
         push_range(&mut ranges, range, is_trivia(trivia, token))?;
     }
-    ranges.push(TextRange::new(TextSize::from(end), TextSize::from(end)))?;
     Ok(ranges)
 }
 

@@ -1,6 +1,6 @@
 //! Trees of events: each list of events has a tree, and its leaves have the text of the tokens.
 ghost use Rattle.std.specs.Prelude.{◌≡◌, ◌+◌, ◌-◌, ◌<◌, ◌≤◌, ◌++◌, ◌∷◌, [], length, IfOk, IfErr};
-ghost use Rattle.std.specs.Prelude.{◌==◌, OnOk, OnErr, IsTrue, false, cond, take, drop};
+ghost use Rattle.std.specs.Prelude.{ℕ, OnOk, OnErr, IsTrue, false, cond, take, drop, ltb};
 ghost use Rattle.std.specs.Prelude.{take_while, string_bytes};
 ghost use Rattle.std.specs.List.{list_any};
 ghost use Rattle.rowan_green.specs.Cache.{first_seen};
@@ -13,13 +13,18 @@ ghost use Rattle.rowan_green.specs.declared.utility_types.NodeOrToken.TheVariant
 ghost use Rattle.rowan_parser.specs.Tokens.{tokens_text, token_terms};
 ghost use Rattle.rowan_parser.specs.Building.{WhyRefused, WhyNotPut, IsAhead, IsBuilding, IsBuilt};
 ghost use Rattle.rowan_parser.specs.Building.{raw, to_come, AreDone};
-ghost use Rattle.rowan_parser.specs.Events.{begun, is_trivia, stays_outside, past, begins_with};
+ghost use Rattle.rowan_parser.specs.Events.{begun, is_trivia, is_pair, outside, past};
+ghost use Rattle.rowan_parser.specs.Events.{begins_with};
+ghost use Rattle.rowan_parser.specs.Lines.{line_ends};
+ghost use Rattle.rowan_parser.specs.Outside.{outside_of};
+ghost use Rattle.rowan_parser.specs.Seen.{has};
 ghost use Rattle.rowan_parser.specs.Events.{up_to, behind, leaves, one_leaf, closings};
 ghost use Rattle.rowan_parser.specs.Events.{tree_word, join_some, Puts};
 ghost use Rattle.rowan_parser.specs.Shape.{around, enters, steps, Enter};
 
 use crate::event::Event;
 use crate::lexer::Token;
+use crate::token_set::TokenSet;
 use rowan::{Fault, GreenNode, GreenNodeBuilder, NodeCache, SyntaxKind};
 use std::alloc::Global;
 
@@ -27,11 +32,13 @@ use std::alloc::Global;
 #[derive(Clone, Copy)]
 pub struct Trivia<'a> {
     /// The kinds of these tokens, as spaces and comments.
-    pub kinds: &'a [SyntaxKind],
-    /// Kinds of nodes, each with a kind of trivia that belongs to such a node where it stands
-    /// before it, as a comment that documents a function. From the first of these on, the trivia
-    /// before a node stand in it.
-    pub attached: &'a [(SyntaxKind, SyntaxKind)],
+    pub kinds: TokenSet,
+    /// Kinds of nodes, each with the kinds of trivia that belong to such a node where they stand
+    /// before it, as comments that document a function. The trivia before a node stand in it from
+    /// the first of these on behind the last blank line. So a comment that a blank line parts from
+    /// a function stays outside of it, as a licence at the head of a file. Where two lines end in
+    /// one token of trivia of another kind, that is a blank line.
+    pub attached: &'a [(SyntaxKind, TokenSet)],
 }
 
 /// What a tree is built of.
@@ -508,30 +515,119 @@ fn put_trivia(
     Ok(progress)
 }
 
-/// Puts the trivia that come next, up to the first one that is attached to a node of this kind.
+/// Puts the trivia that come next, up to those that belong to a node of this kind.
 #[inline(always)]
-#[tactic(auto, using(crate::proofs::Passing::passing_begins, crate::proofs::Passing::passing_ends))]
 fn put_trivia_before(
     builder: &mut GreenNodeBuilder<'_>,
     source: &Source<'_, '_>,
-    mut progress: Progress,
+    progress: Progress,
     node: SyntaxKind,
 ) -> Result<Progress, Fault>
     requires { IsBuilding source.now (word_of builder.old) progress }
     ensures ok { IfOk result (IsBuilding source.now (word_of builder.new)) }
     ensures puts { let left = drop progress.put source.now.tokens.now in
         IfOk result (λ p. Puts source.now.tokens.now (word_of builder.old)
-        (leaves (take_while (stays_outside source.now.trivia node.0) left))
-        (past (stays_outside source.now.trivia node.0) left) (word_of builder.new) p.put) }
+        (leaves (take (outside source.now.trivia node.0 left) left))
+        (drop (outside source.now.trivia node.0 left) left) (word_of builder.new) p.put) }
     ensures same { IfOk result (λ p. p.depth ≡ progress.depth) }
     ensures err { IfErr result (WhyNotPut source.now.tokens.now) }
     ensures stream { BuildsOn (value_of builder.old) (value_of builder.new) }
     ensures loan { loan_of builder.new ≡ loan_of builder.old }
 {
-    while is_outside_next(source, progress, node) {
+    if source.trivia.attached.is_empty() {
+        return put_trivia(builder, source, progress);
+    }
+    let outside = outside_len(source, progress, node);
+    put_some(builder, source, progress, outside)
+}
+
+/// Puts so many of the next tokens, or as many as there are.
+#[tactic(auto, using(crate::proofs::Passing::some_begin, crate::proofs::Passing::some_end))]
+fn put_some(
+    builder: &mut GreenNodeBuilder<'_>,
+    source: &Source<'_, '_>,
+    mut progress: Progress,
+    mut count: usize,
+) -> Result<Progress, Fault>
+    requires { IsBuilding source.now (word_of builder.old) progress }
+    ensures ok { IfOk result (IsBuilding source.now (word_of builder.new)) }
+    ensures puts { let left = drop progress.put source.now.tokens.now in
+        IfOk result (λ p. Puts source.now.tokens.now (word_of builder.old)
+        (leaves (take count left)) (drop count left) (word_of builder.new) p.put) }
+    ensures same { IfOk result (λ p. p.depth ≡ progress.depth) }
+    ensures err { IfErr result (WhyNotPut source.now.tokens.now) }
+    ensures stream { BuildsOn (value_of builder.old) (value_of builder.new) }
+    ensures loan { loan_of builder.new ≡ loan_of builder.old }
+{
+    while count > 0 {
         progress = put_token(builder, source, progress)?;
+        count -= 1;
     }
     Ok(progress)
+}
+
+/// How many of the trivia that come next stay outside of a node of this kind.
+fn outside_len(source: &Source<'_, '_>, progress: Progress, node: SyntaxKind) -> usize
+    requires ahead { IsAhead source.now progress.put progress.next }
+    requires within { progress.put ≤ length source.now.tokens.now }
+    ensures { result
+        ≡ outside source.now.trivia node.0 (drop progress.put source.now.tokens.now) }
+{
+    let kinds = attached_kinds(source.trivia, node);
+    let (_, left) = source.tokens.split_at(progress.put);
+    let (run, _) = left.split_at(progress.next.saturating_sub(progress.put));
+    if kinds.0 == 0 {
+        return run.len();
+    }
+    outside_of_run(run, kinds)
+}
+
+/// The kinds of trivia that are attached to a node of this kind.
+fn attached_kinds(trivia: Trivia<'_>, node: SyntaxKind) -> TokenSet
+    ensures { (k : ℕ) → has result.0 k ≡ list_any (is_pair node.0 k) trivia.entry.attached.now }
+{
+    let mut kinds = TokenSet::EMPTY;
+    let mut rest = trivia.attached;
+    while let Some((pair, others)) = rest.split_first() {
+        if pair.0 == node {
+            kinds = kinds.union(pair.1);
+        }
+        rest = others;
+    }
+    kinds
+}
+
+/// How many of some trivia stay outside of a node behind them to which these kinds are attached: all
+/// but those from the first such one on behind the last blank line.
+fn outside_of_run(run: &[Token<'_>], kinds: TokenSet) -> usize
+    ensures { result ≡ outside_of (λ token. has kinds.0 token.kind.0) run.now }
+{
+    let mut outside = run.len();
+    let mut place = run.len();
+    while place > 0 {
+        place -= 1;
+        if kinds.contains(run[place].kind) {
+            outside = place;
+        } else if has_blank_line(run[place].text) {
+            return outside;
+        }
+    }
+    outside
+}
+
+/// Whether two lines end in a text.
+fn has_blank_line(text: &str) -> bool
+    ensures { result ≡ ltb 1 (line_ends text.now) }
+{
+    let mut rest = text.as_bytes();
+    let mut ends = 0usize;
+    while let Some((byte, others)) = rest.split_first() {
+        if *byte == b'\n' {
+            ends += 1;
+        }
+        rest = others;
+    }
+    ends > 1
 }
 
 #[inline(always)]
@@ -542,22 +638,6 @@ fn is_trivia_next(source: &Source<'_, '_>, progress: Progress) -> bool
     ensures there { IsTrue result → progress.put < length source.now.tokens.now }
 {
     progress.put < progress.next
-}
-
-/// Whether trivia come next that stay outside of a node of this kind.
-#[inline(always)]
-#[tactic(auto, using(crate::proofs::Passing::outside_there, crate::proofs::Passing::outside_nowhere))]
-fn is_outside_next(source: &Source<'_, '_>, progress: Progress, node: SyntaxKind) -> bool
-    requires { IsAhead source.now progress.put progress.next }
-    ensures begins { result ≡ begins_with (stays_outside source.now.trivia node.0)
-        (drop progress.put source.now.tokens.now) }
-    ensures there { IsTrue result → progress.put < length source.now.tokens.now }
-{
-    if !is_trivia_next(source, progress) {
-        return false;
-    }
-    let token = &source.tokens[progress.put];
-    !source.trivia.attached.contains(&(node, token.kind))
 }
 
 /// The number of the first token from this one on that is no trivia.
@@ -601,23 +681,7 @@ fn is_trivia_at(source: &Source<'_, '_>, put: usize) -> bool
 pub(crate) fn is_trivia(trivia: Trivia<'_>, token: &Token<'_>) -> bool
     ensures { result ≡ is_trivia trivia.entry token.now }
 {
-    has_kind(trivia.kinds, token.kind)
-}
-
-// A loop, since lists of kinds are short, and a call of `contains` takes longer.
-#[inline(always)]
-#[tactic(auto, using(crate::proofs::KindLemmas::any_here, crate::proofs::KindLemmas::any_later))]
-fn has_kind(kinds: &[SyntaxKind], wanted: SyntaxKind) -> bool
-    ensures { result ≡ list_any (λ kind. kind.0 == wanted.0) kinds.now }
-{
-    let mut rest = kinds;
-    while let Some((kind, others)) = rest.split_first() {
-        if kind.0 == wanted.0 {
-            return true;
-        }
-        rest = others;
-    }
-    false
+    trivia.kinds.contains(token.kind)
 }
 
 /// Puts all tokens that are left into the root.

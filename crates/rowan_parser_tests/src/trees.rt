@@ -82,6 +82,7 @@ fn token(kind: Kind, text: &str) -> Token<'_> {
     Token {
         kind: Arithmetic::kind_to_raw(kind),
         text,
+        message: None,
     }
 }
 
@@ -94,10 +95,9 @@ fn printed(alloc: Global, events: &[Event]) -> Result<String, Fault> {
         token(Kind::Number, "2"),
         token(Kind::Space, " "),
     ];
-    let space = Arithmetic::kind_to_raw(Kind::Space);
     let trivia = Trivia {
-        kinds: &[space],
-        attached: &[(GROUP, space)],
+        kinds: token_set![Kind::Space],
+        attached: &[(GROUP, token_set![Kind::Space])],
     };
     let source = Source {
         root_kind: Arithmetic::kind_to_raw(Kind::Root),
@@ -127,7 +127,7 @@ fn tree_by<'text, G: FnOnce(&mut Parser<'text, Arithmetic>)>(
     requires { G.IsAlwaysCallable grammar }
 {
     let trivia = Trivia {
-        kinds: &[Arithmetic::kind_to_raw(Kind::Space)],
+        kinds: token_set![Kind::Space],
         attached: &[],
     };
     let parse = parse(alloc, text, next_token, trivia, Kind::Root, grammar)?;
@@ -230,7 +230,7 @@ fn each_end_is_that_of_the_innermost_node(rt: HostRuntime) -> Result<(), Fail> {
 #[test]
 fn a_run_has_the_tokens_and_events_of_the_tree(rt: HostRuntime) -> Result<(), Fail> {
     let trivia = Trivia {
-        kinds: &[Arithmetic::kind_to_raw(Kind::Space)],
+        kinds: token_set![Kind::Space],
         attached: &[],
     };
     let ran = run(rt.alloc(), "1 + 2 * 3", next_token, trivia, sum)?;
@@ -290,7 +290,7 @@ const LOOKS: &str = r#"ROOT@0..12
 #[test]
 fn texts_and_what_stands_between_tokens_are_seen(rt: HostRuntime) -> Result<(), Fail> {
     let trivia = Trivia {
-        kinds: &[Arithmetic::kind_to_raw(Kind::Space)],
+        kinds: token_set![Kind::Space],
         attached: &[],
     };
     let parse = parse(

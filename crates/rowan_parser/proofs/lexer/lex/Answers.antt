@@ -10,8 +10,12 @@ loop-rest-preserved g c =
     let parts = c.split_at.ensures in
     let token = token_said g.X.Lexer.says c.loop-rest.lexer c.next-len.new.self c.loop-rest.rest.now
     c.next-len.result c.max.result c.ceil_char_boundary.result
-    (record { kind = c.next-len.result.0; text = c.split_at.result.0 }) c.next-len.ensures.says
-    refl c.max.ensures (record {
+    (record {
+      kind = c.next-len.result.kind;
+      text = c.split_at.result.0;
+      message = c.next-len.result.message;
+    }) c.next-len.ensures.says
+    refl refl c.max.ensures (record {
       border = cut.boundary;
       reached = cut.bound;
       first = cut.nearest;
@@ -24,8 +28,11 @@ loop-rest-preserved g c =
       filled = grind (arith, common_steps);
       said = λ others e others_said.
           said_more g.X.Lexer.says c.args.lexer c.loop-rest.lexer c.next-len.new.self
-          c.loop-rest.rest.now c.split_at.result.1.now (record
-          { kind = c.next-len.result.0; text = c.split_at.result.0 }) c.loop-rest.tokens.items
+          c.loop-rest.rest.now c.split_at.result.1.now (record {
+            kind = c.next-len.result.kind;
+            text = c.split_at.result.0;
+            message = c.next-len.result.message;
+          }) c.loop-rest.tokens.items
           c.push.new.self.items others token
           (ap (λ bs. bs ++ c.split_at.result.1.now) parts.front ∙ ap
           (λ bs. take c.ceil_char_boundary.result c.loop-rest.rest.now ++ bs) parts.back ∙

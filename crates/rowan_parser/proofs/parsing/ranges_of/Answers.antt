@@ -1,5 +1,5 @@
 use Rattle.std.proofs.Common.{refl, ap₂, ◌∙◌, arith}
-use Rattle.std.proofs.lemmas.List.{drop_more, length-drop}
+use Rattle.std.proofs.lemmas.List.{drop_more}
 use Rattle.rowan_parser.proofs.Ranges.{span, ranges_more, ranges_end, left_more}
 use Rattle.rowan_parser.proofs.parsing.ranges_of.Goals as goal
 
@@ -14,7 +14,5 @@ loop-token-preserved c =
     }
 
 pub returns-clause-ranges : goal.returns-clause-ranges
-returns-clause-ranges c = ranges_end c.args.trivia c.args.tokens.now _ c.loop-token.end c.new.result
-    _ _ (omega (arith, length-drop c.loop-token.token-index c.args.tokens.now))
-    c.loop-token.invariant.left (c.new.ensures ∙ ap₂ span c.from-2.ensures c.from-3.ensures) c.in_ok-push.ensures.items
-    c.loop-token.invariant.so_far
+returns-clause-ranges c = ranges_end c.args.trivia c.args.tokens.now c.loop-token.end
+    c.loop-token.token-index _ (omega arith) c.loop-token.invariant.so_far

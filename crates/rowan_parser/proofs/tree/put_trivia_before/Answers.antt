@@ -1,19 +1,12 @@
-use Rattle.std.proofs.Common.{◌≡◌, true, drop, sym, ◌∙◌}
-use Rattle.rowan_green.proofs.StreamLemmas.{BuildsOn-trans}
-use Rattle.rowan_parser.specs.Events.{stays_outside, begins_with}
-use Rattle.rowan_parser.proofs.Passing.{passing_more}
+use Rattle.std.proofs.Common.{length, sym, ◌∙◌}
+use Rattle.std.proofs.lemmas.Bool.{eqb-true}
+use Rattle.std.proofs.lemmas.Result.{IfOk-weaker}
+use Rattle.rowan_parser.proofs.Trivial.{puts_all}
 use Rattle.rowan_parser.proofs.tree.put_trivia_before.Goals as goal
 
-pub loop-node-preserved : goal.loop-node-preserved
-loop-node-preserved c =
-    let passes : true ≡ begins_with (stays_outside c.args.source.now.trivia c.args.node.0)
-    (drop c.loop-node.progress.put c.args.source.now.tokens.now) = sym
-    c.loop-node-test.true ∙ c.is_outside_next.ensures.begins in
-    record {
-      building = c.in_ok-progress.ensures.ok;
-      stream = BuildsOn-trans _ _ _ c.loop-node.invariant.stream c.put_token.ensures.stream;
-      loan = c.put_token.ensures.loan ∙ c.loop-node.invariant.loan;
-      passing = passing_more _ _ _ _ _ _ _ _ passes c.loop-node.invariant.passing
-          c.in_ok-progress.ensures.puts;
-      same = c.in_ok-progress.ensures.same ∙ c.loop-node.invariant.same;
-    }
+pub returns-then-is_empty-clause-puts : goal.returns-then-is_empty-clause-puts
+returns-then-is_empty-clause-puts c =
+    IfOk-weaker c.put_trivia.result _ _ (λ p h. puts_all c.args.source.now.trivia c.args.node.0
+    c.args.source.now.tokens.now _ _ _ _
+    (eqb-true (length c.args.source.now.trivia.attached.now) 0
+    (sym c.is_empty.ensures ∙ c.if-is_empty.true)) h) c.put_trivia.ensures.puts
