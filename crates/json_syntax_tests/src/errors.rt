@@ -16,11 +16,11 @@ const ERRORS: [(&str, &str); 16] = [
         "[: 1, 2]",
         "1..2 expected a value\n3..4 expected `,` or `]`\n",
     ),
-    ("{\"a\" 1}", "5..6 expected `:`\n"),
+    ("{\"a\" 1}", "4..4 expected `:`\n"),
     ("{\"a\": , \"b\": 2}", "6..7 expected a value\n"),
     ("{1: 2, \"b\": 3}", "1..2 expected a name in quotes\n"),
     ("{\"a\": 1 2, \"b\": 3}", "8..9 expected `,` or `}`\n"),
-    ("{\"a\": [1}", "8..9 expected `,` or `]`\n"),
+    ("{\"a\": [1}", "8..8 expected `,` or `]`\n"),
     ("[1", "2..2 expected `,` or `]`\n"),
     ("\"a\n", "0..2 expected a value\n"),
     ("1 /* a", "2..6 expected the end of the text\n"),
@@ -31,7 +31,7 @@ const ERRORS: [(&str, &str); 16] = [
     ),
 ];
 
-fn list(alloc: Global, errors: &[SyntaxError]) -> Result<String, Fault> {
+pub fn list(alloc: Global, errors: &[SyntaxError]) -> Result<String, Fault> {
     let mut out = String::new(alloc);
     for error in errors {
         writeln!(out, "{:?} {}", error.range, error.message)?;
