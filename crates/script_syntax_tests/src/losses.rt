@@ -1,0 +1,47 @@
+use crate::errors::ERRORS;
+use crate::lines::LINES;
+use crate::operators::OPERATORS;
+use crate::strings::STRINGS;
+use crate::trees::Case;
+use rowan::Fault;
+use script_syntax::parse;
+use std::alloc::Global;
+use std::process::Abort;
+use std::test::Fail;
+
+/// Whether the tree of a text has this text.
+fn is_kept(alloc: Global, text: &str) -> Result<bool, Fault> {
+    let parse = parse(alloc, text)?;
+    Ok(parse.green.to_string(alloc)?.as_str() == text)
+}
+
+fn check(rt: &impl Abort, alloc: Global, cases: &[Case]) -> Result<(), Fail> {
+    for case in cases {
+        for (end, _) in case.text.char_indices() {
+            let prefix = case.text.get(..end).unwrap_or("");
+            assert!(rt; is_kept(alloc, prefix)?, "{prefix}");
+        }
+    }
+    Ok(())
+}
+
+#[test]
+fn every_prefix_is_kept(rt: HostRuntime) -> Result<(), Fail> {
+    check(&rt, rt.alloc(), &LINES)?;
+    check(&rt, rt.alloc(), &OPERATORS)?;
+    check(&rt, rt.alloc(), &STRINGS)?;
+    check(&rt, rt.alloc(), &ERRORS)
+}
+
+/// Brackets without end, and many lines of comments above a function.
+#[test]
+fn long_texts_are_kept(rt: HostRuntime) -> Result<(), Fail> {
+    for part in ["(", "{", "f(", "\"${", "a<", "f(x\n", "union U {"] {
+        let text = part.repeat(rt.alloc(), 1_000_000)?;
+        assert!(rt; is_kept(rt.alloc(), text.as_str())?, "{part}");
+    }
+    let mut text = "// a line\n".repeat(rt.alloc(), 20_000)?;
+    text.push_str("fn f() {}")?;
+    assert!(rt; is_kept(rt.alloc(), text.as_str())?);
+    Ok(())
+}
