@@ -2,8 +2,8 @@
 use crate::kinds::{Kind, Script};
 use crate::operators::{COMPARISON, operator, power_of, take_operator};
 use crate::recovery::{
-    BLOCK_ENDS, CLOSINGS, OPERANDS, Place, close, deeper, end_statement, expect_here, goes_on,
-    has_next, is_here, no_statement,
+    BLOCK_ENDS, BRACKETS, CLOSINGS, OPERANDS, Place, close, deeper, end_statement, expect_here,
+    goes_on, has_next, is_here, no_statement,
 };
 use crate::types::{at_union, parameters, type_name, union_declaration};
 use rowan_parser::{CompletedMarker, Parser};

@@ -33,14 +33,38 @@ fn every_prefix_is_kept(rt: HostRuntime) -> Result<(), Fail> {
     check(&rt, rt.alloc(), &ERRORS)
 }
 
-/// Brackets without end, and many lines of comments above a function.
+/// What long texts repeat, behind this beginning.
+const PARTS: [(&str, &str); 8] = [
+    ("", "("),
+    ("", "{"),
+    ("", "f("),
+    ("", "\"${"),
+    ("", "a<"),
+    ("", "f(x\n"),
+    ("union U {", "a: {"),
+    ("let x: ", "A<"),
+];
+
+fn repeated(alloc: Global, head: &str, part: &str, times: usize) -> Result<String, Fault> {
+    let mut text = String::from_str(alloc, head)?;
+    for _ in 0..times {
+        text.push_str(part)?;
+    }
+    Ok(text)
+}
+
 #[test]
 fn long_texts_are_kept(rt: HostRuntime) -> Result<(), Fail> {
-    for part in ["(", "{", "f(", "\"${", "a<", "f(x\n", "union U {"] {
-        let text = part.repeat(rt.alloc(), 1_000_000)?;
+    for (head, part) in PARTS {
+        let text = repeated(rt.alloc(), head, part, 1_000_000)?;
         assert!(rt; is_kept(rt.alloc(), text.as_str())?, "{part}");
     }
-    let mut text = "// a line\n".repeat(rt.alloc(), 20_000)?;
+    Ok(())
+}
+
+#[test]
+fn many_lines_of_comments_are_kept(rt: HostRuntime) -> Result<(), Fail> {
+    let mut text = repeated(rt.alloc(), "// first\n\n", "// a line\n", 20_000)?;
     text.push_str("fn f() {}")?;
     assert!(rt; is_kept(rt.alloc(), text.as_str())?);
     Ok(())

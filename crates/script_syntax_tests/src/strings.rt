@@ -3,7 +3,7 @@ use crate::trees::Case;
 
 pub const STRINGS: [Case; 5] = [
     Case {
-        text: "\"a$b ${f(\"c${1}\")}\\n\"",
+        text: "\"a$b ${x + \"c${1}\"}\\n\"",
         tree: NESTED,
         errors: "",
     },
@@ -29,30 +29,30 @@ pub const STRINGS: [Case; 5] = [
     },
 ];
 
-const NESTED: &str = r#"ROOT@0..21
-  TEXT@0..21
+const NESTED: &str = r#"ROOT@0..22
+  TEXT@0..22
     OPEN_QUOTE@0..1 "\""
     STRING_TEXT@1..5 "a$b "
-    HOLE@5..18
+    HOLE@5..19
       HOLE_OPEN@5..7 "${"
-      CALL@7..17
+      BINARY@7..18
         REFERENCE@7..8
-          NAME@7..8 "f"
-        ARGUMENTS@8..17
-          L_PAREN@8..9 "("
-          TEXT@9..16
-            OPEN_QUOTE@9..10 "\""
-            STRING_TEXT@10..11 "c"
-            HOLE@11..15
-              HOLE_OPEN@11..13 "${"
-              LITERAL@13..14
-                NUMBER@13..14 "1"
-              HOLE_CLOSE@14..15 "}"
-            CLOSE_QUOTE@15..16 "\""
-          R_PAREN@16..17 ")"
-      HOLE_CLOSE@17..18 "}"
-    ESCAPE@18..20 "\\n"
-    CLOSE_QUOTE@20..21 "\""
+          NAME@7..8 "x"
+        WHITESPACE@8..9 " "
+        PLUS@9..10 "+"
+        WHITESPACE@10..11 " "
+        TEXT@11..18
+          OPEN_QUOTE@11..12 "\""
+          STRING_TEXT@12..13 "c"
+          HOLE@13..17
+            HOLE_OPEN@13..15 "${"
+            LITERAL@15..16
+              NUMBER@15..16 "1"
+            HOLE_CLOSE@16..17 "}"
+          CLOSE_QUOTE@17..18 "\""
+      HOLE_CLOSE@18..19 "}"
+    ESCAPE@19..21 "\\n"
+    CLOSE_QUOTE@21..22 "\""
 "#;
 
 const BRACES: &str = r#"ROOT@0..18
