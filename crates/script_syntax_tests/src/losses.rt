@@ -33,16 +33,16 @@ fn every_prefix_is_kept(rt: HostRuntime) -> Result<(), Fail> {
     check(&rt, rt.alloc(), &ERRORS)
 }
 
-/// What long texts repeat, behind this beginning.
-const PARTS: [(&str, &str); 8] = [
-    ("", "("),
-    ("", "{"),
-    ("", "f("),
-    ("", "\"${"),
-    ("", "a<"),
-    ("", "f(x\n"),
-    ("union U {", "a: {"),
-    ("let x: ", "A<"),
+/// How long texts begin, and what they repeat so many times.
+const LONG: [(&str, &str, usize); 8] = [
+    ("", "(", 1_000_000),
+    ("", "{", 10_000),
+    ("", "f(", 10_000),
+    ("", "\"${", 10_000),
+    ("", "a<", 10_000),
+    ("", "f(x\n", 10_000),
+    ("union U {", "a: {", 10_000),
+    ("let x: ", "A<", 10_000),
 ];
 
 fn repeated(alloc: Global, head: &str, part: &str, times: usize) -> Result<String, Fault> {
@@ -55,8 +55,8 @@ fn repeated(alloc: Global, head: &str, part: &str, times: usize) -> Result<Strin
 
 #[test]
 fn long_texts_are_kept(rt: HostRuntime) -> Result<(), Fail> {
-    for (head, part) in PARTS {
-        let text = repeated(rt.alloc(), head, part, 1_000_000)?;
+    for (head, part, times) in LONG {
+        let text = repeated(rt.alloc(), head, part, times)?;
         assert!(rt; is_kept(rt.alloc(), text.as_str())?, "{part}");
     }
     Ok(())
