@@ -34,8 +34,8 @@ const TRIVIA: TokenSet = token_set![Kind::Whitespace, Kind::Comment, Kind::Remar
 
 const DOCUMENTS: TokenSet = token_set![Kind::Comment];
 
-/// Parses a text, with brackets at most so deep, since each level takes stack. In brackets that are
-/// deeper, what stands up to a closing one is in an error node. Refused as `rowan_parser::parse` is.
+/// Parses a text, with brackets at most so deep, since each level takes stack: what stands in one
+/// that is deeper is one error node. Refused as `rowan_parser::parse` is.
 pub fn parse_to_depth(alloc: Global, text: &str, depth: usize) -> Result<Parse, Fault>
     ensures text { IfOk result (λ parse. node_text parse.green ≡ text.now) }
     ensures err { IfErr result (WhyNoTree text.now) }

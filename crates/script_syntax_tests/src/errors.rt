@@ -5,17 +5,17 @@ pub const ERRORS: [Case; 6] = [
     Case {
         text: "let x =\nlet y = 2 3 )",
         tree: NO_OPERAND,
-        errors: "7..7 expected an expression\n17..17 expected `;` or a new line\n19..19 expected `;` or a new line\n",
+        errors: NO_OPERAND_ERRORS,
     },
     Case {
         text: "f(1, 2\nlet y = (3;",
         tree: NO_CLOSING,
-        errors: "6..6 expected `,` or `)`\n17..17 expected `)`\n",
+        errors: NO_CLOSING_ERRORS,
     },
     Case {
         text: "f(a b, = c, d)\nfn (x) {}",
         tree: LISTS,
-        errors: "3..3 expected `,` or `)`\n6..6 expected an expression\n17..17 expected a name\n20..20 expected `:`\n",
+        errors: LISTS_ERRORS,
     },
     Case {
         text: "f((((1))))\nx",
@@ -25,12 +25,12 @@ pub const ERRORS: [Case; 6] = [
     Case {
         text: "}\nfn f() {\n  x\n",
         tree: BRACES,
-        errors: "0..1 this closes nothing\n9..10 this `{` has no `}`\n",
+        errors: BRACES_ERRORS,
     },
     Case {
         text: "union U { a: b: T; 1 }",
         tree: FIELDS,
-        errors: "14..14 expected `,` or a new line\n17..18 expected a field\n",
+        errors: FIELDS_ERRORS,
     },
 ];
 
@@ -59,6 +59,11 @@ const NO_OPERAND: &str = r#"ROOT@0..21
     R_PAREN@20..21 ")"
 "#;
 
+const NO_OPERAND_ERRORS: &str = "7..7 expected an expression
+17..17 expected `;` or a new line
+19..19 expected `;` or a new line
+";
+
 const NO_CLOSING: &str = r#"ROOT@0..18
   CALL@0..6
     REFERENCE@0..1
@@ -85,6 +90,10 @@ const NO_CLOSING: &str = r#"ROOT@0..18
         NUMBER@16..17 "3"
   SEMICOLON@17..18 ";"
 "#;
+
+const NO_CLOSING_ERRORS: &str = "6..6 expected `,` or `)`
+17..17 expected `)`
+";
 
 const LISTS: &str = r#"ROOT@0..24
   CALL@0..14
@@ -122,6 +131,12 @@ const LISTS: &str = r#"ROOT@0..24
       L_BRACE@22..23 "{"
       R_BRACE@23..24 "}"
 "#;
+
+const LISTS_ERRORS: &str = "3..3 expected `,` or `)`
+6..6 expected an expression
+17..17 expected a name
+20..20 expected `:`
+";
 
 const TOO_DEEP: &str = r#"ROOT@0..12
   CALL@0..10
@@ -165,6 +180,10 @@ const BRACES: &str = r#"ROOT@0..15
   WHITESPACE@14..15 "\n"
 "#;
 
+const BRACES_ERRORS: &str = "0..1 this closes nothing
+9..10 this `{` has no `}`
+";
+
 const FIELDS: &str = r#"ROOT@0..22
   UNION@0..22
     UNION_KW@0..5 "union"
@@ -190,3 +209,7 @@ const FIELDS: &str = r#"ROOT@0..22
     WHITESPACE@20..21 " "
     R_BRACE@21..22 "}"
 "#;
+
+const FIELDS_ERRORS: &str = "14..14 expected `,` or a new line
+17..18 expected a field
+";

@@ -15,7 +15,7 @@ pub const STRINGS: [Case; 5] = [
     Case {
         text: "f(\"ab\n\"c\"",
         tree: UNCLOSED,
-        errors: "3..5 this string does not end in its line\n5..5 expected `,` or `)`\n",
+        errors: UNCLOSED_ERRORS,
     },
     Case {
         text: "{\n\"${a b\n}",
@@ -25,7 +25,7 @@ pub const STRINGS: [Case; 5] = [
     Case {
         text: "\"\\q\\\"é\\é\"",
         tree: ESCAPES,
-        errors: "1..3 there is no such escape\n7..10 there is no such escape\n",
+        errors: ESCAPES_ERRORS,
     },
 ];
 
@@ -97,6 +97,10 @@ const UNCLOSED: &str = r#"ROOT@0..9
     CLOSE_QUOTE@8..9 "\""
 "#;
 
+const UNCLOSED_ERRORS: &str = "3..5 this string does not end in its line
+5..5 expected `,` or `)`
+";
+
 const UNCLOSED_HOLE: &str = r#"ROOT@0..10
   BLOCK@0..10
     L_BRACE@0..1 "{"
@@ -123,3 +127,7 @@ const ESCAPES: &str = r#"ROOT@0..11
     ESCAPE@7..10 "\\é"
     CLOSE_QUOTE@10..11 "\""
 "#;
+
+const ESCAPES_ERRORS: &str = "1..3 there is no such escape
+7..10 there is no such escape
+";
