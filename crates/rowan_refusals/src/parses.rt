@@ -2,79 +2,127 @@
 
 use crate::shape::Shape;
 use crate::transcript::{Phase, Stop, Transcript};
-use json_syntax::Json;
-use rowan::{Fault, SyntaxNode, TextSize};
-use rowan_parser::{LineColumn, LineIndex, Parse, render};
+use json_syntax::{Json, Options, parse_with_options};
+use rowan::{Fault, Language, SyntaxNode, TextSize};
+use rowan_parser::{LineColumn, LineIndex, Parse, render_up_to};
+use script_syntax::Script;
 use std::alloc::Global;
+
+/// In which language a text is.
+#[derive(Clone, Copy)]
+enum Grammar {
+    Json,
+    Strict,
+    Script,
+}
 
 /// A case: a text, which is parsed, and a place in it.
 #[derive(Clone, Copy)]
 struct ParseCase {
     name: &'static str,
+    grammar: Grammar,
     text: &'static str,
     offset: u32,
 }
 
-const PARSES: [ParseCase; 4] = [
+const PARSES: [ParseCase; 7] = [
     ParseCase {
         name: "a parse by events",
+        grammar: Grammar::Json,
         text: "{\"a\": [1, true, {}], \"b\": [\"𝄞\"]} // end",
         offset: 30,
     },
     ParseCase {
         name: "a parse by events, of an empty text",
+        grammar: Grammar::Json,
         text: "",
         offset: 0,
     },
     ParseCase {
         name: "a parse by events with errors",
+        grammar: Grammar::Json,
         text: "[1,,\n\t{\"é\" 2, x: tru}\n",
         offset: 9,
     },
     ParseCase {
         name: "a parse by events, of lists that are not closed",
+        grammar: Grammar::Json,
         text: "[[[[[[[[[[[[[[[[[\n[[[[[[[[[[[[[[[[",
+        offset: 20,
+    },
+    ParseCase {
+        name: "a strict parse, whose lexer complains",
+        grammar: Grammar::Strict,
+        text: "[01, \"a\\q\", // note\n1,]",
+        offset: 3,
+    },
+    ParseCase {
+        name: "a script",
+        grammar: Grammar::Script,
+        text: "// licence\n\n// adds\nfn f(a: List<List<Int>>) {\n  union + 1 >> \"${a}\"\n}",
+        offset: 12,
+    },
+    ParseCase {
+        name: "a script with errors",
+        grammar: Grammar::Script,
+        text: "let = 1 < 2 < 3\nf((((1, \"é ${2\nlet x",
         offset: 20,
     },
 ];
 
 /// What a case made.
 #[derive(Drop)]
-struct Made {
+struct Made<L> {
     parse: Parse,
-    root: SyntaxNode<Json>,
+    root: SyntaxNode<L>,
     printed: String,
 }
 
 pub fn run_parses(log: &Transcript<'_>) -> Result<(), Stop> {
     for case in PARSES {
-        log.case(case.name)?;
-        log.phase(Phase::Making)?;
-        let made = make(log, case)?;
-        let index = ask(
-            log,
-            "LineIndex::new",
-            || LineIndex::new(log.alloc(), case.text),
-        )?;
-        log.phase(Phase::Moving)?;
-        tell_place(log, &index, case.offset)?;
-        log.phase(Phase::Dropping)?;
-        drop(index);
-        drop(made);
+        match case.grammar {
+            Grammar::Script => run_case::<Script>(log, case)?,
+            _ => run_case::<Json>(log, case)?,
+        }
     }
     Ok(())
 }
 
-fn make(log: &Transcript<'_>, case: ParseCase) -> Result<Made, Stop> {
+fn run_case<L: Language>(log: &Transcript<'_>, case: ParseCase) -> Result<(), Stop> {
+    log.case(case.name)?;
+    log.phase(Phase::Making)?;
+    let made: Made<L> = make(log, case)?;
+    let index = ask(
+        log,
+        "LineIndex::new",
+        || LineIndex::new(log.alloc(), case.text),
+    )?;
+    log.phase(Phase::Moving)?;
+    tell_place(log, &index, case.offset)?;
+    log.phase(Phase::Dropping)?;
+    drop(index);
+    drop(made);
+    Ok(())
+}
+
+fn parse(alloc: Global, case: ParseCase) -> Result<Parse, Fault> {
+    match case.grammar {
+        Grammar::Json => json_syntax::parse(alloc, case.text),
+        Grammar::Strict => parse_with_options(alloc, case.text, Options::strict()),
+        Grammar::Script => script_syntax::parse(alloc, case.text),
+    }
+}
+
+fn make<L: Language>(log: &Transcript<'_>, case: ParseCase) -> Result<Made<L>, Stop> {
     let alloc = log.alloc();
-    let parse = ask(log, "parse", || json_syntax::parse(alloc, case.text))?;
+    let parse = ask(log, "parse", || parse(alloc, case))?;
     log.tell("tree", &Shape(&parse.green))?;
     let root = ask(log, "syntax", || parse.syntax(alloc))?;
     let errors = parse.errors.as_slice();
     let printed = ask(
         log,
         "render",
-        || render(alloc, errors, case.text, "a.json", 2),
+        || render_up_to(alloc, errors, case.text, "a.json", 2),
     )?;
     log.show("printed", &printed)?;
     Ok(Made {
