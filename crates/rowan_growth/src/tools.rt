@@ -14,6 +14,7 @@ pub fn make(call: &str, tree: &Tree) -> Result<Option<u64>, Fault> {
         "parse_lists" => parse_lists(tree),
         "parse_events" => parse_events(tree),
         "parse_errors" => parse_errors(tree),
+        "parse_scripts" => parse_scripts(tree),
         "lines" => lines(tree),
         "long_line" => long_line(tree),
         "edits" => edits(tree, 1),
@@ -65,6 +66,16 @@ fn parse_errors(tree: &Tree) -> Result<u64, Fault> {
         tree.size,
     )?;
     Ok(lines.len() as u64)
+}
+
+/// Comments above a function, brackets that are too deep, and a line with errors for each token.
+fn parse_scripts(tree: &Tree) -> Result<u64, Fault> {
+    let comments = repeated(tree, "// note\n")?;
+    let brackets = repeated(tree, "(")?;
+    let lines = repeated(tree, "let x = 1 < 2 < 3 4\n")?;
+    let text = format!(in tree.alloc; "{comments}fn f() {{ {brackets}1 }}\n{lines}")?;
+    let parse = script_syntax::parse(tree.alloc, text.as_str())?;
+    Ok(parse.errors.len() as u64)
 }
 
 fn lines(tree: &Tree) -> Result<u64, Fault> {
