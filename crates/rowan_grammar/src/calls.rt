@@ -1,7 +1,8 @@
 //! The calls of a wrapper: one for each part of its rule.
 use crate::grammar::{Grammar, Item, Part};
 use crate::names::plural;
-use crate::place::Span;
+use crate::place::text_at;
+use rowan::TextRange;
 use std::alloc::{AllocError, Global};
 use std::collections::HashMap;
 
@@ -9,7 +10,7 @@ use std::collections::HashMap;
 #[derive(Drop)]
 pub struct Call {
     pub name: String,
-    pub span: Span,
+    pub range: TextRange,
     /// The number of the item that it gives.
     pub target: usize,
     pub is_token: bool,
@@ -54,10 +55,10 @@ pub fn calls_of(
         }
         let is_many = group.is_many;
         let name = call_name(alloc, text, grammar.snake(target), part, is_token, is_many)?;
-        let span = part.span;
+        let range = part.range;
         calls.push(Call {
             name,
-            span,
+            range,
             target,
             is_token,
             is_many,
@@ -103,7 +104,7 @@ fn call_name(
     is_many: bool,
 ) -> Result<String, AllocError> {
     if let Some(label) = part.label {
-        return String::from_str(alloc, label.of(text));
+        return String::from_str(alloc, text_at(text, label));
     }
     if is_token {
         return format!(in alloc; "{snake}_token");

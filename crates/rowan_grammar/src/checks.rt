@@ -3,13 +3,11 @@ use crate::calls::{Call, calls_of};
 use crate::ends::needs_without_end;
 use crate::grammar::{Grammar, Item, Part, Sort};
 use crate::names::{is_call_name, is_reserved, is_taken, is_type_name};
-use crate::place::{Problem, Severity, Span};
+use crate::place::{Problem, Severity, text_at, top};
 use crate::reach::steps_from;
+use rowan::TextRange;
 use std::alloc::{AllocError, Global};
 use std::collections::HashMap;
-
-/// Where problems stand that have no place.
-const TOP: Span = Span { start: 0, end: 0 };
 
 /// What is looked at, and what was found.
 #[derive(Drop)]
@@ -20,17 +18,22 @@ pub struct Checker<'t> {
 }
 
 impl Checker<'_> {
-    fn add(&mut self, severity: Severity, span: Span, message: String) -> Result<(), AllocError> {
+    fn add(
+        &mut self,
+        severity: Severity,
+        range: TextRange,
+        message: String,
+    ) -> Result<(), AllocError> {
         self.problems.push(Problem {
             severity,
-            span,
+            range,
             message,
         })?;
         Ok(())
     }
 
-    fn error(&mut self, span: Span, message: String) -> Result<(), AllocError> {
-        self.add(Severity::Error, span, message)
+    fn error(&mut self, range: TextRange, message: String) -> Result<(), AllocError> {
+        self.add(Severity::Error, range, message)
     }
 
     /// Looks at all of it, and says of each part what it stands for.
@@ -59,7 +62,7 @@ impl Checker<'_> {
         let count = errors.count();
         if count != 1 {
             let message = format!(in self.alloc; "one line `error NAME` is wanted, not {count}")?;
-            self.error(TOP, message)?;
+            self.error(top(), message)?;
         }
         Ok(())
     }
@@ -67,22 +70,22 @@ impl Checker<'_> {
     /// A line of the head with this word has to be there, and its name to be spelled as this form.
     fn check_named(
         &mut self,
-        span: Option<Span>,
+        range: Option<TextRange>,
         word: &str,
         form: &str,
     ) -> Result<(), AllocError> {
-        let Some(span) = span else {
+        let Some(range) = range else {
             let message = format!(in self.alloc; "a line `{word} NAME` is missing")?;
-            return self.error(TOP, message);
+            return self.error(top(), message);
         };
-        let name = span.of(self.text);
+        let name = text_at(self.text, range);
         let is_well = match is_type_name(form) {
             true => is_type_name(name) && !is_taken(name),
             false => is_call_name(name),
         };
         if !is_well {
             let message = format!(in self.alloc; "`{name}` is needed, or not spelled as `{form}`")?;
-            self.error(span, message)?;
+            self.error(range, message)?;
         }
         Ok(())
     }
@@ -92,17 +95,17 @@ impl Checker<'_> {
         let mut names: HashMap<String, usize> = HashMap::new(self.alloc);
         let mut folded: HashMap<String, usize> = HashMap::new(self.alloc);
         let language = match grammar.language {
-            Some(span) => span.of(self.text),
+            Some(range) => text_at(self.text, range),
             None => "",
         };
         for (index, item) in grammar.items.iter().enumerate() {
             let name = item.name.as_str();
             if is_taken(name) || name == language {
                 let message = format!(in self.alloc; "what is written needs the name `{name}`")?;
-                self.error(item.span, message)?;
+                self.error(item.range, message)?;
             } else if !is_type_name(name) {
                 let message = format!(in self.alloc; "`{name}` is not spelled as `InlineTable`")?;
-                self.error(item.span, message)?;
+                self.error(item.range, message)?;
             }
             let mut key = item.name.clone()?;
             key.make_ascii_lowercase();
@@ -112,7 +115,7 @@ impl Checker<'_> {
                     true => format!(in self.alloc; "`{name}` is there already")?,
                     false => format!(in self.alloc; "`{name}` and `{other}` differ in case alone")?,
                 };
-                self.error(item.span, message)?;
+                self.error(item.range, message)?;
             } else {
                 folded.insert(key, index)?;
             }
@@ -125,13 +128,13 @@ impl Checker<'_> {
     fn check_literals(&mut self, grammar: &Grammar) -> Result<HashMap<String, usize>, AllocError> {
         let mut literals: HashMap<String, usize> = HashMap::new(self.alloc);
         for (index, item) in grammar.items.iter().enumerate() {
-            let Some(span) = item.literal else {
+            let Some(range) = item.literal else {
                 continue;
             };
-            let literal = span.of(self.text);
+            let literal = text_at(self.text, range);
             if literals.contains_key(literal) {
                 let message = format!(in self.alloc; "another token has the text {literal}")?;
-                self.error(span, message)?;
+                self.error(range, message)?;
             } else {
                 literals.insert(String::from_str(self.alloc, literal)?, index)?;
             }
@@ -147,7 +150,7 @@ impl Checker<'_> {
         literals: &HashMap<String, usize>,
     ) -> Result<(), AllocError> {
         for part in item.parts.iter_mut() {
-            let name = part.span.of(self.text);
+            let name = text_at(self.text, part.range);
             let found = match part.is_literal {
                 true => literals.get(name),
                 false => names.get(name),
@@ -158,7 +161,7 @@ impl Checker<'_> {
                     true => format!(in self.alloc; "no token has the text {name}")?,
                     false => format!(in self.alloc; "no rule or token is called `{name}`")?,
                 };
-                self.error(part.span, message)?;
+                self.error(part.range, message)?;
             }
         }
         Ok(())
@@ -169,17 +172,17 @@ impl Checker<'_> {
         grammar: &Grammar,
         names: &HashMap<String, usize>,
     ) -> Result<(), AllocError> {
-        let Some(span) = grammar.root else {
+        let Some(range) = grammar.root else {
             return Ok(());
         };
-        let name = span.of(self.text);
+        let name = text_at(self.text, range);
         let sort = match names.get(name) {
             Some(index) => grammar.sort(*index),
             None => Sort::Error,
         };
         if sort != Sort::Node {
             let message = format!(in self.alloc; "no node is called `{name}`")?;
-            self.error(span, message)?;
+            self.error(range, message)?;
         }
         Ok(())
     }
@@ -198,12 +201,12 @@ impl Checker<'_> {
             let other = grammar.name(twice);
             if twice == index {
                 let message = format!(in self.alloc; "`{name}` is an alternative of itself")?;
-                self.error(item.span, message)?;
+                self.error(item.range, message)?;
             } else if !reached.is_cycle {
                 let message = format!(in self.alloc;
                     "two alternatives of `{name}` lead to `{other}`"
                 )?;
-                self.error(item.span, message)?;
+                self.error(item.range, message)?;
             }
         }
         Ok(())
@@ -218,7 +221,7 @@ impl Checker<'_> {
                 let message = format!(in self.alloc;
                     "no `{name}` can end: it always has one more node in it"
                 )?;
-                self.error(item.span, message)?;
+                self.error(item.range, message)?;
             }
         }
         Ok(())
@@ -243,14 +246,14 @@ impl Checker<'_> {
             let name = call.name.as_str();
             if is_reserved(name) || !is_call_name(name) {
                 let message = format!(in self.alloc; "no call can be named `{name}`: label this")?;
-                self.error(call.span, message)?;
+                self.error(call.range, message)?;
             }
             if seen.contains_key(name) {
                 let whole = item.name.as_str();
                 let message = format!(in self.alloc;
                     "two calls of `{whole}` are named `{name}`: label one"
                 )?;
-                self.error(call.span, message)?;
+                self.error(call.range, message)?;
             }
             seen.insert(call.name.clone()?, index)?;
         }
@@ -276,7 +279,7 @@ impl Checker<'_> {
                     let message = format!(in self.alloc;
                         "a `{kind}` here may be `{one}` or `{other}`"
                     )?;
-                    self.error(call.span, message)?;
+                    self.error(call.range, message)?;
                 }
                 break;
             }
@@ -302,7 +305,7 @@ impl Checker<'_> {
             if item.sort == Sort::Token && item.literal.is_some() && !*is_used {
                 let name = item.name.as_str();
                 let message = format!(in self.alloc; "no rule has the token `{name}`")?;
-                self.add(Severity::Warning, item.span, message)?;
+                self.add(Severity::Warning, item.range, message)?;
             }
         }
         Ok(())
@@ -323,9 +326,6 @@ fn demote_choices(alloc: Global, grammar: &mut Grammar) -> Result<(), AllocError
                 .any(|part| is_leaf(part, sorts.as_slice()))
         {
             item.sort = Sort::Node;
-            for part in item.parts.iter_mut() {
-                part.is_optional = true;
-            }
         }
     }
     Ok(())

@@ -1,5 +1,5 @@
 //! What a grammar says.
-use crate::place::Span;
+use rowan::TextRange;
 use std::alloc::Global;
 
 /// What a name of a grammar stands for.
@@ -22,9 +22,9 @@ pub struct Item {
     pub name: String,
     /// The name as calls have it.
     pub snake: String,
-    pub span: Span,
+    pub range: TextRange,
     /// The text that the token always has.
-    pub literal: Option<Span>,
+    pub literal: Option<TextRange>,
     /// The lines of its comment.
     pub docs: String,
     /// The rule in one line.
@@ -35,8 +35,8 @@ pub struct Item {
 /// A part of a rule.
 #[derive(Clone, Copy, PartialEq, Eq, Debug)]
 pub struct Part {
-    pub label: Option<Span>,
-    pub span: Span,
+    pub label: Option<TextRange>,
+    pub range: TextRange,
     pub is_literal: bool,
     pub is_many: bool,
     pub is_optional: bool,
@@ -47,9 +47,9 @@ pub struct Part {
 /// A whole grammar.
 #[derive(Debug, Drop)]
 pub struct Grammar {
-    pub language: Option<Span>,
-    pub crate_name: Option<Span>,
-    pub root: Option<Span>,
+    pub language: Option<TextRange>,
+    pub crate_name: Option<TextRange>,
+    pub root: Option<TextRange>,
     pub items: Vec<Item>,
 }
 

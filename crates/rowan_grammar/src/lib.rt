@@ -13,7 +13,9 @@ mod nodes;
 mod parser;
 mod place;
 mod reach;
+mod reader;
 mod specs;
+mod syntax;
 mod writer;
 mod written;
 

@@ -1,409 +1,232 @@
-//! From the tokens of a grammar to its items.
-use crate::grammar::{Grammar, Item, Part, Sort};
-use crate::lexer::{Symbol, Token};
-use crate::names::snake;
-use crate::place::{Problem, Severity, Span};
-use std::alloc::{AllocError, Global};
+//! From the text of a grammar to its tree.
+ghost use Rattle.std.specs.Prelude.{◌≡◌, ◌<◌, length, IfOk, IfErr};
+ghost use Rattle.rowan.specs.Fits.{byte_limit};
+ghost use Rattle.rowan.specs.Term.{node_text};
+ghost use Rattle.rowan_parser.specs.Parsing.{WhyNoTree};
 
-/// A grammar that is being read.
-#[derive(Drop)]
-pub struct Parser<'t> {
-    alloc: Global,
-    text: &'t str,
-    tokens: &'t [Token],
-    at: usize,
-    pub grammar: Grammar,
-    pub problems: Vec<Problem>,
+use crate::lexer::next_token;
+use crate::syntax::{Grammars, Kind};
+use rowan::Fault;
+use rowan_parser::{Parse, Parser, TokenSet, Trivia, token_set};
+use std::alloc::Global;
+
+/// How many parentheses may be open at once: each takes stack.
+const MAX_DEPTH: usize = 256;
+
+const TOO_DEEP: &str = "more than 256 parentheses are open here";
+
+/// What a part begins with.
+const STARTS: TokenSet = token_set![Kind::Word, Kind::Literal, Kind::Open];
+
+/// Where an alternative ends.
+const ENDS: TokenSet = token_set![Kind::Bar, Kind::Close];
+
+/// Parses the text of a grammar, whatever it is. After what has no meaning it goes on at the next
+/// item.
+pub fn parse(alloc: Global, text: &str) -> Result<Parse, Fault>
+    ensures text { IfOk result (λ parse. node_text parse.green ≡ text.now) }
+    ensures err { IfErr result (WhyNoTree text.now) }
+    ensures too_long { byte_limit < length text.now → result ≡ Err Fault.TextTooLong }
+{
+    let trivia = Trivia {
+        kinds: token_set![Kind::Whitespace, Kind::Comment],
+        attached: &[],
+    };
+    rowan_parser::parse(alloc, text, next_token, trivia, Kind::Root, items)
 }
 
-/// A rule that is being read.
-#[derive(Drop)]
-struct Body {
-    parts: Vec<Part>,
-    /// The parentheses that are open, below them the rule itself.
-    groups: Vec<Group>,
-    /// The label that the next part has.
-    label: Option<Span>,
-    /// Where the last part or parenthesis begins among the parts.
-    last: usize,
-    /// Whether a part has to come next.
-    wants_part: bool,
-    /// Whether there are names and bars alone.
-    is_plain: bool,
-}
-
-#[derive(Clone, Copy)]
-struct Group {
-    first: usize,
-    label: Option<Span>,
-    has_bar: bool,
-    span: Span,
-}
-
-impl Body {
-    fn new(alloc: Global, span: Span) -> Result<Body, AllocError> {
-        let mut groups = Vec::new(alloc);
-        groups.push(Group {
-            first: 0,
-            label: None,
-            has_bar: false,
-            span,
-        })?;
-        Ok(Body {
-            parts: Vec::new(alloc),
-            groups,
-            label: None,
-            last: 0,
-            wants_part: true,
-            is_plain: true,
-        })
-    }
-
-    /// The label of what comes next: its own, or that of the parenthesis around it.
-    fn take_label(&mut self) -> Option<Span> {
-        let outer = match self.groups.last() {
-            Some(group) => group.label,
-            None => None,
-        };
-        self.label.take().or(outer)
-    }
-
-    fn add(&mut self, token: Token) -> Result<(), AllocError> {
-        let label = self.take_label();
-        let is_literal = token.symbol == Symbol::Literal;
-        self.last = self.parts.len();
-        self.wants_part = false;
-        self.is_plain = self.is_plain && label.is_none() && !is_literal;
-        self.parts.push(Part {
-            label,
-            span: token.span,
-            is_literal,
-            is_many: false,
-            is_optional: false,
-            target: None,
-        })?;
-        Ok(())
-    }
-
-    fn begin_group(&mut self, span: Span) -> Result<(), AllocError> {
-        let label = self.take_label();
-        let first = self.parts.len();
-        self.wants_part = true;
-        self.is_plain = false;
-        self.groups.push(Group {
-            first,
-            label,
-            has_bar: false,
-            span,
-        })?;
-        Ok(())
-    }
-
-    /// Ends a parenthesis. The parts of alternatives need not be there.
-    fn end_group(&mut self, group: Group) {
-        self.last = group.first;
-        self.wants_part = false;
-        if group.has_bar {
-            self.repeat(false);
+/// All items.
+fn items(p: &mut Parser<Grammars>) {
+    for _ in 0..p.tokens_left() {
+        if p.at_end() {
+            break;
         }
-    }
-
-    fn add_bar(&mut self) {
-        self.wants_part = true;
-        if let Some(group) = self.groups.last_mut() {
-            group.has_bar = true;
-        }
-    }
-
-    /// What stands last may be missing, and may come many times.
-    fn repeat(&mut self, is_many: bool) {
-        self.is_plain = false;
-        let last = self.last;
-        for part in self.parts.iter_mut().skip(last) {
-            part.is_optional = true;
-            part.is_many = part.is_many || is_many;
-        }
+        item(p);
     }
 }
 
-impl<'t> Parser<'t> {
-    pub fn new(alloc: Global, text: &'t str, tokens: &'t [Token]) -> Parser<'t> {
-        Parser {
-            alloc,
-            text,
-            tokens,
-            at: 0,
-            grammar: Grammar::new(alloc),
-            problems: Vec::new(alloc),
+/// A rule or a line of the head, with the comment before it.
+fn item(p: &mut Parser<Grammars>) {
+    let item = p.start();
+    for _ in 0..p.tokens_left() {
+        if !p.eat(Kind::Doc) {
+            break;
         }
     }
-
-    /// Reads all of it. After what has no meaning it goes on at the next item.
-    pub fn read(&mut self) -> Result<(), AllocError> {
-        for _ in 0..self.tokens.len() {
-            let docs = self.docs()?;
-            let Some(token) = self.token(0) else {
-                break;
-            };
-            self.at = self.at.saturating_add(1);
-            self.item(token, docs)?;
-        }
-        Ok(())
+    if p.at_end() {
+        p.abandon(item);
+        return;
     }
+    let kind = match p.nth(1) {
+        Some(Kind::Equals) if p.at(Kind::Word) => rule(p),
+        Some(Kind::Word) if is_head(p.text()) => head(p),
+        _ => no_item(p),
+    };
+    p.complete(item, kind);
+}
 
-    fn token(&self, ahead: usize) -> Option<Token> {
-        self.tokens.get(self.at.saturating_add(ahead)).copied()
+fn rule(p: &mut Parser<Grammars>) -> Kind {
+    p.bump();
+    p.bump();
+    choice(p, MAX_DEPTH, false);
+    Kind::Rule
+}
+
+/// A line of the head: its word, the name behind it, and for a token maybe its text.
+fn head(p: &mut Parser<Grammars>) -> Kind {
+    let may_have_text = matches!(p.text(), "token" | "trivia");
+    p.bump_as(Kind::Keyword);
+    p.bump();
+    if may_have_text {
+        p.eat(Kind::Literal);
     }
+    Kind::Head
+}
 
-    fn symbol(&self, ahead: usize) -> Option<Symbol> {
-        match self.token(ahead) {
-            Some(token) => Some(token.symbol),
-            None => None,
+/// What is no item, up to the next one.
+fn no_item(p: &mut Parser<Grammars>) -> Kind {
+    p.error("a rule as `Name = ..` or a line of the head is wanted here");
+    p.bump();
+    for _ in 0..p.tokens_left() {
+        if begins_item(p) {
+            break;
         }
+        p.bump();
     }
+    Kind::Error
+}
 
-    fn problem(&mut self, span: Span, message: &str) -> Result<(), AllocError> {
-        let message = String::from_str(self.alloc, message)?;
-        let severity = Severity::Error;
-        self.problems.push(Problem {
-            severity,
-            span,
-            message,
-        })?;
-        Ok(())
-    }
-
-    /// The lines of a comment that stands here.
-    fn docs(&mut self) -> Result<String, AllocError> {
-        let mut docs = String::new(self.alloc);
-        for _ in 0..self.tokens.len() {
-            let Some(token) = self.token(0) else {
-                break;
-            };
-            if token.symbol != Symbol::Doc {
-                break;
-            }
-            let line = token.span.of(self.text);
-            docs.push_str(line.get(3..).unwrap_or("").trim())?;
-            docs.push('\n')?;
-            self.at = self.at.saturating_add(1);
-        }
-        Ok(docs)
-    }
-
-    /// Reads the rest of an item whose first token was taken.
-    fn item(&mut self, first: Token, docs: String) -> Result<(), AllocError> {
-        if first.symbol == Symbol::Word && self.symbol(0) == Some(Symbol::Equals) {
-            self.at = self.at.saturating_add(1);
-            return self.rule(first.span, docs);
-        }
-        let word = first.span.of(self.text);
-        if let (true, Some(token)) = (is_head(word), self.token(0)) {
-            if token.symbol == Symbol::Word {
-                self.at = self.at.saturating_add(1);
-                return self.head(word, token.span, docs);
-            }
-        }
-        self.problem(
-            first.span,
-            "a rule as `Name = ..` or a line of the head is wanted here",
-        )?;
-        for _ in 0..self.tokens.len() {
-            if self.begins_item() {
-                break;
-            }
-            self.at = self.at.saturating_add(1);
-        }
-        Ok(())
-    }
-
-    /// Whether an item begins here, or nothing is left.
-    fn begins_item(&self) -> bool {
-        let Some(token) = self.token(0) else {
-            return true;
-        };
-        match self.symbol(1) {
-            _ if token.symbol == Symbol::Doc => true,
-            Some(Symbol::Equals) => token.symbol == Symbol::Word,
-            Some(Symbol::Word) => is_head(token.span.of(self.text)),
-            _ => false,
-        }
-    }
-
-    /// A line of the head: its word, the name behind it, and for a token maybe its text.
-    fn head(&mut self, word: &str, span: Span, docs: String) -> Result<(), AllocError> {
-        match word {
-            "language" => {
-                let old = self.grammar.language;
-                self.grammar.language = Some(span);
-                self.say_once(old, span)?;
-            }
-            "crate" => {
-                let old = self.grammar.crate_name;
-                self.grammar.crate_name = Some(span);
-                self.say_once(old, span)?;
-            }
-            "root" => {
-                let old = self.grammar.root;
-                self.grammar.root = Some(span);
-                self.say_once(old, span)?;
-            }
-            "error" => self.add_item(Sort::Error, span, docs)?,
-            "trivia" => self.add_item(Sort::Trivia, span, docs)?,
-            _ => self.add_item(Sort::Token, span, docs)?,
-        }
-        Ok(())
-    }
-
-    fn say_once(&mut self, old: Option<Span>, span: Span) -> Result<(), AllocError> {
-        match old {
-            Some(_) => self.problem(span, "a line of the head says this already"),
-            None => Ok(()),
-        }
-    }
-
-    fn add_item(&mut self, sort: Sort, span: Span, docs: String) -> Result<(), AllocError> {
-        let literal = match self.token(0) {
-            Some(token) if token.symbol == Symbol::Literal && sort != Sort::Error => {
-                self.at = self.at.saturating_add(1);
-                Some(token.span)
-            }
-            _ => None,
-        };
-        let name = span.of(self.text);
-        let item = Item {
-            sort,
-            name: String::from_str(self.alloc, name)?,
-            snake: snake(self.alloc, name)?,
-            span,
-            literal,
-            docs,
-            rule: String::new(self.alloc),
-            parts: Vec::new(self.alloc),
-        };
-        self.grammar.items.push(item)?;
-        Ok(())
-    }
-
-    /// Reads what stands behind the `=` of a rule.
-    fn rule(&mut self, span: Span, docs: String) -> Result<(), AllocError> {
-        let start = self.at;
-        let mut body = Body::new(self.alloc, span)?;
-        for _ in 0..self.tokens.len() {
-            if self.begins_item() {
-                break;
-            }
-            self.part(&mut body)?;
-        }
-        self.end_rule(&mut body, span)?;
-        let name = span.of(self.text);
-        let sort = match body.is_plain && body.parts.len() > 1 {
-            true => Sort::Choice,
-            false => Sort::Node,
-        };
-        let item = Item {
-            sort,
-            name: String::from_str(self.alloc, name)?,
-            snake: snake(self.alloc, name)?,
-            span,
-            literal: None,
-            docs,
-            rule: self.rule_text(name, start)?,
-            parts: body.parts,
-        };
-        self.grammar.items.push(item)?;
-        Ok(())
-    }
-
-    /// Reads one token of a rule.
-    fn part(&mut self, body: &mut Body) -> Result<(), AllocError> {
-        let Some(token) = self.token(0) else {
-            return Ok(());
-        };
-        self.at = self.at.saturating_add(1);
-        match token.symbol {
-            Symbol::Word if self.symbol(0) == Some(Symbol::Colon) => {
-                self.at = self.at.saturating_add(1);
-                body.label = Some(token.span);
-                body.wants_part = true;
-                Ok(())
-            }
-            Symbol::Word | Symbol::Literal => body.add(token),
-            Symbol::Open => body.begin_group(token.span),
-            Symbol::Close => self.end_group(body, token.span),
-            Symbol::Bar if body.wants_part => self.problem(
-                token.span,
-                "a part is wanted before this",
-            ),
-            Symbol::Bar => {
-                body.add_bar();
-                Ok(())
-            }
-            Symbol::Star | Symbol::Question if body.wants_part => {
-                self.problem(token.span, "this has nothing to repeat")
-            }
-            Symbol::Star | Symbol::Question => {
-                body.repeat(token.symbol == Symbol::Star);
-                Ok(())
-            }
-            Symbol::Unclosed => self.problem(token.span, "this quote does not end in its line"),
-            _ => self.problem(token.span, "this has no meaning in a rule"),
-        }
-    }
-
-    fn end_group(&mut self, body: &mut Body, span: Span) -> Result<(), AllocError> {
-        if body.wants_part {
-            self.problem(span, "a part is wanted before this")?;
-        }
-        if body.groups.len() < 2 {
-            return self.problem(span, "this parenthesis was not opened");
-        }
-        if let Some(group) = body.groups.pop() {
-            body.end_group(group);
-        }
-        Ok(())
-    }
-
-    fn end_rule(&mut self, body: &mut Body, span: Span) -> Result<(), AllocError> {
-        if body.wants_part {
-            self.problem(span, "this rule ends where a part is wanted")?;
-        }
-        for group in body.groups.iter().skip(1) {
-            self.problem(group.span, "this parenthesis is not closed")?;
-        }
-        match body.groups.first() {
-            Some(group) if group.has_bar && !body.is_plain => {
-                body.last = 0;
-                body.repeat(false);
-            }
-            Some(group) if !group.has_bar => body.is_plain = false,
-            _ => {}
-        }
-        Ok(())
-    }
-
-    /// The rule in one line, from the token with this number on.
-    fn rule_text(&self, name: &str, start: usize) -> Result<String, AllocError> {
-        let mut out = String::from_str(self.alloc, name)?;
-        out.push_str(" =")?;
-        let mut is_joined = false;
-        for token in self.tokens.get(start..self.at).unwrap_or(&[]) {
-            let joins_left = matches!(
-                token.symbol,
-                Symbol::Star | Symbol::Question | Symbol::Close | Symbol::Colon
-            );
-            if !is_joined && !joins_left {
-                out.push(' ')?;
-            }
-            out.push_str(token.span.of(self.text))?;
-            is_joined = matches!(token.symbol, Symbol::Open | Symbol::Colon);
-        }
-        Ok(out)
+/// Whether an item begins here, or nothing is left.
+fn begins_item(p: &Parser<Grammars>) -> bool {
+    match (p.current(), p.nth(1)) {
+        (None | Some(Kind::Doc), _) => true,
+        (Some(Kind::Word), Some(Kind::Equals)) => true,
+        (_, Some(Kind::Word)) => is_head(p.text()),
+        _ => false,
     }
 }
 
 /// Whether a word begins a line of the head.
 fn is_head(word: &str) -> bool {
-    let words = ["language", "crate", "root", "error", "trivia", "token"];
-    words.iter().any(|head| *head == word)
+    matches!(
+        word,
+        "language" | "crate" | "root" | "error" | "trivia" | "token"
+    )
+}
+
+/// Alternatives with bars between them.
+#[cycle(rules)]
+fn choice(p: &mut Parser<Grammars>, depth: usize, is_in_group: bool) {
+    let choice = p.start();
+    for _ in 0..=p.tokens_left() {
+        sequence(p, depth, is_in_group);
+        if !p.eat(Kind::Bar) {
+            break;
+        }
+    }
+    p.complete(choice, Kind::Choice);
+}
+
+/// Parts up to the end of the alternative.
+#[cycle(rules)]
+fn sequence(p: &mut Parser<Grammars>, depth: usize, is_in_group: bool) {
+    let sequence = p.start();
+    let mut is_part_wanted = true;
+    for _ in 0..p.tokens_left() {
+        if begins_item(p) {
+            break;
+        }
+        match p.current() {
+            Some(Kind::Bar) => break,
+            Some(Kind::Close) if is_in_group => break,
+            Some(Kind::Word | Kind::Literal | Kind::Open) => is_part_wanted = !part(p, depth),
+            Some(Kind::Star | Kind::Question) if !is_part_wanted => repeats(p),
+            _ => no_part(p),
+        }
+    }
+    if is_part_wanted && p.at_any(ENDS) {
+        p.error("a part is wanted before this");
+    }
+    p.complete(sequence, Kind::Sequence);
+}
+
+/// A part with its labels and what repeats it. Says whether there is more than labels.
+#[cycle(rules)]
+fn part(p: &mut Parser<Grammars>, depth: usize) -> bool {
+    let part = p.start();
+    labels(p);
+    let is_there = p.at_any(STARTS) && !begins_item(p);
+    if is_there {
+        match p.current() {
+            Some(Kind::Open) => group(p, depth),
+            _ => p.bump(),
+        }
+        repeats(p);
+    }
+    p.complete(part, Kind::Part);
+    is_there
+}
+
+fn labels(p: &mut Parser<Grammars>) {
+    for _ in 0..p.tokens_left() {
+        if !p.at(Kind::Word) || p.nth(1) != Some(Kind::Colon) {
+            break;
+        }
+        let label = p.start();
+        p.bump();
+        p.bump();
+        p.complete(label, Kind::Label);
+    }
+}
+
+fn repeats(p: &mut Parser<Grammars>) {
+    for _ in 0..p.tokens_left() {
+        if !p.eat(Kind::Star) && !p.eat(Kind::Question) {
+            break;
+        }
+    }
+}
+
+/// Alternatives in parentheses. The reader of the tree complains where they are not closed.
+#[cycle(rules)]
+fn group(p: &mut Parser<Grammars>, depth: usize) {
+    let Some(depth) = depth.checked_sub(1) else {
+        too_deep(p);
+        return;
+    };
+    let group = p.start();
+    p.bump();
+    choice(p, depth, true);
+    p.eat(Kind::Close);
+    p.complete(group, Kind::Group);
+}
+
+/// A parenthesis that is nested too deep, up to where it is closed.
+fn too_deep(p: &mut Parser<Grammars>) {
+    p.error(TOO_DEEP);
+    let error = p.start();
+    let mut open = 0usize;
+    for _ in 0..p.tokens_left() {
+        match p.current() {
+            Some(Kind::Open) => open = open.saturating_add(1),
+            Some(Kind::Close) => open = open.saturating_sub(1),
+            _ => {}
+        }
+        p.bump();
+        if open == 0 || begins_item(p) {
+            break;
+        }
+    }
+    p.complete(error, Kind::Error);
+}
+
+/// A token that has no place in a rule.
+fn no_part(p: &mut Parser<Grammars>) {
+    let message = match p.current() {
+        Some(Kind::Close) => "this parenthesis was not opened",
+        Some(Kind::Star | Kind::Question) => "this has nothing to repeat",
+        Some(Kind::Unclosed) => "this quote does not end in its line",
+        _ => "this has no meaning in a rule",
+    };
+    p.error_and_bump(Kind::Error, message);
 }

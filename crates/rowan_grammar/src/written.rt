@@ -1,15 +1,22 @@
 //! All that a grammar gives: what is wrong with it, or the files of its language.
+ghost use Rattle.std.specs.Prelude.{◌≡◌, ◌<◌, length, IfErr};
+ghost use Rattle.rowan.specs.Fits.{byte_limit};
+ghost use Rattle.rowan_parser.specs.Parsing.{WhyNoTree};
+
 use crate::calls::calls_of;
 use crate::checks::Checker;
 use crate::grammar::{Grammar, Sort};
 use crate::kinds::{kinds_code, kinds_specs};
-use crate::lexer::lex;
 use crate::nodes::nodes_code;
-use crate::parser::Parser;
-use crate::place::{Problem, Severity, Span, render};
+use crate::parser::parse;
+use crate::place::{Problem, Severity, render, text_at};
 use crate::reach::steps_from;
+use crate::reader::Reader;
 use crate::specs::{cast_lemmas, casts_specs, nodes_in};
+use crate::syntax::Grammars;
 use crate::writer::Scope;
+use rowan::{Fault, SyntaxNode, TextRange};
+use rowan_parser::SyntaxError;
 use std::alloc::{AllocError, Global};
 
 /// The line with which each written file of code begins.
@@ -45,16 +52,26 @@ pub struct Written {
 }
 
 /// Reads a grammar that is called by this name in messages, and writes the files of its language.
-/// Refused only for want of memory.
-pub fn generate(alloc: Global, text: &str, name: &str) -> Result<Written, AllocError> {
-    let tokens = lex(alloc, text)?;
-    let mut parser = Parser::new(alloc, text, tokens.as_slice());
-    parser.read()?;
-    let Parser {
+///
+/// Errors: `TextTooLong` if the text has more than 4,294,967,295 bytes; `TooManyChildren` if a node
+/// of its tree would have more children than that; `Memory` if an allocation failed.
+pub fn generate(alloc: Global, text: &str, name: &str) -> Result<Written, Fault>
+    ensures err { IfErr result (WhyNoTree text.now) }
+    ensures too_long { byte_limit < length text.now → result ≡ Err Fault.TextTooLong }
+{
+    let parsed = parse(alloc, text)?;
+    let root: SyntaxNode<Grammars> = parsed.syntax(alloc)?;
+    let mut reader = Reader {
+        alloc,
+        grammar: Grammar::new(alloc),
+        problems: problems_of(alloc, parsed.errors.as_slice())?,
+    };
+    reader.read(root.as_ref())?;
+    let Reader {
         mut grammar,
         problems,
         ..
-    } = parser;
+    } = reader;
     let mut checker = Checker {
         alloc,
         text,
@@ -62,13 +79,39 @@ pub fn generate(alloc: Global, text: &str, name: &str) -> Result<Written, AllocE
     };
     checker.check(&mut grammar)?;
     let Checker { mut problems, .. } = checker;
+    answer(alloc, text, name, &grammar, &mut problems)
+}
+
+/// The errors of a parse as problems.
+fn problems_of(alloc: Global, errors: &[SyntaxError]) -> Result<Vec<Problem>, AllocError> {
+    let mut problems = Vec::new(alloc);
+    for error in errors.iter() {
+        problems.push(Problem {
+            severity: Severity::Error,
+            range: error.range,
+            message: error.message.clone()?,
+        })?;
+    }
+    Ok(problems)
+}
+
+/// The messages, and the files where no problem is an error.
+fn answer(
+    alloc: Global,
+    text: &str,
+    name: &str,
+    grammar: &Grammar,
+    problems: &mut Vec<Problem>,
+) -> Result<Written, Fault>
+    ensures { IfErr result (λ e. e ≡ Fault.Memory) }
+{
     let has_errors = problems.iter().any(is_error);
-    let messages = render(alloc, &mut problems, text, name)?;
+    let messages = render(alloc, problems, text, name)?;
     let files = match has_errors {
         true => Vec::new(alloc),
-        false => files_of(alloc, text, &grammar)?,
+        false => files_of(alloc, text, grammar)?,
     };
-    let summary = summary_of(alloc, text, &grammar)?;
+    let summary = summary_of(alloc, text, grammar)?;
     Ok(Written {
         messages,
         has_errors,
@@ -191,9 +234,9 @@ fn files_in(alloc: Global, scope: &Scope<'_>) -> Result<Vec<File>, AllocError> {
     Ok(files)
 }
 
-fn part_of(text: &str, span: Option<Span>) -> &str {
-    match span {
-        Some(span) => span.of(text),
+fn part_of(text: &str, range: Option<TextRange>) -> &str {
+    match range {
+        Some(range) => text_at(text, range),
         None => "",
     }
 }

@@ -64,7 +64,7 @@ fn check(rt: &HostRuntime, name: &str) -> Result<bool> {
 /// Reads a grammar and prints what is wrong with it.
 fn read(rt: &HostRuntime, name: &str) -> Result<Written> {
     let text = fs::read_to_string(rt, name).context(format_args!("reading {name}"))?;
-    let made = generate(rt.alloc(), text.as_str(), name)?;
+    let made = generate(rt.alloc(), text.as_str(), name).context(format_args!("reading {name}"))?;
     print!(rt; "{}", made.messages)?;
     Ok(made)
 }
