@@ -1,6 +1,6 @@
 use json_syntax::parse_to_depth;
 use rowan::Fault;
-use rowan_parser::{SyntaxError, render};
+use rowan_parser::{SyntaxError, render_up_to};
 use std::alloc::Global;
 use std::test::Fail;
 
@@ -49,9 +49,12 @@ fn texts_have_their_errors(rt: HostRuntime) -> Result<(), Fail> {
     Ok(())
 }
 
-const PRINTED: &str = "notes:2:7: error: expected a value
-\t\"日\": @ ]
-\t      ^
+const PRINTED: &str = "error: expected a value
+ --> notes:2:7
+  |
+2 |     \"日\": @ ]
+  |           ^
+
 1 more error
 ";
 
@@ -59,7 +62,7 @@ const PRINTED: &str = "notes:2:7: error: expected a value
 fn errors_are_printed_under_their_lines(rt: HostRuntime) -> Result<(), Fail> {
     let text = "{\n\t\"日\": @ ]";
     let parse = parse_to_depth(rt.alloc(), text, 2)?;
-    let printed = render(rt.alloc(), parse.errors.as_slice(), text, "notes", 1)?;
+    let printed = render_up_to(rt.alloc(), parse.errors.as_slice(), text, "notes", 1)?;
     assert!(rt; printed.as_str() == PRINTED, "{printed}");
     Ok(())
 }

@@ -3,9 +3,10 @@ use crate::calls::{Call, calls_of};
 use crate::ends::needs_without_end;
 use crate::grammar::{Grammar, Item, Part, Sort};
 use crate::names::{is_call_name, is_reserved, is_taken, is_type_name};
-use crate::place::{Problem, Severity, text_at, top};
+use crate::place::{Problem, text_at, top};
 use crate::reach::steps_from;
 use rowan::TextRange;
+use rowan_parser::Severity;
 use std::alloc::{AllocError, Global};
 use std::collections::HashMap;
 

@@ -2,15 +2,8 @@
 ghost use Rattle.std.specs.Prelude.{◌≡◌, IfErr};
 
 use rowan::{Fault, TextRange, TextSize};
-use rowan_parser::LineIndex;
+use rowan_parser::{LineIndex, Renderer, Severity};
 use std::alloc::Global;
-
-/// Whether a problem keeps the grammar from being used.
-#[derive(Clone, Copy, PartialEq, Eq, Debug)]
-pub enum Severity {
-    Error,
-    Warning,
-}
 
 /// What is wrong with a grammar, and where.
 #[derive(Drop)]
@@ -43,39 +36,14 @@ pub fn render(
 {
     problems.sort_by_key(|problem| u32::from(problem.range.start()))?;
     let index = LineIndex::new(alloc, text)?;
+    let renderer = Renderer {
+        index: &index,
+        name,
+    };
     let mut out = String::new(alloc);
     for problem in problems.iter() {
-        render_one(&mut out, &index, problem, name)?;
+        let message = problem.message.as_str();
+        renderer.diagnostic(&mut out, problem.severity, message, problem.range)?;
     }
     Ok(out)
-}
-
-fn render_one(
-    out: &mut String,
-    index: &LineIndex<'_>,
-    problem: &Problem,
-    name: &str,
-) -> Result<(), Fault>
-    ensures { IfErr result (λ e. e ≡ Fault.Memory) }
-{
-    let place = index.line_column(problem.range.start());
-    let characters = match index.to_characters(place) {
-        Some(place) => place.column,
-        None => place.column,
-    };
-    let number = place.line.saturating_add(1);
-    let column = characters.saturating_add(1);
-    let severity = match problem.severity {
-        Severity::Error => "error",
-        Severity::Warning => "warning",
-    };
-    let message = problem.message.as_str();
-    writeln!(out, "{name}:{number}:{column}: {severity}: {message}")?;
-    let line = index.line_text(place.line);
-    writeln!(out, "{line}")?;
-    for character in line.chars().take(characters) {
-        out.push(if character == '\t' { '\t' } else { ' ' })?;
-    }
-    writeln!(out, "^")?;
-    Ok(())
 }

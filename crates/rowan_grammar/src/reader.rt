@@ -1,9 +1,10 @@
 //! From the tree of a grammar to its items.
 use crate::grammar::{Grammar, Item, Part, Sort};
 use crate::names::snake;
-use crate::place::{Problem, Severity};
+use crate::place::Problem;
 use crate::syntax::{Grammars, Kind};
 use rowan::{NodeOrToken, SyntaxNodeRef, SyntaxTokenRef, TextRange, WalkEvent};
+use rowan_parser::Severity;
 use std::alloc::{AllocError, Global};
 use std::mem;
 

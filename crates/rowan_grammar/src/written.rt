@@ -9,14 +9,14 @@ use crate::grammar::{Grammar, Sort};
 use crate::kinds::{kinds_code, kinds_specs};
 use crate::nodes::nodes_code;
 use crate::parser::parse;
-use crate::place::{Problem, Severity, render, text_at};
+use crate::place::{Problem, render, text_at};
 use crate::reach::steps_from;
 use crate::reader::Reader;
 use crate::specs::{cast_lemmas, casts_specs, nodes_in};
 use crate::syntax::Grammars;
 use crate::writer::Scope;
 use rowan::{Fault, SyntaxNode, TextRange};
-use rowan_parser::SyntaxError;
+use rowan_parser::{Severity, SyntaxError};
 use std::alloc::{AllocError, Global};
 
 /// The line with which each written file of code begins.

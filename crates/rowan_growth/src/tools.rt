@@ -4,7 +4,7 @@ ghost use Rattle.std.specs.Prelude.{◌<◌};
 use crate::trees::{self, TEXT, Tree};
 use rowan::{Fault, TextSize};
 use rowan_edit::{GreenEditor, Rewrite, TreeCursor, rewrite_tokens};
-use rowan_parser::{LineIndex, render};
+use rowan_parser::{LineIndex, render_up_to};
 use rowan_tool::sexp;
 use std::alloc::AllocError;
 use std::fmt::Write;
@@ -58,7 +58,7 @@ fn parse_events(tree: &Tree) -> Result<u64, Fault> {
 fn parse_errors(tree: &Tree) -> Result<u64, Fault> {
     let text = format!(in tree.alloc; "[{}0]", repeated(tree, "1 1,\n")?)?;
     let parse = json_syntax::parse(tree.alloc, text.as_str())?;
-    let lines = render(
+    let lines = render_up_to(
         tree.alloc,
         parse.errors.as_slice(),
         text.as_str(),
@@ -92,8 +92,11 @@ fn columns(tree: &Tree, text: &str) -> Result<u64, Fault> {
     let mut sum: u64 = 0;
     for number in 0..u32::try_from(tree.size).unwrap_or(u32::MAX) {
         let place = index.line_column(TextSize::from(number.saturating_mul(5)));
-        if let Some(place) = index.to_utf16(place) {
-            sum = sum.wrapping_add(place.column as u64);
+        if let Some(units) = index.to_utf16(place) {
+            sum = sum.wrapping_add(units.column as u64);
+            if let Some(back) = index.from_utf16(units) {
+                sum = sum.wrapping_add(back.column as u64);
+            }
         }
         if let Some(place) = index.to_characters(place) {
             sum = sum.wrapping_add(place.column as u64);

@@ -5,6 +5,8 @@ pub mod Log
 pub mod Making
 pub mod Outside
 pub mod Parsing
+pub mod Pictures
+pub mod Printed
 pub mod Running
 pub mod Seen
 pub mod Shape

@@ -1,9 +1,9 @@
 -- Lines of a text, each of which ends behind a byte 10.
 use Rattle.std.specs.Prelude.{◌≡◌, ℕ, suc, ◌+◌, ◌-◌, ◌<◌, ◌≤◌, ◌==◌, Bool, true, false, List, []}
-use Rattle.std.specs.Prelude.{◌∷◌}
+use Rattle.std.specs.Prelude.{◌∷◌, ◌++◌, ◌&&◌, if◌then◌else◌}
 use Rattle.std.specs.Prelude.{length, take, get_or, slice_range}
 use Rattle.std.specs.Char.Escape.{encode_utf16}
-use Rattle.std.specs.Str.{chars, IsCharBoundary}
+use Rattle.std.specs.Str.{chars, IsCharBoundary, encode_utf8_all}
 use Rattle.rowan_parser.specs.declared.line_index.LineColumn.{LineColumn}
 
 -- one more where there is an end
@@ -39,6 +39,24 @@ starts_from n (b ∷ bs) = with_start (b == 10) (n + 1) (starts_from (n + 1) bs)
 abbrev pub line_starts : List ℕ → List ℕ
 line_starts text = 0 ∷ starts_from 0 text
 
+-- the offset at which line number n starts; where the text has no such line, that of its end
+abbrev pub line_start : List ℕ → ℕ → ℕ
+line_start text n = get_or (line_starts text) n (length text)
+
+-- `\n` or `\r\n`
+abbrev pub is_end : List ℕ → Bool
+is_end (b ∷ []) = b == 10
+is_end (b ∷ c ∷ []) = (b == 13) && (c == 10)
+is_end _ = false
+
+-- a line without its end
+abbrev pub without_end : List ℕ → List ℕ
+without_end [] = []
+without_end (b ∷ bs) = if is_end (b ∷ bs) then [] else (b ∷ without_end bs)
+
+abbrev pub line_text : List ℕ → ℕ → List ℕ
+line_text text n = without_end (slice_range text (line_start text n) (line_start text (n + 1)))
+
 -- the offset is in the text, and has this line and column
 pub record IsInLine (text : List ℕ) (offset : ℕ) (place : LineColumn) : Type 0 where
   pub within : offset ≤ length text
@@ -62,6 +80,14 @@ pub record IsLineUpTo (text : List ℕ) (place : LineColumn) (before : List ℕ)
 abbrev pub utf16_len : List ℕ → ℕ
 utf16_len [] = 0
 utf16_len (c ∷ cs) = length (encode_utf16 c) + utf16_len cs
+
+-- the characters of the text up to this byte take so many units of UTF-16
+pub record IsUtf16End (text : List ℕ) (units at : ℕ) : Type 0 where
+  pub front : List ℕ
+  pub back : List ℕ
+  pub cut : chars text ≡ front ++ back
+  pub end : at ≡ length (encode_utf8_all front)
+  pub counted : utf16_len front ≡ units
 
 -- the other place has the same line, and its column counts the characters of the line up to the
 -- place

@@ -3,12 +3,14 @@
 #![tactic(auto)]
 
 pub mod event;
+mod excerpt;
 pub mod laws;
 pub mod lexer;
 pub mod line_index;
 pub mod parsed;
 pub mod parser;
 pub mod parsing;
+mod pictures;
 pub mod rendering;
 pub mod running;
 pub mod token_set;
@@ -20,6 +22,6 @@ pub use line_index::{LineColumn, LineIndex};
 pub use parsed::{Parse, SyntaxError};
 pub use parser::{CompletedMarker, Marker, Parser};
 pub use parsing::{Ran, parse, parse_with, run};
-pub use rendering::render;
+pub use rendering::{Renderer, Severity, render, render_up_to};
 pub use token_set::{Brackets, TokenSet};
 pub use tree::{Source, Trivia, build_tree, build_tree_with};

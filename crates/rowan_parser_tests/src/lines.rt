@@ -1,4 +1,4 @@
-use rowan::TextSize;
+use rowan::{TextRange, TextSize};
 use rowan_parser::{LineColumn, LineIndex};
 use std::test::Fail;
 
@@ -27,6 +27,11 @@ fn columns_are_counted_in_each_unit(rt: HostRuntime) -> Result<(), Fail> {
                     column: utf16
                 })
         );
+        let units = LineColumn {
+            line,
+            column: utf16,
+        };
+        assert!(rt; index.from_utf16(units) == Some(place));
         assert!(rt;
             index.to_characters(place)
                 == Some(LineColumn {
@@ -35,5 +40,28 @@ fn columns_are_counted_in_each_unit(rt: HostRuntime) -> Result<(), Fail> {
                 })
         );
     }
+    Ok(())
+}
+
+/// Places in units of UTF-16 that the same text does not have: within a character, past the end of
+/// a line, and past the last line.
+const NO_PLACES: [(usize, usize); 4] = [(1, 2), (1, 5), (2, 1), (3, 0)];
+
+/// The lines of the same text: their ranges, and their texts without their ends.
+const LINES: [(usize, u32, u32, &str); 3] = [(0, 0, 3, "a"), (1, 3, 11, "é𝄞b"), (2, 11, 11, "")];
+
+#[test]
+fn lines_have_ranges_and_texts(rt: HostRuntime) -> Result<(), Fail> {
+    let index = LineIndex::new(rt.alloc(), "a\r\né𝄞b\n")?;
+    for (line, column) in NO_PLACES {
+        assert!(rt; index.from_utf16(LineColumn { line, column }).is_none());
+    }
+    for (line, start, end, text) in LINES {
+        let range = TextRange::new(TextSize::from(start), TextSize::from(end));
+        assert!(rt; index.line(line) == Some(range));
+        assert!(rt; index.line_text(line) == text);
+    }
+    assert!(rt; index.line(3).is_none());
+    assert!(rt; index.line_text(3) == "");
     Ok(())
 }
