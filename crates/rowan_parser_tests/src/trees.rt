@@ -1,6 +1,8 @@
 use arithmetic_syntax::{Arithmetic, Kind, next_token};
 use rowan::{Fault, Language, SyntaxKind, SyntaxNode, TextRange, TextSize};
-use rowan_parser::{CompletedMarker, Event, Parser, Source, Token, Trivia, build_tree, parse, run, token_set};
+use rowan_parser::{
+    CompletedMarker, Event, Parser, Source, Token, Trivia, build_tree, parse, run, token_set,
+};
 use std::alloc::Global;
 use std::test::Fail;
 
