@@ -1,6 +1,6 @@
-use json_syntax::parse_to_depth;
+use json_syntax::{parse, parse_to_depth};
 use rowan::Fault;
-use rowan_parser::{SyntaxError, render_up_to};
+use rowan_parser::{SyntaxError, render, render_up_to};
 use std::alloc::Global;
 use std::test::Fail;
 
@@ -57,6 +57,31 @@ const PRINTED: &str = "error: expected a value
 
 1 more error
 ";
+
+/// The page of `rowan_parser` shows this text with its errors.
+const SHOWN: &str = "{\"a\": , \"b\": [1 2]}";
+
+const SHOWN_ERRORS: &str = "error: expected a value
+ --> notes.json:1:7
+  |
+1 | {\"a\": , \"b\": [1 2]}
+  |       ^
+
+error: expected `,` or `]`
+ --> notes.json:1:17
+  |
+1 | {\"a\": , \"b\": [1 2]}
+  |                 ^
+
+";
+
+#[test]
+fn the_page_shows_what_is_printed(rt: HostRuntime) -> Result<(), Fail> {
+    let parse = parse(rt.alloc(), SHOWN)?;
+    let printed = render(rt.alloc(), parse.errors(), SHOWN, "notes.json")?;
+    assert!(rt; printed.as_str() == SHOWN_ERRORS, "{printed}");
+    Ok(())
+}
 
 #[test]
 fn errors_are_printed_under_their_lines(rt: HostRuntime) -> Result<(), Fail> {
