@@ -1,12 +1,12 @@
 //! Which JSON a parse takes.
 ghost use Rattle.std.specs.Prelude.{◌≡◌, true, false};
 
-/// The greatest depth of arrays and objects that a parse takes, whatever its options say. Each level
-/// takes stack, and so many fit into the usual stack of 8 MB.
+/// The greatest depth of arrays and objects that a parse takes, whatever its options say. Each
+/// level takes stack, and so many fit into the usual stack of 8 MB.
 pub const MAX_DEPTH: usize = 2048;
 
-/// What a text may have without an error. What is not allowed is still in the tree, as it would be if
-/// it were allowed.
+/// What a text may have without an error. What is not allowed is still in the tree, as it would be
+/// if it were allowed.
 #[derive(Clone, Copy, PartialEq, Eq, Hash, Debug)]
 pub struct Options {
     /// Comments, from `//` to the end of the line and from `/*` to `*/`.

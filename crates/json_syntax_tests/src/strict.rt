@@ -101,10 +101,8 @@ fn too_many_levels_leave_stack(rt: HostRuntime) -> Result<(), Fail> {
         let text = opening.repeat(rt.alloc(), count)?;
         let parse = parse_to_depth(rt.alloc(), text.as_str(), usize::MAX)?;
         assert!(rt; parse.errors.len() == 2, "{opening}");
-        assert!(rt;
-            u32::from(parse.green.text_len()) as usize == text.len(),
-            "{opening}"
-        );
+        let kept = parse.green.to_string(rt.alloc())?;
+        assert!(rt; kept.as_str() == text.as_str(), "{opening}");
     }
     Ok(())
 }

@@ -59,8 +59,8 @@ const ERRORS: [(&str, &str); 24] = [
         "0..2 expected no form feed\n4..5 expected no form feed\n",
     ),
     (
-        "[01, 2 3, 04]",
-        "1..3 expected no leading zero\n10..12 expected no leading zero\n7..8 expected `,` or `]`\n",
+        "[2 3, 01]",
+        "6..8 expected no leading zero\n3..4 expected `,` or `]`\n",
     ),
 ];
 
