@@ -33,16 +33,15 @@ fn every_prefix_is_kept(rt: HostRuntime) -> Result<(), Fail> {
     check(&rt, rt.alloc(), &ERRORS)
 }
 
-/// How long texts begin, and what they repeat so many times.
-const LONG: [(&str, &str, usize); 8] = [
-    ("", "(", 1_000_000),
-    ("", "{", 10_000),
-    ("", "f(", 10_000),
-    ("", "\"${", 10_000),
-    ("", "a<", 10_000),
-    ("", "f(x\n", 10_000),
-    ("union U {", "a: {", 10_000),
-    ("let x: ", "A<", 10_000),
+/// How long texts begin, and what they repeat.
+const LONG: [(&str, &str); 7] = [
+    ("", "{"),
+    ("", "f("),
+    ("", "\"${"),
+    ("", "a<"),
+    ("", "f(x\n"),
+    ("union U {", "a: {"),
+    ("let x: ", "A<"),
 ];
 
 fn repeated(alloc: Global, head: &str, part: &str, times: usize) -> Result<String, Fault> {
@@ -55,10 +54,17 @@ fn repeated(alloc: Global, head: &str, part: &str, times: usize) -> Result<Strin
 
 #[test]
 fn long_texts_are_kept(rt: HostRuntime) -> Result<(), Fail> {
-    for (head, part, times) in LONG {
-        let text = repeated(rt.alloc(), head, part, times)?;
+    for (head, part) in LONG {
+        let text = repeated(rt.alloc(), head, part, 10_000)?;
         assert!(rt; is_kept(rt.alloc(), text.as_str())?, "{part}");
     }
+    Ok(())
+}
+
+#[test]
+fn a_million_brackets_are_kept(rt: HostRuntime) -> Result<(), Fail> {
+    let text = "(".repeat(rt.alloc(), 1_000_000)?;
+    assert!(rt; is_kept(rt.alloc(), text.as_str())?);
     Ok(())
 }
 
