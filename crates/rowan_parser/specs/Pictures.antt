@@ -1,5 +1,6 @@
 -- Text as it is shown: without characters that would move a cursor, ring, or turn a line round.
-use Rattle.std.specs.Prelude.{ℕ, ◌+◌, ◌==◌, ◌||◌, nat_lt, Bool, false, if◌then◌else◌, List, codes, chars}
+use Rattle.std.specs.Prelude.{ℕ, ◌+◌, ◌==◌, ◌||◌, nat_lt, Bool, false, if◌then◌else◌, List}
+use Rattle.std.specs.Prelude.{codes, chars}
 use Rattle.std.specs.Char.{encode_utf8}
 use Rattle.std.specs.Int.{is_in_range}
 use Rattle.std.specs.List.{flat_map}

@@ -52,7 +52,8 @@ shown_line name number line before inside =
     place_line (length (decimal number)) name number (length (chars before) + 1)
     ++ (bar_line (length (decimal number))
     ++ (source_line number (pictured line)
-    ++ caret_line (length (decimal number)) (columns (pictured before)) (columns (pictured inside))))
+    ++ caret_line (length (decimal number)) (columns (pictured before))
+    (columns (pictured inside))))
 
 -- the line of an offset, and the bytes of it before the offset
 abbrev pub line_at : List ℕ → ℕ → List ℕ

@@ -69,8 +69,10 @@ impl Excerpt {
     }
 
     fn whole(alloc: Global, parts: Parts<'_>) -> Result<Excerpt, Fault>
-        ensures before { IfOk result (λ e. string_bytes e.before ≡ pictured parts.entry.before.now) }
-        ensures inside { IfOk result (λ e. string_bytes e.inside ≡ pictured parts.entry.inside.now) }
+        ensures before { IfOk result (λ e.
+            string_bytes e.before ≡ pictured parts.entry.before.now) }
+        ensures inside { IfOk result (λ e.
+            string_bytes e.inside ≡ pictured parts.entry.inside.now) }
         ensures after { IfOk result (λ e. string_bytes e.after ≡ pictured parts.entry.after.now) }
         ensures err { IfErr result (λ e. e ≡ Fault.Memory) }
     {

@@ -45,7 +45,7 @@ impl<'text> Model for LineIndex<'text> {
 }
 
 impl<'text> LineIndex<'text> {
-    /// Reads the text once. Refused only for want of memory.
+    /// Takes time in the length of the text. Refused only for want of memory.
     pub fn new(alloc: Global, text: &'text str) -> Result<LineIndex<'text>, Fault>
         ensures ok { IfOk result (λ index. index ≡ text.now) }
         ensures err { IfErr result (λ e. e ≡ Fault.Memory) }

@@ -1,6 +1,6 @@
 //! Diagnostics as text for a terminal, in the layout of `rustc`.
-ghost use Rattle.std.specs.Prelude.{◌≡◌, ◌≤◌, ◌<◌, ◌+◌, ◌-◌, ◌^◌, ◌++◌, length, take, drop, chars, max};
-ghost use Rattle.std.specs.Prelude.{OnOk, IfOk, IfErr, string_bytes, codes};
+ghost use Rattle.std.specs.Prelude.{◌≡◌, ◌≤◌, ◌<◌, ◌+◌, ◌-◌, ◌^◌, ◌++◌, length, take, drop, max};
+ghost use Rattle.std.specs.Prelude.{chars, OnOk, IfOk, IfErr, string_bytes, codes};
 ghost use Rattle.std.specs.Fmt.{decimal};
 ghost use Rattle.rowan_parser.specs.Lines.{line_text};
 ghost use Rattle.rowan_parser.specs.Pictures.{columns};
@@ -127,8 +127,8 @@ impl Renderer<'_, '_> {
     /// A line of more than 160 columns or 640 bytes is cropped around the place, with `...` where
     /// it goes on. A tab is four spaces wide. Other control characters of the message, the name
     /// and the text are shown by their pictures, as `␛`; those that have none, and those that turn
-    /// the direction of the text, by U+FFFD. A range that starts or ends within a character starts
-    /// or ends where that does.
+    /// the direction of the text, by U+FFFD. A range that starts or ends within a character does
+    /// so at the character's start.
     ///
     /// Errors: `Memory` if an allocation failed. Part of the diagnostic is then appended.
     pub fn diagnostic(
@@ -295,7 +295,8 @@ fn push_line(
         let shown = before ++ (inside ++ string_bytes excerpt.now.after) in
         string_bytes out.new ≡ string_bytes out.old
         ++ (place_line margin name.now place.line place.column ++ (bar_line margin
-        ++ (source_line place.line shown ++ caret_line margin (columns before) (columns inside))))) }
+        ++ (source_line place.line shown
+        ++ caret_line margin (columns before) (columns inside))))) }
     ensures err { IfErr result (λ e. e ≡ Fault.Memory) }
 {
     let number = format!(in *out.allocator(); "{}", place.line)?;

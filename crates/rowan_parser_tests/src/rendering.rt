@@ -3,7 +3,8 @@ use rowan_parser::{LineIndex, Renderer, Severity, SyntaxError, render, render_up
 use std::alloc::Global;
 use std::test::Fail;
 
-/// Texts, the range of an error in each, and the place, the line and the carets, worked out by hand.
+/// Texts, the range of an error in each, and the place, the line and the carets, worked out by
+/// hand.
 const SHOWN: [(&str, (u32, u32), &str); 16] = [
     (
         "{ \"a\": ,",
