@@ -2,7 +2,7 @@ use grammar_sample::nodes::{Document, Table};
 use grammar_sample::{Kind, Sample};
 use rowan::ast::AstNode;
 use rowan::{Fault, Language, SyntaxKind};
-use rowan_parser::{Parse, Parser, Trivia, parse};
+use rowan_parser::{Parse, Parser, TokenSet, Trivia, parse};
 use std::alloc::Global;
 use std::test::Fail;
 
@@ -17,7 +17,7 @@ fn document(p: &mut Parser<Sample>) {
 
 fn parsed(alloc: Global, text: &str) -> Result<Parse, Fault> {
     let trivia = Trivia {
-        kinds: &[],
+        kinds: TokenSet::EMPTY,
         attached: &[],
     };
     parse(alloc, text, next_token, trivia, Kind::Document, document)
