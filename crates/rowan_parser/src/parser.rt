@@ -394,8 +394,7 @@ impl<'t, L: Language> Parser<'t, L> {
         }
     }
 
-    /// Complains of a range of the text, in bytes. What is past the end of the text stands for the
-    /// end.
+    /// Complains of a range of the text, in bytes, which the error has as it is given.
     pub fn error_at(&mut self, range: TextRange, message: &str)
         ensures { Is (told_of (Given range) message.now self.old) self.new }
     {
