@@ -1,7 +1,7 @@
 -- The path of a cursor, from its parent's.
 use Rattle.std.proofs.Common.{◌≡◌, ℕ, ◌<◌, List, [], ◌∷◌, ◌++◌, length, Option, Some, None}
 use Rattle.std.proofs.Common.{refl, sym, ◌∙◌, ap, subst, arith, length-append, append_assoc}
-use Rattle.std.specs.Prelude.{◌≢◌, reverse, Result, Ok, Err, OnOk, IfErr, MatchOption}
+use Rattle.std.specs.Prelude.{reverse, Result, Ok, Err, OnOk, IfErr, MatchOption}
 use Rattle.std.specs.Option.{option_map}
 use Rattle.std.proofs.lemmas.List.{reverse-append}
 use Rattle.rowan_green.specs.Path.{Path}
@@ -10,7 +10,7 @@ use Rattle.rowan_cursor.specs.Moves.{cursor_at, parent_path, parent}
 use Rattle.rowan_edit.specs.declared.refusal.Refusal.{Refusal}
 use Rattle.rowan_edit.specs.declared.refusal.Refusal.TheVariants.{Conflict, NotFound, Root}
 use Rattle.rowan_edit.specs.declared.refusal.Refusal.TheVariants.{OtherTree, Memory}
-use Rattle.rowan_edit.specs.Cursors.{AtChild, WhyNotTaken, WhyNotTakenAt}
+use Rattle.rowan_edit.specs.Cursors.{AtChild, WhyNotTakenAt}
 use Rattle.rowan_edit.specs.Edit.{Edit}
 use Rattle.rowan_edit.specs.Plan.{Plan, WhyRefused}
 
@@ -89,34 +89,18 @@ pub if-err : {A : Type 0} {P Q : Refusal → Type 0} (r : Result A Refusal)
 if-err (Ok x) f h = h
 if-err (Err e) f h = f e h
 
-pub why-taken : (plan : Plan) (c : Cursor) (e : Edit) (r : Refusal) → WhyRefused plan e r
-    → WhyNotTaken plan c e r
-why-taken plan c e Conflict h = h
-why-taken plan c e NotFound h = h
-why-taken plan c e Root h = h
-why-taken plan c e OtherTree h = absurd h
-why-taken plan c e Memory h = tt
-
 pub at-child : (c d : Cursor) (i : ℕ) (P : Path → ℕ → Type 0) → parent c ≡ Some d → i ≡ index c
     → P d.path i → AtChild c P
 at-child c d i P h e p =
     subst (λ o. MatchOption o ⊥ (λ (x : Cursor). P x.path (index c))) (sym h) (subst (P d.path) e p)
 
 pub why-at : (plan : Plan) (c d : Cursor) (i : ℕ) (edit : Path → ℕ → Edit) (r : Refusal)
-    → parent c ≡ Some d → i ≡ index c → WhyNotTaken plan d (edit d.path i) r
+    → c.root ≡ plan.root → parent c ≡ Some d → i ≡ index c → WhyRefused plan (edit d.path i) r
     → WhyNotTakenAt plan c edit r
-why-at plan c d i edit Conflict h e w =
-    at-child c d i (λ p j. WhyRefused plan (edit p j) Conflict) h e w
-why-at plan c d i edit NotFound h e w =
-    at-child c d i (λ p j. WhyRefused plan (edit p j) NotFound) h e w
-why-at plan c d i edit Root h e w = absurd w
-why-at plan c d i edit OtherTree h e w = λ same. w ((parent-up c d h).root ∙ same)
-why-at plan c d i edit Memory h e w = tt
-
-pub why-root : (plan : Plan) (c : Cursor) (edit : Path → ℕ → Edit) (r : Refusal)
-    → (r ≢ Memory → (r ≡ Root) × (parent c ≡ None)) → WhyNotTakenAt plan c edit r
-why-root plan c edit Conflict h = let same = (h (λ q. absurd (cc q))).0 in absurd (cc same)
-why-root plan c edit NotFound h = let same = (h (λ q. absurd (cc q))).0 in absurd (cc same)
-why-root plan c edit Root h = (h (λ q. absurd (cc q))).1
-why-root plan c edit OtherTree h = let same = (h (λ q. absurd (cc q))).0 in absurd (cc same)
-why-root plan c edit Memory h = tt
+why-at plan c d i edit Conflict own h e w =
+    (own, at-child c d i (λ p j. WhyRefused plan (edit p j) Conflict) h e w)
+why-at plan c d i edit NotFound own h e w =
+    (own, at-child c d i (λ p j. WhyRefused plan (edit p j) NotFound) h e w)
+why-at plan c d i edit Root own h e w = absurd w
+why-at plan c d i edit OtherTree own h e w = absurd w
+why-at plan c d i edit Memory own h e w = tt

@@ -1,6 +1,10 @@
 pub mod ChangeLemmas
+pub mod EdgeLemmas
+pub mod EditedLemmas
 pub mod EditorLemmas
+pub mod ElementLemmas
 pub mod FinishLemmas
+pub mod FromTextLemmas
 pub mod KeptLemmas
 pub mod OpenNodeLemmas
 pub mod OrderLaw
@@ -9,12 +13,16 @@ pub mod PassLemmas
 pub mod PassSteps
 pub mod PlaceLemmas
 pub mod Places
+pub mod PlacedLaw
 pub mod PlanLemmas
 pub mod RewritingCallLemmas
 pub mod RewritingLemmas
 pub mod RunLemmas
 pub mod RangeLaw
 pub mod ShiftLemmas
+pub mod SiteLaw
+pub mod SiteLemmas
+pub mod SiteListLemmas
 pub mod TextLaw
 pub mod TreeCursorLemmas
 pub mod TreeCursorMoveLemmas

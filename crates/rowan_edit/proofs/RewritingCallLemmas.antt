@@ -145,7 +145,7 @@ module _ {F : Type 0} (g : Mut F (Bor TokenTerm × (Span × Unit {0})) (Result R
   }
 
   pub at_end : (first f : F) (root new : NodeTerm) (at : ℕ) (p : Pass) → SoFar first root f at p
-      → Ends p new → IsRewritten g first root new
+      → Ends p new → IsRewritten g first f root new
   at_end first f root new at p s e =
       let b = s.began in
       let all : tokens (Node root) ≡ b.before =
@@ -154,7 +154,6 @@ module _ {F : Type 0} (g : Mut F (Bor TokenTerm × (Span × Unit {0})) (Result R
       sym (e.tree []) ∙ s.tree [] ∙ ap (rewritten root) (append-nil b.answers) in
       record {
         answers = b.answers;
-        last = f;
         calls = subst (λ ts. Answers g first 0 ts b.answers f) (sym all) b.calls;
         tree = tree;
         text = ap node_text tree ∙ text-rewritten root b.answers;
@@ -162,28 +161,47 @@ module _ {F : Type 0} (g : Mut F (Bor TokenTerm × (Span × Unit {0})) (Result R
 
   pub refused : (first f left : F) (root : NodeTerm) (at : ℕ) (p : Pass) (t : TokenTerm)
       (rest : List TokenTerm) (fault : Fault) → SoFar first root f at p → left_of p ≡ t ∷ rest
-      → CalledAtToken g f at t (Err fault) left → WhyNotRewritten g first root fault
-  refused first f left root at p t rest fault s is call = λ other. inl (record {
+      → CalledAtToken g f at t (Err fault) left → WhyNotRewritten g first left root fault
+  refused first f left root at p t rest fault s is call = inl (record {
     token = t;
     behind = rest;
-    at_last = f;
+    at_token = f;
     began = record {
       before = s.began.before;
       parts = s.began.parts ∙ ap (λ ts. s.began.before ++ ts) is;
       answers = s.began.answers;
       calls = s.began.calls;
     };
-    left = left;
     refuses = subst (λ k. CalledAtToken g f k t (Err fault) left) s.place call;
   })
 
-  pub passes : (first f : F) (root : NodeTerm) (at : ℕ) (p : Pass) (fault : Fault)
+  pub stops : (first f : F) (root : NodeTerm) (at : ℕ) (p : Pass) (fault : Fault)
       → SoFar first root f at p → (fault ≢ Memory → HasNodePast (tree_of p []) fault)
-      → WhyNotRewritten g first root fault
-  passes first f root at p fault s h = λ other. inr (record {
+      → WhyNotRewritten g first f root fault
+  stops first f root at p fault s h = inr (record {
     behind = left_of p;
-    last = f;
     began = s.began;
-    past = subst (λ m. HasNodePast m fault)
-        (s.tree [] ∙ ap (rewritten root) (append-nil s.began.answers)) (h other);
+    past = λ other. (subst (λ m. HasNodePast m fault)
+        (s.tree [] ∙ ap (rewritten root) (append-nil s.began.answers)) (h other));
   })
+
+  -- there is no memory for an answer
+  pub stops_at : (first f next : F) (root : NodeTerm) (at : ℕ) (p : Pass) (t : TokenTerm)
+      (rest : List TokenTerm) (a : Rewrite) (fault : Fault) → SoFar first root f at p
+      → left_of p ≡ t ∷ rest → CalledAtToken g f at t (Ok a) next → fault ≡ Memory
+      → WhyNotRewritten g first next root fault
+  stops_at first f next root at p t rest a fault s is call memory =
+      let b = s.began in
+      let here : at ≡ 0 + bytes_of b.before = omega (arith, s.place) in
+      inr (record {
+        behind = rest;
+        began = record {
+          before = b.before ++ t ∷ [];
+          parts = b.parts ∙ ap (λ ts. b.before ++ ts) is
+              ∙ sym (append_assoc b.before (t ∷ []) rest);
+          answers = b.answers ++ a ∷ [];
+          calls = answers-more first f next 0 b.before b.answers t a b.calls
+              (subst (λ k. CalledAtToken g f k t (Ok a) next) here call);
+        };
+        past = λ other. absurd (other memory);
+      })

@@ -31,7 +31,7 @@ get-take [] ys (suc s) k x h less = absurd cc
 get-take (y ∷ xs) ys (suc s) zero x h less = h
 get-take (y ∷ xs) ys (suc s) (suc k) x h less = get-take xs ys s k x h (omega arith)
 
-get-behind : {A : Type 0} (xs ys : List A) (k : ℕ)
+pub get-behind : {A : Type 0} (xs ys : List A) (k : ℕ)
     → slice_get (xs ++ ys) (length xs + k) ≡ slice_get ys k
 get-behind [] ys k = let e : 0 + k ≡ k = omega arith in ap (λ n. slice_get ys n) e
 get-behind (x ∷ xs) ys k =
@@ -123,7 +123,7 @@ other-child t i k u z n =
     ap (λ ts. subterm_of (slice_get ts k) z) (term_children-with_child t i u)
     ∙ ap (λ o. subterm_of o z) (get-set_other (term_children t) i k u n)
 
-new-child : (t : Term) (i : ℕ) (c u : Term) (z : Path) → slice_get (term_children t) i ≡ Some c
+pub new-child : (t : Term) (i : ℕ) (c u : Term) (z : Path) → slice_get (term_children t) i ≡ Some c
     → subterm (with_child t i u) (i ∷ z) ≡ subterm u z
 new-child t i c u z h =
     ap (λ ts. subterm_of (slice_get ts i) z) (term_children-with_child t i u)

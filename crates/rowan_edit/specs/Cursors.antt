@@ -13,18 +13,21 @@ use Rattle.rowan_edit.specs.Plan.{Plan, WhyRefused}
 abbrev pub AtChild : Cursor → (Path → ℕ → Type 0) → Type 0
 AtChild c P = MatchOption (parent c) ⊥ (λ d. P d.path (index c))
 
--- why an edit of the children of the node at a cursor is not taken
+-- why an edit of the children of the node at a cursor is not taken: the cursor is one of another
+-- tree, or it is one of this tree and the plan does not take the edit
 abbrev pub WhyNotTaken : Plan → Cursor → Edit → Refusal → Type 0
-WhyNotTaken plan c e Conflict = WhyRefused plan e Conflict
-WhyNotTaken plan c e NotFound = WhyRefused plan e NotFound
-WhyNotTaken plan c e Root = ⊥
 WhyNotTaken plan c e OtherTree = c.root ≢ plan.root
+WhyNotTaken plan c e Conflict = (c.root ≡ plan.root) × WhyRefused plan e Conflict
+WhyNotTaken plan c e NotFound = (c.root ≡ plan.root) × WhyRefused plan e NotFound
+WhyNotTaken plan c e Root = ⊥
 WhyNotTaken plan c e Memory = Unit {0}
 
--- why an edit at the element at a cursor is not taken, which its parent's path and its index give
+-- the same of an edit at the element at a cursor, which its parent's path and its index give
 abbrev pub WhyNotTakenAt : Plan → Cursor → (Path → ℕ → Edit) → Refusal → Type 0
-WhyNotTakenAt plan c edit Conflict = AtChild c (λ p i. WhyRefused plan (edit p i) Conflict)
-WhyNotTakenAt plan c edit NotFound = AtChild c (λ p i. WhyRefused plan (edit p i) NotFound)
-WhyNotTakenAt plan c edit Root = parent c ≡ None
 WhyNotTakenAt plan c edit OtherTree = c.root ≢ plan.root
+WhyNotTakenAt plan c edit Root = (c.root ≡ plan.root) × (parent c ≡ None)
+WhyNotTakenAt plan c edit Conflict =
+    (c.root ≡ plan.root) × AtChild c (λ p i. WhyRefused plan (edit p i) Conflict)
+WhyNotTakenAt plan c edit NotFound =
+    (c.root ≡ plan.root) × AtChild c (λ p i. WhyRefused plan (edit p i) NotFound)
 WhyNotTakenAt plan c edit Memory = Unit {0}

@@ -35,10 +35,10 @@ module _ {F : Type 0} (g : Mut F (Bor TokenTerm × (Span × Unit {0})) (Result R
   Answers f at (t ∷ ts) (a ∷ answers) last =
       (next : F) × CalledAtToken f at t (Ok a) next × Answers next (at + token_len t) ts answers last
 
-  -- the new root is the old one, rewritten as the closure answers at its tokens
-  pub record IsRewritten (f : F) (old new : NodeTerm) : Type 0 where
+  -- the new root is the old one, rewritten as the closure answers at its tokens; these calls take
+  -- it to `last`
+  pub record IsRewritten (f last : F) (old new : NodeTerm) : Type 0 where
     pub answers : List Rewrite
-    pub last : F
     pub calls : Answers f 0 (tokens (Node old)) answers last
     pub tree : new ≡ rewritten old answers
     pub text : node_text new ≡ rewritten_text (tokens (Node old)) answers
@@ -50,23 +50,22 @@ module _ {F : Type 0} (g : Mut F (Bor TokenTerm × (Span × Unit {0})) (Result R
     pub answers : List Rewrite
     pub calls : Answers f 0 before answers last
 
-  -- the closure refuses a token
-  pub record RefusesToken (f : F) (old : NodeTerm) (fault : Fault) : Type 0 where
+  -- the closure refuses a token, by the call that takes it to `last`
+  pub record RefusesToken (f last : F) (old : NodeTerm) (fault : Fault) : Type 0 where
     pub token : TokenTerm
     pub behind : List TokenTerm
-    pub at_last : F
-    pub began : Began f old (token ∷ behind) at_last
-    pub left : F
-    pub refuses : CalledAtToken at_last (bytes_of began.before) token (Err fault) left
+    pub at_token : F
+    pub began : Began f old (token ∷ behind) at_token
+    pub refuses : CalledAtToken at_token (bytes_of began.before) token (Err fault) last
 
-  -- with the answers so far, and the other tokens kept, a node passes a limit
-  pub record PassesWith (f : F) (old : NodeTerm) (fault : Fault) : Type 0 where
+  -- the calls at the first tokens take the closure to `last`; with their answers, and the other
+  -- tokens kept, a node passes a limit, if it is not for want of memory
+  pub record StopsBehind (f last : F) (old : NodeTerm) (fault : Fault) : Type 0 where
     pub behind : List TokenTerm
-    pub last : F
     pub began : Began f old behind last
-    pub past : HasNodePast (rewritten old began.answers) fault
+    pub past : fault ≢ Memory → HasNodePast (rewritten old began.answers) fault
 
-  -- why a tree is not rewritten: the closure refuses a token, or a node passes a limit; or there is
-  -- no memory
-  abbrev pub WhyNotRewritten : F → NodeTerm → Fault → Type 0
-  WhyNotRewritten f old fault = fault ≢ Memory → RefusesToken f old fault ⊎ PassesWith f old fault
+  -- why a tree is not rewritten: the closure refuses a token; or a node passes a limit, or there is
+  -- no memory, after the calls at some tokens
+  abbrev pub WhyNotRewritten : F → F → NodeTerm → Fault → Type 0
+  WhyNotRewritten f last old fault = RefusesToken f last old fault ⊎ StopsBehind f last old fault

@@ -9,6 +9,7 @@ ghost use Rattle.rowan_edit.specs.Changes.{old_bytes, new_bytes, overlaps, moved
 ghost use Rattle.rowan_edit.specs.Changes.{within_limit};
 ghost use Rattle.rowan_edit.specs.ChangesKept.{Follow, last_end, AreEnds, IsFront, behind_front};
 
+use crate::edit_sites::EditSites;
 use rowan::ast::SyntaxNodePtr;
 use rowan::{Language, TextRange, TextSize};
 use rowan_green::fault::Fault;
@@ -23,6 +24,8 @@ pub struct Edited {
     pub green: GreenNode,
     /// One change for each edit, in the order of the text.
     pub changes: Changes,
+    /// The tree as it was, and where the edits were made.
+    pub sites: EditSites,
 }
 
 /// One change of a text.
@@ -97,6 +100,10 @@ impl Changes {
     }
 
     /// The pointer with its range moved as `moved` does. `None` where that is.
+    ///
+    /// It goes by ranges alone: a node inside of which an edit was made has another range, and at
+    /// the range to which this moves another node may be found, or none. The node itself is where
+    /// `Edited::moved_path` says.
     pub fn moved_pointer<L: Language>(&self, pointer: SyntaxNodePtr<L>) -> Option<SyntaxNodePtr<L>>
         ensures { result ≡ option_map (λ range. record { kind = pointer.kind; range = range })
             (moved_through self.now pointer.range) }

@@ -1,22 +1,29 @@
 //! An editor of the tree of a cursor.
-ghost use Rattle.std.specs.Prelude.{◌≡◌, ◌≢◌, ◌+◌, [], Some, None, IfOk, IfErr, OnOk, OnErr};
+ghost use Rattle.std.specs.Prelude.{◌≡◌, ◌≢◌, ◌+◌, ℕ, true, false, [], Some, IfOk, IfErr, OnOk};
+ghost use Rattle.std.specs.Prelude.{OnErr};
 ghost use Rattle.rowan_green.specs.declared.utility_types.NodeOrToken.TheVariants.{Node};
 ghost use Rattle.rowan_green.specs.Fits.{FitsNode};
+ghost use Rattle.rowan_green.specs.Path.{Path};
 ghost use Rattle.rowan_cursor.specs.Cursor.{index};
 ghost use Rattle.rowan_cursor.specs.Moves.{place_of, parent, child_count};
+ghost use Rattle.rowan_cursor.specs.Refs.{node_place, element_place};
 ghost use Rattle.rowan_edit.specs.Changes.{changes_of};
 ghost use Rattle.rowan_edit.specs.Cursors.{AtChild, WhyNotTaken, WhyNotTakenAt};
 ghost use Rattle.rowan_edit.specs.Edit.{Edit, edited};
 ghost use Rattle.rowan_edit.specs.Limits.{WhyNotEdited};
-ghost use Rattle.rowan_edit.specs.Plan.{with_edit};
+ghost use Rattle.rowan_edit.specs.Plan.{with_edit, WhyRefused};
+ghost use Rattle.rowan_edit.specs.TextEdits.{IsEdited};
 
 use crate::changes::Edited;
 use crate::green_editor::GreenEditor;
 use crate::refusal::Refusal;
-use rowan_cursor::cursor::{ElementCalls, SyntaxElement, SyntaxNode};
+use rowan_cursor::cursor::{
+    ElementRefCalls, SyntaxElement, SyntaxElementRef, SyntaxNode, SyntaxNodeRef,
+};
 use rowan_green::fault::Fault;
 use rowan_green::green::GreenElement;
-use std::alloc::Global;
+use rowan_green::utility_types::NodeOrToken;
+use std::alloc::{AllocError, Global};
 use std::marker::Model;
 use std::ops::Range;
 
@@ -52,8 +59,12 @@ impl Editor {
     }
 
     /// Puts elements in place of the children of a node from one index to another, the one at the
-    /// end not included. Refused with `OtherTree` where the tree has no node of this kind and
-    /// length of text at the node's place, and else as `GreenEditor::splice` is.
+    /// end not included. The node is one of this tree where the two roots are shared or equal.
+    ///
+    /// Errors: `OtherTree` if the root of the node's tree is not equal to that of this one, which
+    /// is looked at first; `NotFound` if the node has no such children; `Conflict` if the edit
+    /// conflicts with one that was taken before; `Memory` if an allocation failed. A refused edit
+    /// leaves the editor unchanged.
     pub fn splice(
         &mut self,
         parent: &SyntaxNode,
@@ -67,6 +78,7 @@ impl Editor {
           new = new.items;
         } in
             OnOk result (self.new ≡ with_edit self.old edit) }
+        ensures tree { OnOk result (parent.now.root ≡ self.old.root) }
         ensures err { let edit : Edit = record {
           parent = parent.now.path;
           start = children.start;
@@ -76,16 +88,77 @@ impl Editor {
             IfErr result (WhyNotTaken self.old parent.now edit) }
         ensures unchanged { OnErr result (self.new ≡ self.old) }
     {
-        let Ok(path) = path_to(self.alloc, parent) else {
-            return Err(Refusal::Memory);
-        };
-        if !self.green.has_node_like(&path, parent.green()) {
+        let node = parent.as_ref();
+        if !self.is_of_tree(node) {
             return Err(Refusal::OtherTree);
         }
+        self.splice_at(node, children, new)
+    }
+
+    // The same in a node of this tree.
+    fn splice_at(
+        &mut self,
+        parent: SyntaxNodeRef<'_>,
+        children: Range<usize>,
+        new: Vec<GreenElement>,
+    ) -> Result<(), Refusal>
+        ensures ok { let edit : Edit = record {
+          parent = (node_place parent.entry).path;
+          start = children.start;
+          end = children.end;
+          new = new.items;
+        } in
+            OnOk result (self.new ≡ with_edit self.old edit) }
+        ensures err { let edit : Edit = record {
+          parent = (node_place parent.entry).path;
+          start = children.start;
+          end = children.end;
+          new = new.items;
+        } in
+            IfErr result (WhyRefused self.old edit) }
+        ensures unchanged { OnErr result (self.new ≡ self.old) }
+    {
+        let path = path_to(self.alloc, parent)?;
         self.green.splice(&path, children, new)
     }
 
-    /// Puts elements in place of one. Refused with `Root` of the root, and else as `splice` is.
+    // Whether a node is one of this tree.
+    fn is_of_tree(&self, node: SyntaxNodeRef<'_>) -> bool
+        ensures same { result ≡ true → (node_place node.entry).root ≡ self.now.root }
+        ensures other { result ≡ false → (node_place node.entry).root ≢ self.now.root }
+    {
+        self.green.has_root(node.tree_top().green())
+    }
+
+    // The child that an element is.
+    fn child_at<'tree>(&self, element: &'tree SyntaxElement) -> Result<Child<'tree>, Refusal>
+        ensures tree { OnOk result ((place_of element.now).root ≡ self.now.root) }
+        ensures parent { IfOk result (λ c.
+            parent (place_of element.now) ≡ Some (node_place c.parent)) }
+        ensures start { IfOk result (λ c. c.start ≡ index (place_of element.now)) }
+        ensures end { IfOk result (λ c. c.end ≡ c.start + 1) }
+        ensures err { (edit : Path → ℕ → Edit)
+            → IfErr result (WhyNotTakenAt self.now (place_of element.now) edit) }
+    {
+        let element = borrowed(element);
+        if !self.is_of_tree(element.tree_top()) {
+            return Err(Refusal::OtherTree);
+        }
+        let Some(parent) = element.parent() else {
+            return Err(Refusal::Root);
+        };
+        let start = element.index();
+        // No node has so many children that there is no next index.
+        let Some(end) = start.checked_add(1) else {
+            return Err(Refusal::Memory);
+        };
+        Ok(Child { parent, start, end })
+    }
+
+    /// Puts elements in place of one.
+    ///
+    /// Errors: `OtherTree` if the root of the element's tree is not equal to that of this one,
+    /// which is looked at first; `Root` if the element is the root; and else as `splice`.
     pub fn replace(
         &mut self,
         element: &SyntaxElement,
@@ -94,19 +167,21 @@ impl Editor {
         ensures ok { OnOk result (AtChild (place_of element.now) (λ path i.
             self.new ≡ with_edit self.old
             (record { parent = path; start = i; end = i + 1; new = new.items }))) }
+        ensures tree { OnOk result ((place_of element.now).root ≡ self.old.root) }
         ensures err { IfErr result (WhyNotTakenAt self.old (place_of element.now) (λ path i.
             record { parent = path; start = i; end = i + 1; new = new.items })) }
         ensures unchanged { OnErr result (self.new ≡ self.old) }
     {
-        let child = child_at(element)?;
-        self.splice(&child.parent, child.start..child.end, new)
+        let child = self.child_at(element)?;
+        self.splice_at(child.parent, child.start..child.end, new)
     }
 
-    /// Takes an element away. Refused as `replace` is.
+    /// Takes an element away. Errors: as `replace`.
     pub fn delete(&mut self, element: &SyntaxElement) -> Result<(), Refusal>
         ensures ok { OnOk result (AtChild (place_of element.now) (λ path i.
             self.new ≡ with_edit self.old
             (record { parent = path; start = i; end = i + 1; new = [] }))) }
+        ensures tree { OnOk result ((place_of element.now).root ≡ self.old.root) }
         ensures err { IfErr result (WhyNotTakenAt self.old (place_of element.now) (λ path i.
             record { parent = path; start = i; end = i + 1; new = [] })) }
         ensures unchanged { OnErr result (self.new ≡ self.old) }
@@ -114,7 +189,7 @@ impl Editor {
         self.replace(element, Vec::new(self.alloc))
     }
 
-    /// Puts elements before one, behind those that were put there earlier. Refused as `replace` is.
+    /// Puts elements before one, behind those that were put there earlier. Errors: as `replace`.
     pub fn insert_before(
         &mut self,
         element: &SyntaxElement,
@@ -123,16 +198,16 @@ impl Editor {
         ensures ok { OnOk result (AtChild (place_of element.now) (λ path i.
             self.new ≡ with_edit self.old
             (record { parent = path; start = i; end = i; new = new.items }))) }
+        ensures tree { OnOk result ((place_of element.now).root ≡ self.old.root) }
         ensures err { IfErr result (WhyNotTakenAt self.old (place_of element.now) (λ path i.
             record { parent = path; start = i; end = i; new = new.items })) }
         ensures unchanged { OnErr result (self.new ≡ self.old) }
     {
-        let child = child_at(element)?;
-        self.splice(&child.parent, child.start..child.start, new)
+        let child = self.child_at(element)?;
+        self.splice_at(child.parent, child.start..child.start, new)
     }
 
-    /// Puts elements behind one, and behind those that were put there earlier. Refused as `replace`
-    /// is.
+    /// Puts elements behind one, and behind those that were put there earlier. Errors: as `replace`.
     pub fn insert_after(
         &mut self,
         element: &SyntaxElement,
@@ -141,15 +216,16 @@ impl Editor {
         ensures ok { OnOk result (AtChild (place_of element.now) (λ path i.
             self.new ≡ with_edit self.old
             (record { parent = path; start = i + 1; end = i + 1; new = new.items }))) }
+        ensures tree { OnOk result ((place_of element.now).root ≡ self.old.root) }
         ensures err { IfErr result (WhyNotTakenAt self.old (place_of element.now) (λ path i.
             record { parent = path; start = i + 1; end = i + 1; new = new.items })) }
         ensures unchanged { OnErr result (self.new ≡ self.old) }
     {
-        let child = child_at(element)?;
-        self.splice(&child.parent, child.end..child.end, new)
+        let child = self.child_at(element)?;
+        self.splice_at(child.parent, child.end..child.end, new)
     }
 
-    /// Puts elements before the first child of a node. Refused as `splice` is.
+    /// Puts elements before the first child of a node. Errors: as `splice`.
     pub fn prepend(&mut self, parent: &SyntaxNode, new: Vec<GreenElement>) -> Result<(), Refusal>
         ensures ok { let edit : Edit = record {
           parent = parent.now.path;
@@ -157,6 +233,7 @@ impl Editor {
           end = 0;
           new = new.items;
         } in OnOk result (self.new ≡ with_edit self.old edit) }
+        ensures tree { OnOk result (parent.now.root ≡ self.old.root) }
         ensures err { let edit : Edit = record {
           parent = parent.now.path;
           start = 0;
@@ -168,7 +245,7 @@ impl Editor {
         self.splice(parent, 0..0, new)
     }
 
-    /// Puts elements behind the last child of a node. Refused as `splice` is.
+    /// Puts elements behind the last child of a node. Errors: as `splice`.
     pub fn append(&mut self, parent: &SyntaxNode, new: Vec<GreenElement>) -> Result<(), Refusal>
         ensures ok { let count = child_count parent.now.root parent.now.path in
             let edit : Edit = record {
@@ -177,6 +254,7 @@ impl Editor {
               end = count;
               new = new.items;
             } in OnOk result (self.new ≡ with_edit self.old edit) }
+        ensures tree { OnOk result (parent.now.root ≡ self.old.root) }
         ensures err { let count = child_count parent.now.root parent.now.path in
             let edit : Edit = record {
               parent = parent.now.path;
@@ -196,6 +274,7 @@ impl Editor {
     pub fn finish(self) -> Result<Edited, Fault>
         ensures green { IfOk result (λ e. Node e.green ≡ edited (Node self.root) self.edits) }
         ensures changes { IfOk result (λ e. e.changes ≡ changes_of (Node self.root) self.edits) }
+        ensures whole { IfOk result (IsEdited self.root self.edits) }
         ensures fits { IfOk result (λ e. FitsNode e.green) }
         ensures err { IfErr result (WhyNotEdited (edited (Node self.root) self.edits)) }
     {
@@ -204,42 +283,30 @@ impl Editor {
 }
 
 /// A child by its parent and the indexes before and behind it.
-#[derive(Drop)]
-struct Child {
-    parent: SyntaxNode,
+#[derive(Clone, Copy)]
+struct Child<'tree> {
+    parent: SyntaxNodeRef<'tree>,
     start: usize,
     end: usize,
 }
 
-/// The child that an element is. Refused with `Root` of the root.
-fn child_at(element: &SyntaxElement) -> Result<Child, Refusal>
-    ensures parent { IfOk result (λ c. parent (place_of element.now) ≡ Some c.parent) }
-    ensures start { IfOk result (λ c. c.start ≡ index (place_of element.now)) }
-    ensures end { IfOk result (λ c. c.end ≡ c.start + 1) }
-    ensures err { IfErr result (λ e. e ≢ Refusal.Memory
-        → (e ≡ Refusal.Root) × (parent (place_of element.now) ≡ None)) }
+/// An element, borrowed from its tree.
+fn borrowed(element: &SyntaxElement) -> SyntaxElementRef<'_>
+    ensures { element_place result ≡ element.now }
 {
-    let Ok(found) = element.parent() else {
-        return Err(Refusal::Memory);
-    };
-    let Some(parent) = found else {
-        return Err(Refusal::Root);
-    };
-    let start = element.index();
-    // No node has so many children that there is no next index.
-    let Some(end) = start.checked_add(1) else {
-        return Err(Refusal::Memory);
-    };
-    Ok(Child { parent, start, end })
+    match element {
+        NodeOrToken::Node(node) => NodeOrToken::Node(node.as_ref()),
+        NodeOrToken::Token(token) => NodeOrToken::Token(token.as_ref()),
+    }
 }
 
 /// The path of a node: the indexes on the way down to it.
-fn path_to(alloc: Global, node: &SyntaxNode) -> Result<Vec<usize>, Fault>
-    ensures { IfOk result (λ path. path.items ≡ node.now.path) }
+fn path_to(alloc: Global, node: SyntaxNodeRef<'_>) -> Result<Vec<usize>, AllocError>
+    ensures { IfOk result (λ path. path.items ≡ (node_place node.entry).path) }
 {
     let mut path = Vec::new(alloc);
-    let mut at = node.clone()?;
-    while let Some(parent) = at.parent()? {
+    let mut at = node;
+    while let Some(parent) = at.parent() {
         path.push(at.index())?;
         at = parent;
     }

@@ -12,9 +12,11 @@ ghost use Rattle.rowan_edit.specs.Edit.{Edit, edited, conflicts, ends_before};
 ghost use Rattle.rowan_edit.specs.Plan.{with_edit, IsOf, WhyRefused, EndInTurn, HasConflict};
 ghost use Rattle.rowan_edit.specs.GreenEditor.{edit_of, edits_of, IsPlaceFor, IsEditIn};
 ghost use Rattle.rowan_edit.specs.Limits.{WhyNotEdited};
+ghost use Rattle.rowan_edit.specs.TextEdits.{IsEdited};
 
 use crate::changes::{Changes, Edited};
 use crate::edit::{Splice, changes_of};
+use crate::edit_sites::EditSites;
 use crate::refusal::Refusal;
 use crate::zipper::Zipper;
 use rowan_green::fault::Fault;
@@ -107,14 +109,12 @@ impl GreenEditor {
         Ok(())
     }
 
-    /// Whether a node of the kind and with the length of text of another one stands at a path.
-    pub(crate) fn has_node_like(&self, path: &[usize], node: &GreenNode) -> bool
-        ensures { subterm (Node self.now.root) path.now ≡ Some (Node node.now) → result ≡ true }
+    /// Whether the root is this node: they are shared, or equal.
+    pub(crate) fn has_root(&self, node: &GreenNode) -> bool
+        ensures same { result ≡ true → node.now ≡ self.now.root }
+        ensures other { result ≡ false → node.now ≢ self.now.root }
     {
-        let Some(found) = place_at(&self.root, path) else {
-            return false;
-        };
-        found.node.kind() == node.kind() && found.node.text_len() == node.text_len()
+        *node == self.root
     }
 
     /// The tree with all edits made, and the change that each of them makes in the text. Refused
@@ -123,14 +123,20 @@ impl GreenEditor {
     pub fn finish(self) -> Result<Edited, Fault>
         ensures green { IfOk result (λ e. Node e.green ≡ edited (Node self.root) self.edits) }
         ensures changes { IfOk result (λ e. e.changes ≡ changes_of (Node self.root) self.edits) }
+        ensures whole { IfOk result (IsEdited self.root self.edits) }
         ensures fits { IfOk result (λ e. FitsNode e.green) }
         ensures err { IfErr result (WhyNotEdited (edited (Node self.root) self.edits)) }
     {
         let alloc = self.alloc;
         let list = changes_of(alloc, &self.edits)?;
+        let sites = EditSites::new(alloc, &self.root, &self.edits)?;
         let green = self.new_root()?;
         let changes = Changes::new(alloc, list)?;
-        Ok(Edited { green, changes })
+        Ok(Edited {
+            green,
+            changes,
+            sites,
+        })
     }
 
     // The root of the tree with all edits made.

@@ -1,19 +1,22 @@
 //! Laws of edits, each as the contract of a function that does nothing.
 ghost use Rattle.std.specs.Prelude.{◌≡◌, ◌≤◌, ◌<◌, ◌+◌, ℕ, List, [], ◌∷◌, ◌++◌, length};
-ghost use Rattle.std.specs.Prelude.{true, false, Some, ◌↔◌, IsPermutation};
-ghost use Rattle.std.specs.List.{AllByRecursion};
+ghost use Rattle.std.specs.Prelude.{true, false, Some, ◌↔◌, IsPermutation, slice_get};
+ghost use Rattle.std.specs.List.{AllByRecursion, list_any};
 ghost use Rattle.rowan_green.specs.declared.utility_types.NodeOrToken.TheVariants.{Node};
 ghost use Rattle.rowan_green.specs.Fits.{Fits};
 ghost use Rattle.rowan_green.specs.Path.{Path, subterm, put, range, shifted};
 ghost use Rattle.rowan_green.specs.Replacements.{Replacement, Makes};
 ghost use Rattle.rowan_green.specs.Term.{NodeTerm, Term, term_text, term_len, node_children};
+ghost use Rattle.rowan_green.specs.Term.{node_kind};
 ghost use Rattle.rowan_edit.specs.Changes.{changes_of, edits_before, old_bytes, new_bytes};
 ghost use Rattle.rowan_edit.specs.Changes.{moved_through};
 ghost use Rattle.rowan_edit.specs.Edit.{Edit, edited, edited_once, ends_before};
 ghost use Rattle.rowan_edit.specs.Edit.{conflicts, EditsOverlap};
+ghost use Rattle.rowan_edit.specs.Inside.{edits_inside};
 ghost use Rattle.rowan_edit.specs.Moved.{moved_by, IsUntouchedBy};
 ghost use Rattle.rowan_edit.specs.Orders.{AreReplacements};
 ghost use Rattle.rowan_edit.specs.Plan.{Plan, EndInTurn, AreInOrder, with_edit};
+ghost use Rattle.rowan_edit.specs.Sites.{sites_of, is_taken_at, moved_over, ArePutAt};
 ghost use Rattle.rowan_edit.specs.TextWith.{text_with};
 
 /// An element that no edit takes away, and in which none stands, is in the edited tree as it was.
@@ -23,7 +26,35 @@ pub fn untouched_elements_stay()
         → subterm (edited t es) (moved_by es p) ≡ Some u }
 {}
 
-/// The range of such an element is moved by the differences of the edits that end before it: by as
+/// An element stays where no edit takes it away, or something around it: it stands at its new path,
+/// with the edits of it and of what is in it made.
+pub fn elements_move_with_their_edits()
+    ensures { (t : Term) (es : List Edit) (p : Path) (u : Term) → EndInTurn es
+        → list_any (is_taken_at p) (sites_of es) ≡ false → subterm t p ≡ Some u
+        → subterm (edited t es) (moved_over (sites_of es) p)
+        ≡ Some (edited u (edits_inside p es)) }
+{}
+
+/// An edited node is a node of the same kind.
+pub fn edited_nodes_keep_their_kind()
+    ensures { (n : NodeTerm) (es : List Edit)
+        → (m : NodeTerm) × (edited (Node n) es ≡ Node m) × (node_kind m ≡ node_kind n) }
+{}
+
+/// Each element that an edit puts in stands in the new tree, where `Edited::placed` says.
+pub fn new_elements_stand()
+    ensures { (root : NodeTerm) (es : List Edit) (n : ℕ) (e : Edit) (parent : Path) (start : ℕ)
+        (end : ℕ) (i : ℕ) (u : Term) → AreInOrder root es → slice_get es n ≡ Some e
+        → ArePutAt (sites_of es) n parent start end → slice_get e.new i ≡ Some u
+        → subterm (edited (Node root) es) (parent ++ (start + i) ∷ []) ≡ Some u }
+{}
+
+/// The sites of edits alone say where elements go.
+pub fn sites_say_where_elements_go()
+    ensures { (es : List Edit) (p : Path) → moved_by es p ≡ moved_over (sites_of es) p }
+{}
+
+/// The range of an element that no edit takes away, and in which none stands, is moved by the differences of the edits that end before it: by as
 /// many bytes as they make the text longer or shorter.
 pub fn untouched_ranges_are_shifted()
     ensures { (root : NodeTerm) (es : List Edit) (p : Path) (u : Term) → AreInOrder root es

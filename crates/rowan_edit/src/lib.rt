@@ -1,20 +1,36 @@
 //! Edits of syntax trees, and a cursor that costs no table.
 #![tactic(auto)]
 
+pub mod as_element;
 pub mod changes;
 mod edit;
+pub mod edit_error;
+pub mod edit_sites;
+mod edited;
 pub mod editor;
 pub mod green_editor;
+pub mod into_elements;
 pub mod laws;
+pub mod make;
 mod open_node;
+pub mod position;
 pub mod refusal;
 pub mod rewriting;
+pub mod syntax_editor;
 pub mod tree_cursor;
 mod zipper;
 
+pub use as_element::AsElement;
 pub use changes::{Change, Changes, Edited};
+pub use edit_error::EditError;
+pub use edit_sites::{EditSites, Placed};
+pub use edited::TextEdit;
 pub use editor::Editor;
 pub use green_editor::GreenEditor;
+pub use into_elements::IntoElements;
+pub use make::Make;
+pub use position::Position;
 pub use refusal::Refusal;
 pub use rewriting::{Rewrite, rewrite_tokens};
+pub use syntax_editor::SyntaxEditor;
 pub use tree_cursor::TreeCursor;

@@ -18,7 +18,7 @@ pub enum Refusal {
     /// The edit would take the root away or stand beside it.
     #[error("the root has no parent; take another root in its place")]
     Root,
-    /// The element is not one of the tree that is edited.
+    /// The element is one of a tree whose root is not equal to that of the tree that is edited.
     #[error("the element is one of another tree")]
     OtherTree,
     /// The allocator refused to grow.

@@ -25,21 +25,22 @@ pub enum Rewrite {
 
 /// The root of a new tree, in which a closure has said of each token what becomes of it. All nodes
 /// stay, with their kinds. The closure is called once at each token, in the order of the text, with
-/// the range of its text in that of the old root, in bytes. It is not called at what it puts there.
-/// The old tree stays as it is, and the new one shares each node in which all tokens were kept.
+/// the range of its text in that of the old root, in bytes. It is not called at what it puts there,
+/// and not again after the last token. The old tree stays as it is, and the new one shares each
+/// node in which all tokens were kept.
 ///
-/// The first refusal that the closure answers ends it, and is the answer. A node whose tokens are
-/// all rewritten is made before the next token is looked at, and refused as `GreenNode::new` does:
-/// `Err(Fault::TooManyChildren)` past 4,294,967,295 children, `Err(Fault::TextTooLong)` past as
-/// many bytes of text. `Err(Fault::Memory)` for want of memory.
+/// Errors: the first refusal that the closure answers, and it is not called again. A node whose
+/// tokens are all rewritten is made before the next token is looked at, and refused as
+/// `GreenNode::new` does: `TooManyChildren` past 4,294,967,295 children, `TextTooLong` past as many
+/// bytes of text. `Memory` if an allocation failed.
 pub fn rewrite_tokens<F: FnMut(&GreenToken, TextRange) -> Result<Rewrite, Fault>>(
     alloc: Global,
     root: &GreenNode,
-    mut rewrite: F,
+    rewrite: &mut F,
 ) -> Result<GreenNode, Fault>
-    requires { F.IsAlwaysCallable rewrite }
-    ensures ok { IfOk result (IsRewritten F.FnMut rewrite root.now) }
-    ensures err { IfErr result (WhyNotRewritten F.FnMut rewrite root.now) }
+    requires { F.IsAlwaysCallable rewrite.old }
+    ensures ok { IfOk result (IsRewritten F.FnMut rewrite.old rewrite.new root.now) }
+    ensures err { IfErr result (WhyNotRewritten F.FnMut rewrite.old rewrite.new root.now) }
 {
     // A tree is within the limits, and with it each offset of the text.
     let _text_len = root.text_len();

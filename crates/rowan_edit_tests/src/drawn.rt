@@ -1,8 +1,9 @@
-//! Drawn lists of edits: each new tree beside a plain model, which has the old text and the ranges
-//! of the accepted edits, found by hand.
+//! Drawn lists of edits: each new tree and its text beside plain models. That of the text has the
+//! old text and the ranges of the accepted edits, found by hand.
 use crate::fixture::{LIST, WORD, tree};
+use crate::plain::Plain;
 use rowan::{Fault, GreenElement, GreenNode, GreenToken, NodeOrToken, TextRange, TextSize};
-use rowan_edit::{Change, Changes, GreenEditor, Refusal};
+use rowan_edit::{Change, Changes, Edited, GreenEditor, Refusal};
 use std::alloc::Global;
 use std::test::Fail;
 
@@ -45,14 +46,17 @@ impl Draws {
     }
 }
 
-/// An edit that was accepted: where it stands among others, its range in the old text, and the
-/// words that come there.
+/// An edit that was accepted: which children of a node give way, where it stands among others, its
+/// range in the old text, and the words that come there.
 #[derive(Clone, Copy)]
-struct Accepted {
+pub struct Accepted {
+    pub path: &'static [usize],
+    pub first: usize,
+    pub last: usize,
     place: usize,
     start: u32,
     end: u32,
-    words: &'static [&'static str],
+    pub words: &'static [&'static str],
 }
 
 /// `LIST[tree "fg" tree]`
@@ -112,6 +116,9 @@ fn draw(
         return Ok(());
     };
     let accepted = Accepted {
+        path: *path,
+        first,
+        last,
         place: place(path, first, last),
         start: *start,
         end: *end,
@@ -231,6 +238,23 @@ fn is_of(change: Change, edit: Accepted) -> bool {
         && u32::from(change.new_len) as usize == len
 }
 
+/// Whether each edit of the text is that of an edit.
+fn edits_agree(alloc: Global, edited: &Edited, kept: &[Accepted]) -> Result<bool, Fault> {
+    let edits = edited.text_edits(alloc)?;
+    for (text_edit, edit) in edits.iter().zip(kept) {
+        let mut text = String::new(alloc);
+        for word in edit.words {
+            text.push_str(word)?;
+        }
+        let range = text_edit.range;
+        let same = u32::from(range.start()) == edit.start && u32::from(range.end()) == edit.end;
+        if !same || text_edit.text.as_str() != text.as_str() {
+            return Ok(false);
+        }
+    }
+    Ok(edits.len() == kept.len())
+}
+
 fn are_of(changes: &[Change], kept: &[Accepted]) -> bool {
     for (change, edit) in changes.iter().zip(kept) {
         if !is_of(*change, *edit) {
@@ -252,7 +276,21 @@ fn agrees(alloc: Global, draws: &mut Draws) -> Result<bool, Fault> {
     if !are_of(edited.changes.as_slice(), &kept) || !model.agrees(&edited.changes) {
         return Ok(false);
     }
-    Ok(edited.green.to_string(alloc)?.as_bytes() == model.bytes.as_slice())
+    if edited.green.to_string(alloc)?.as_bytes() != model.bytes.as_slice() {
+        return Ok(false);
+    }
+    tree_agrees(alloc, &edited, &kept)
+}
+
+/// Whether the new tree is that of the model, and each element is where the model has it.
+fn tree_agrees(alloc: Global, edited: &Edited, kept: &[Accepted]) -> Result<bool, Fault> {
+    let plain = Plain::edited(alloc, kept)?;
+    Ok(
+        plain.is_shape_of(alloc, &edited.green)?
+            && plain.has_moved(alloc, edited)?
+            && plain.has_placed(alloc, edited, kept.len())?
+            && edits_agree(alloc, edited, kept)?,
+    )
 }
 
 #[test]

@@ -11,12 +11,22 @@ mod fixture;
 #[cfg(test)]
 mod green_editor;
 #[cfg(test)]
+mod json;
+#[cfg(test)]
+mod make;
+#[cfg(test)]
 mod moved;
 #[cfg(test)]
 mod offsets;
 #[cfg(test)]
+mod places;
+#[cfg(test)]
+mod plain;
+#[cfg(test)]
 mod replacement;
 #[cfg(test)]
 mod rewriting;
+#[cfg(test)]
+mod syntax_editor;
 #[cfg(test)]
 mod walk;

@@ -26,7 +26,11 @@ fn rewrite(alloc: Global, token: &GreenToken, range: TextRange) -> Result<Rewrit
 fn words_rewritten(rt: HostRuntime) -> Result<(), Fail> {
     let alloc = rt.alloc();
     let green = tree(alloc)?;
-    let new = rewrite_tokens(alloc, &green, |token, range| rewrite(alloc, token, range))?;
+    let new = rewrite_tokens(
+        alloc,
+        &green,
+        &mut |token, range| rewrite(alloc, token, range),
+    )?;
     assert!(rt; new.to_string(alloc)?.as_str() == "axycd");
     // `ROOT["a" LIST["x" LIST["y"] LIST[] "cd"]]`
     assert!(rt; new.children().len() == 2);
@@ -36,7 +40,7 @@ fn words_rewritten(rt: HostRuntime) -> Result<(), Fail> {
 #[test]
 fn all_kept(rt: HostRuntime) -> Result<(), Fail> {
     let green = tree(rt.alloc())?;
-    let new = rewrite_tokens(rt.alloc(), &green, |_token, _range| Ok(Rewrite::Keep))?;
+    let new = rewrite_tokens(rt.alloc(), &green, &mut |_token, _range| Ok(Rewrite::Keep))?;
     assert!(rt; new == green);
     Ok(())
 }
@@ -44,12 +48,16 @@ fn all_kept(rt: HostRuntime) -> Result<(), Fail> {
 #[test]
 fn refused_by_the_closure(rt: HostRuntime) -> Result<(), Fail> {
     let green = tree(rt.alloc())?;
-    let refused = rewrite_tokens(rt.alloc(), &green, |token, _range| {
-        if token.text() == "cd" {
-            return Err(Fault::NotFound);
-        }
-        Ok(Rewrite::Keep)
-    });
+    let refused = rewrite_tokens(
+        rt.alloc(),
+        &green,
+        &mut |token, _range| {
+            if token.text() == "cd" {
+                return Err(Fault::NotFound);
+            }
+            Ok(Rewrite::Keep)
+        },
+    );
     assert!(rt; refused == Err(Fault::NotFound));
     Ok(())
 }

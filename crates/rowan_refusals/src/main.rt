@@ -29,6 +29,7 @@ mod traces;
 mod transcript;
 mod trees;
 mod typed;
+mod typed_edits;
 mod typed_refs;
 mod walks;
 
@@ -41,6 +42,7 @@ use state::State;
 use std::process::ExitCode;
 use step::Case;
 use transcript::{Phase, Stop, Transcript};
+use typed_edits::run_typed_edits;
 
 fn main(rt: HostRuntime) -> ExitCode {
     match run_cases(&Transcript::new(&rt)) {
@@ -58,6 +60,7 @@ fn run_cases(log: &Transcript<'_>) -> Result<(), Stop> {
     }
     run_parses(log)?;
     run_edits(log)?;
+    run_typed_edits(log)?;
     run_drops(log)
 }
 

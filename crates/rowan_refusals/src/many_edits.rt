@@ -28,6 +28,7 @@ pub fn run_edits(log: &Transcript<'_>) -> Result<(), Stop> {
     let subject = ask(log, "a tree, with drops", || make_subject(log.alloc()))?;
     let edited = ask(log, "GreenEditor, with drops", || by_paths(&subject))?;
     tell(log, &edited)?;
+    tell_places(log, &subject, &edited)?;
     let edited = ask(log, "Editor, with drops", || by_cursors(&subject))?;
     tell(log, &edited)?;
     let rewritten = ask(log, "rewrite_tokens, with drops", || rewritten(&subject))?;
@@ -43,6 +44,17 @@ pub fn run_edits(log: &Transcript<'_>) -> Result<(), Stop> {
 fn tell(log: &Transcript<'_>, edited: &Edited) -> Result<(), Stop> {
     log.tell("tree", &Shape(&edited.green))?;
     log.tell("changes", &edited.changes.as_slice())
+}
+
+/// Says where the last child of the list is, where the elements of the second edit are, and what
+/// the edits are in the text.
+fn tell_places(log: &Transcript<'_>, subject: &Subject, edited: &Edited) -> Result<(), Stop> {
+    let alloc = subject.alloc;
+    let path = ask(log, "moved_path", || edited.moved_path(alloc, &[0, 5]))?;
+    log.tell("path", &path)?;
+    let edits = ask(log, "text_edits, with drops", || edited.text_edits(alloc))?;
+    log.tell("edits", &edits)?;
+    log.tell("placed", &edited.placed(1))
 }
 
 fn make_subject(alloc: Global) -> Result<Subject, Fault> {
@@ -92,13 +104,17 @@ fn by_cursors(subject: &Subject) -> Result<Edited, Fault> {
 
 /// Another token comes in place of each that is one byte long.
 fn rewritten(subject: &Subject) -> Result<GreenNode, Fault> {
-    rewrite_tokens(subject.alloc, &subject.tree, |token, _| {
-        if token.text().len() == 1 {
-            let new = vec![in subject.alloc; leaf(&subject.token)?]?;
-            return Ok(Rewrite::Replace(new));
-        }
-        Ok(Rewrite::Keep)
-    })
+    rewrite_tokens(
+        subject.alloc,
+        &subject.tree,
+        &mut |token, _| {
+            if token.text().len() == 1 {
+                let new = vec![in subject.alloc; leaf(&subject.token)?]?;
+                return Ok(Rewrite::Replace(new));
+            }
+            Ok(Rewrite::Keep)
+        },
+    )
 }
 
 /// Another token comes in place of the one in the middle.

@@ -8,6 +8,7 @@ mod lexer;
 mod operators;
 mod pieces;
 mod recovery;
+mod source;
 mod types;
 
 ghost use Rattle.std.specs.Prelude.{◌≡◌, ◌<◌, length, IfOk, IfErr};
@@ -19,6 +20,7 @@ pub use kinds::{Kind, Script};
 pub use lexer::Modes;
 use rowan::{Fault, Language};
 use rowan_parser::{Parse, Parser, TokenSet, Trivia, token_set};
+pub use source::Source;
 use std::alloc::Global;
 
 /// Parses a text, with brackets at most 256 deep. Else as `parse_to_depth`.
@@ -34,8 +36,12 @@ const TRIVIA: TokenSet = token_set![Kind::Whitespace, Kind::Comment, Kind::Remar
 
 const DOCUMENTS: TokenSet = token_set![Kind::Comment];
 
-/// Parses a text, with brackets at most so deep, since each level takes stack: what stands in one
-/// that is deeper is one error node. Refused as `rowan_parser::parse` is.
+/// The greatest depth of brackets that a parse takes, whatever its caller asks for. Each level takes
+/// stack, and so many fit into the usual stack of 8 MB.
+pub const MAX_DEPTH: usize = 1024;
+
+/// Parses a text, with brackets at most so deep, or `MAX_DEPTH` deep, which is 1,024. What stands in
+/// one that is deeper is one error node. Refused as `rowan_parser::parse` is.
 pub fn parse_to_depth(alloc: Global, text: &str, depth: usize) -> Result<Parse, Fault>
     ensures text { IfOk result (λ parse. node_text parse.green ≡ text.now) }
     ensures err { IfErr result (WhyNoTree text.now) }
@@ -45,6 +51,6 @@ pub fn parse_to_depth(alloc: Global, text: &str, depth: usize) -> Result<Parse, 
         kinds: TRIVIA,
         attached: &[Kind::Function, Kind::Union].map(|kind| (Script::kind_to_raw(kind), DOCUMENTS)),
     };
-    let script = |p: &mut Parser<Script>| grammar::script(p, depth);
+    let script = |p: &mut Parser<Script>| grammar::script(p, depth.min(MAX_DEPTH));
     rowan_parser::parse(alloc, text, Modes::new(), trivia, Kind::Root, script)
 }

@@ -2,6 +2,7 @@
 ghost use Rattle.std.specs.Prelude.{◌≡◌, ◌+◌, IfSome};
 
 use crate::kinds::{Kind, Script};
+use rowan::Language;
 use rowan_parser::{Brackets, Parser, TokenSet, token_set};
 
 /// What may end brackets.
@@ -24,8 +25,6 @@ pub(crate) const LIST_ENDS: TokenSet = token_set![
 pub(crate) const BLOCK_ENDS: TokenSet = token_set![Kind::RBrace, Kind::HoleClose];
 
 const STATEMENT_ENDS: TokenSet = token_set![Kind::Semicolon, Kind::RBrace, Kind::HoleClose];
-
-const SEMICOLON: TokenSet = token_set![Kind::Semicolon];
 
 /// How an operand begins.
 pub(crate) const OPERANDS: TokenSet = token_set![
@@ -65,6 +64,11 @@ pub(crate) fn expect_here(p: &mut Parser<Script>, kind: Kind, message: &str) -> 
         p.missing(message);
     }
     is_here
+}
+
+/// The kinds of this set, and the semicolon.
+fn or_semicolon(set: TokenSet) -> TokenSet {
+    set.with(Script::kind_to_raw(Kind::Semicolon))
 }
 
 /// Puts the tokens up to one of this set, or to the end of the line, into an error node.
@@ -114,14 +118,14 @@ pub(crate) fn has_next(p: &mut Parser<Script>, starts: TokenSet, message: &str) 
     if p.at_any(starts) {
         return true;
     }
-    skip(p, LIST_ENDS.union(SEMICOLON));
+    skip(p, or_semicolon(LIST_ENDS));
     p.eat(Kind::Comma)
 }
 
 /// Takes a closing bracket. What stands before it in its line has no place.
 pub(crate) fn close(p: &mut Parser<Script>, kind: Kind, message: &str) {
     if !p.expect(kind, message) && !p.newline_before() {
-        skip(p, CLOSINGS.union(SEMICOLON));
+        skip(p, or_semicolon(CLOSINGS));
         p.eat(kind);
     }
 }

@@ -4,7 +4,7 @@ use crate::operators::OPERATORS;
 use crate::strings::STRINGS;
 use crate::trees::Case;
 use rowan::Fault;
-use script_syntax::parse;
+use script_syntax::{parse, parse_to_depth};
 use std::alloc::Global;
 use std::process::Abort;
 use std::test::Fail;
@@ -57,6 +57,18 @@ fn long_texts_are_kept(rt: HostRuntime) -> Result<(), Fail> {
     for (head, part) in LONG {
         let text = repeated(rt.alloc(), head, part, 10_000)?;
         assert!(rt; is_kept(rt.alloc(), text.as_str())?, "{part}");
+    }
+    Ok(())
+}
+
+/// No caller gets past the limit, so stack is left.
+#[test]
+fn no_depth_is_more_than_the_limit(rt: HostRuntime) -> Result<(), Fail> {
+    for (head, part) in LONG {
+        let text = repeated(rt.alloc(), head, part, 10_000)?;
+        let parse = parse_to_depth(rt.alloc(), text.as_str(), usize::MAX)?;
+        let kept = parse.green.to_string(rt.alloc())?;
+        assert!(rt; kept.as_str() == text.as_str(), "{part}");
     }
     Ok(())
 }

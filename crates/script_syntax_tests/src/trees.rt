@@ -4,7 +4,7 @@ use crate::operators::OPERATORS;
 use crate::strings::STRINGS;
 use rowan::{Fault, SyntaxNode};
 use rowan_parser::SyntaxError;
-use script_syntax::{Script, parse_to_depth};
+use script_syntax::{Script, Source, parse, parse_to_depth};
 use std::alloc::Global;
 use std::process::Abort;
 use std::test::Fail;
@@ -44,4 +44,19 @@ fn texts_have_their_trees_and_errors(rt: HostRuntime) -> Result<(), Fail> {
     check(&rt, rt.alloc(), &OPERATORS)?;
     check(&rt, rt.alloc(), &STRINGS)?;
     check(&rt, rt.alloc(), &ERRORS)
+}
+
+const DECLARED: &str = "fn f(a: T) { fn g() {} }\nlet x = 1\nunion U { a: T }\nfn ()\nfn h() {}\n";
+
+#[test]
+fn the_root_lists_what_is_declared(rt: HostRuntime) -> Result<(), Fail> {
+    let parse = parse(rt.alloc(), DECLARED)?;
+    let mut listed = String::new(rt.alloc());
+    if let Some(source) = parse.tree::<Source>(rt.alloc())? {
+        for name in source.names(rt.alloc())? {
+            writeln!(listed, "{name}")?;
+        }
+    }
+    assert!(rt; listed.as_str() == "f\nU\nh\n", "{listed}");
+    Ok(())
 }

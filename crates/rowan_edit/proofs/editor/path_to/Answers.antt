@@ -1,22 +1,25 @@
 use Rattle.std.proofs.Common.{◌++◌, sym, ◌∙◌, ap}
 use Rattle.std.specs.Prelude.{reverse}
+use Rattle.rowan_cursor.specs.Refs.{node_place}
 use Rattle.rowan_edit.proofs.EditorLemmas.{parent-up, path-up, top-path}
 use Rattle.rowan_edit.proofs.editor.path_to.Goals as goal
 
-pub loop-at-smaller : goal.loop-at-smaller
-loop-at-smaller c =
-    (parent-up c.loop-at.at c.in-Some.parent (sym c.in_ok-parent.ensures.ok ∙ c.in-Some.is)).smaller
+pub loop-parent-smaller : goal.loop-parent-smaller
+loop-parent-smaller c =
+    (parent-up (node_place c.loop-parent.at) (node_place c.in-Some.parent)
+    (sym c.in-Some.ensures)).smaller
 
-pub loop-at-preserved : goal.loop-at-preserved
-loop-at-preserved c =
-    ap (λ xs. c.in-Some.parent.path ++ reverse xs) c.in_ok-push.ensures.items
-    ∙ path-up c.loop-at.at c.in-Some.parent c.loop-at.path.items c.index.result
-    (sym c.in_ok-parent.ensures.ok ∙ c.in-Some.is) c.index.ensures
-    ∙ c.loop-at.invariant
+pub loop-parent-preserved : goal.loop-parent-preserved
+loop-parent-preserved c =
+    let up = node_place c.in-Some.parent in
+    ap (λ xs. up.path ++ reverse xs) c.in_ok-push.ensures.items
+    ∙ path-up (node_place c.loop-parent.at) up c.loop-parent.path.items c.index.result
+    (sym c.in-Some.ensures) c.index.ensures
+    ∙ c.loop-parent.invariant
 
 pub returns : goal.returns
 returns c =
     c.reverse.ensures.items
-    ∙ ap (λ p. p ++ reverse c.loop-at.path.items)
-    (sym (top-path c.loop-at.at (sym c.in_ok-parent.ensures.ok ∙ c.in_default.is)))
-    ∙ c.loop-at.invariant
+    ∙ ap (λ p. p ++ reverse c.loop-parent.path.items)
+    (sym (top-path (node_place c.loop-parent.at) (sym c.in_default.ensures)))
+    ∙ c.loop-parent.invariant

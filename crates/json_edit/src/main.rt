@@ -1,0 +1,118 @@
+//! Edits of JSON with comments, read from standard input. Each word behind the program's name is an
+//! edit of what the edit before it made: `rename:OLD:NEW`, `set:NAME:VALUE`, `delete:NAME`, `wrap`,
+//! `sort` or `format`. Names are written as in the text, with their quotes.
+#![tactic(auto)]
+
+use anyhow::{Result, bail};
+use itertools::Itertools;
+use json_syntax::{Json, Kind};
+use rowan::{Direction, NodeOrToken, SyntaxNode, SyntaxNodeRef, TypedElementRefCalls};
+use rowan_edit::{EditError, Refusal, SyntaxEditor};
+use std::{env, io};
+
+type Node<'tree> = SyntaxNodeRef<'tree, Json>;
+
+type Editor = SyntaxEditor<Json>;
+
+fn main(rt: HostRuntime) -> Result<()> {
+    let alloc = rt.alloc();
+    let text = io::read_to_string(alloc, rt.reader())?;
+    let mut tree = json_syntax::parse(alloc, text.as_str())?.green;
+    for word in env::args(&rt)?.skip(1) {
+        let root: SyntaxNode<Json> = SyntaxNode::new_root(alloc, tree)?;
+        let mut editor = SyntaxEditor::new(alloc, root.as_ref())?;
+        let mut words = word.splitn(3, ':');
+        match (words.next(), words.next(), words.next()) {
+            (Some("rename"), Some(old), Some(new)) => rename(&mut editor, root.as_ref(), old, new),
+            (Some("set"), Some(name), Some(value)) => set(&mut editor, root.as_ref(), name, value),
+            (Some("delete"), Some(name), None) => delete(&mut editor, root.as_ref(), name),
+            (Some("wrap"), None, None) => wrap(&mut editor, root.as_ref()),
+            (Some("sort"), None, None) => sort(&mut editor, root.as_ref()),
+            (Some("format"), None, None) => format(&mut editor, root.as_ref()),
+            _ => bail!("no such edit"),
+        }?;
+        tree = editor.finish()?.green;
+    }
+    print!(rt; "{tree}")?;
+    Ok(())
+}
+
+fn name_of(member: Node<'_>) -> &str {
+    member.first_token().map_or("", |name| name.text())
+}
+
+fn member_of<'tree>(root: Node<'tree>, name: &str) -> Result<Node<'tree>, EditError> {
+    let mut members = root.descendants().by_kind(Kind::Member);
+    let found = members.find(|member| name_of(*member) == name);
+    found.ok_or(EditError::Refused(Refusal::NotFound))
+}
+
+fn rename(editor: &mut Editor, root: Node<'_>, old: &str, new: &str) -> Result<(), EditError> {
+    let members = root.descendants().by_kind(Kind::Member);
+    let names = members.filter_map(|member| member.first_token());
+    let mut found = names.filter(|name| name.text() == old);
+    found.try_for_each(|name| editor.set_text(name, new))
+}
+
+/// Puts the value that is parsed from a text in place of another.
+fn put(editor: &mut Editor, old: Node<'_>, text: &str) -> Result<(), EditError> {
+    let alloc = editor.allocator();
+    let parse = |text: &str| json_syntax::parse(alloc, text).map(|p| (p.green, p.errors.len()));
+    let new = editor.from_text(text, parse, |kind| kind != Kind::Root)?;
+    editor.replace(old, new)
+}
+
+fn set(editor: &mut Editor, root: Node<'_>, name: &str, value: &str) -> Result<(), EditError> {
+    match member_of(root, name)?.first_child() {
+        Some(old) => put(editor, old, value),
+        None => Err(EditError::Refused(Refusal::NotFound)),
+    }
+}
+
+/// Deletes a member, and what stands between it and the next one: a comma, a comment.
+fn delete(editor: &mut Editor, root: Node<'_>, name: &str) -> Result<(), EditError> {
+    let member = member_of(root, name)?;
+    editor.delete(member)?;
+    let behind = member.siblings_with_tokens(Direction::Next).skip(1);
+    let mut gone = behind.take_while(|next| !matches!(next.kind(), Kind::Member | Kind::RBrace));
+    gone.try_for_each(|next| editor.delete(next))
+}
+
+/// Puts each number into an array of its own.
+fn wrap(editor: &mut Editor, root: Node<'_>) -> Result<(), EditError> {
+    let is_number = |literal: &Node<'_>| literal.first_token_of_kind(Kind::Number).is_some();
+    for literal in root.descendants().by_kind(Kind::Literal).filter(is_number) {
+        let array = format!(in editor.allocator(); "[{literal}]")?;
+        put(editor, literal, array.as_str())?;
+    }
+    Ok(())
+}
+
+/// Sorts the members of the outermost object by their names.
+fn sort(editor: &mut Editor, root: Node<'_>) -> Result<(), EditError> {
+    let object = root.first_child().unwrap_or(root);
+    let members = object.children();
+    let sorted = members.sorted_by_key(editor.allocator(), |member| name_of(*member))?;
+    let mut pairs = object.children().zip(sorted);
+    pairs.try_for_each(|(old, new)| editor.replace(old, new))
+}
+
+/// Gives each line two spaces a level.
+fn format(editor: &mut Editor, root: Node<'_>) -> Result<(), EditError> {
+    let mut depth = 0usize;
+    let elements = root.descendants_with_tokens();
+    for token in elements.filter_map(NodeOrToken::into_token) {
+        if matches!(token.kind(), Kind::RBrace | Kind::RBracket) {
+            depth = depth.saturating_sub(2);
+        }
+        let before = token.prev_token();
+        if let Some(space) = before.filter(|space| space.text().starts_with('\n')) {
+            let line = format!(in editor.allocator(); "\n{:1$}", "", depth)?;
+            editor.set_text(space, line.as_str())?;
+        }
+        if matches!(token.kind(), Kind::LBrace | Kind::LBracket) {
+            depth = depth.saturating_add(2);
+        }
+    }
+    Ok(())
+}

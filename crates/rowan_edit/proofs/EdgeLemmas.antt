@@ -1,0 +1,56 @@
+-- Edits at an edge of a child, from those of the children of its parent; and which tree they are of.
+use Rattle.std.proofs.Common.{◌≡◌, ℕ, ◌+◌, List, Option, Some, refl, ◌∙◌, ap, subst}
+use Rattle.rowan_green.specs.declared.utility_types.NodeOrToken.TheVariants.{Node}
+use Rattle.rowan_green.specs.Path.{Path}
+use Rattle.rowan_green.specs.Term.{NodeTerm, Term}
+use Rattle.rowan_cursor.specs.Cursor.{Cursor, StandsAt, index}
+use Rattle.rowan_cursor.specs.Moves.{parent, tree_top}
+use Rattle.rowan_edit.specs.declared.refusal.Refusal.{Refusal}
+use Rattle.rowan_edit.specs.declared.refusal.Refusal.TheVariants.{Conflict, NotFound, Root}
+use Rattle.rowan_edit.specs.declared.refusal.Refusal.TheVariants.{OtherTree, Memory}
+use Rattle.rowan_edit.specs.declared.syntax_editor.Edge.{Edge}
+use Rattle.rowan_edit.specs.declared.syntax_editor.Edge.TheVariants.{Start, Whole, End}
+use Rattle.rowan_edit.specs.Cursors.{AtChild, WhyNotTaken, WhyNotTakenAt}
+use Rattle.rowan_edit.specs.Edges.{at_edge, range_edit, IsAtEdge}
+use Rattle.rowan_edit.specs.Edit.{Edit}
+use Rattle.rowan_edit.specs.Plan.{Plan, with_edit, WhyRefused}
+use Rattle.rowan_edit.proofs.EditorLemmas.{at-child, why-at}
+
+-- the node at the root of a cursor's tree
+pub top-root : (c top : Cursor) (n : NodeTerm) → top ≡ tree_top c → StandsAt top n → c.root ≡ n
+top-root c top n e h =
+    let at_root : ◌≡◌ {A = Option Term} (Some (Node c.root)) (Some (Node n)) =
+    subst (λ (t : Cursor). StandsAt t n) e h in
+    cc
+
+pub edge-edit : (edge : Edge) (i s e : ℕ) (new : List Term) (p : Path) → IsAtEdge edge i s e
+    → range_edit p new s e ≡ at_edge edge new p i
+edge-edit Start i s e new p h =
+    ap (λ x. range_edit p new x e) h.0 ∙ ap (λ y. range_edit p new i y) h.1
+edge-edit Whole i s e new p h =
+    ap (λ x. range_edit p new x e) h.0 ∙ ap (λ y. range_edit p new i y) h.1
+edge-edit End i s e new p h =
+    ap (λ x. range_edit p new x e) h.0 ∙ ap (λ y. range_edit p new (i + 1) y) h.1
+
+-- why an edit of a node of the same tree is not taken
+pub why-in : (plan : Plan) (c : Cursor) (e : Edit) (r : Refusal) → c.root ≡ plan.root
+    → WhyRefused plan e r → WhyNotTaken plan c e r
+why-in plan c e Conflict own w = (own, w)
+why-in plan c e NotFound own w = (own, w)
+why-in plan c e Root own w = w
+why-in plan c e OtherTree own w = absurd w
+why-in plan c e Memory own w = tt
+
+module _ (c d : Cursor) (edge : Edge) (s e : ℕ) (new : List Term) (up : parent c ≡ Some d)
+    (range : IsAtEdge edge (index c) s e) where
+  pub edited-at-edge : (old plan : Plan) → plan ≡ with_edit old (range_edit d.path new s e)
+      → AtChild c (λ p i. plan ≡ with_edit old (at_edge edge new p i))
+  edited-at-edge old plan h =
+      at-child c d (index c) (λ p i. plan ≡ with_edit old (at_edge edge new p i)) up refl
+      (h ∙ ap (with_edit old) (edge-edit edge (index c) s e new d.path range))
+
+  pub why-at-edge : (old : Plan) (r : Refusal) → c.root ≡ old.root
+      → WhyRefused old (range_edit d.path new s e) r → WhyNotTakenAt old c (at_edge edge new) r
+  why-at-edge old r own h =
+      why-at old c d (index c) (at_edge edge new) r own up refl
+      (subst (λ x. WhyRefused old x r) (edge-edit edge (index c) s e new d.path range) h)
