@@ -1,6 +1,6 @@
-//! Edits of JSON with comments, read from standard input. Each word behind the program's name is an
-//! edit of what the edit before it made: `rename:OLD:NEW`, `set:NAME:VALUE`, `delete:NAME`, `wrap`,
-//! `sort` or `format`. Names are written as in the text, with their quotes.
+//! Edits of JSON with comments, read from standard input; a text with errors is refused. Each word
+//! behind the program's name is an edit of what the edit before it made: `rename:OLD:NEW`,
+//! `set:NAME:VALUE`, `delete:NAME`, `wrap`, `sort` or `format`. Names are written with their quotes.
 #![tactic(auto)]
 
 use anyhow::{Result, bail};
@@ -17,7 +17,10 @@ type Editor = SyntaxEditor<Json>;
 fn main(rt: HostRuntime) -> Result<()> {
     let alloc = rt.alloc();
     let text = io::read_to_string(alloc, rt.reader())?;
-    let mut tree = json_syntax::parse(alloc, text.as_str())?.green;
+    let mut tree = match json_syntax::parse(alloc, text.as_str())?.ok() {
+        Ok(tree) => tree,
+        Err(errors) => bail!("{}", rowan_parser::render(alloc, &errors, &text, "input")?),
+    };
     for word in env::args(&rt)?.skip(1) {
         let root: SyntaxNode<Json> = SyntaxNode::new_root(alloc, tree)?;
         let mut editor = SyntaxEditor::new(alloc, root.as_ref())?;
@@ -63,10 +66,9 @@ fn put(editor: &mut Editor, old: Node<'_>, text: &str) -> Result<(), EditError> 
 }
 
 fn set(editor: &mut Editor, root: Node<'_>, name: &str, value: &str) -> Result<(), EditError> {
-    match member_of(root, name)?.first_child() {
-        Some(old) => put(editor, old, value),
-        None => Err(EditError::Refused(Refusal::NotFound)),
-    }
+    let old = member_of(root, name)?.first_child();
+    let old = old.ok_or(EditError::Refused(Refusal::NotFound))?;
+    put(editor, old, value)
 }
 
 /// Deletes a member, and what stands between it and the next one: a comma, a comment.
