@@ -3,6 +3,7 @@
 #![tactic(auto)]
 
 mod cursors;
+mod edits;
 mod greens;
 mod moves;
 mod texts;
@@ -75,6 +76,9 @@ fn make(call: &str, tree: &Tree) -> Result<Option<u64>, Fault> {
         return Ok(Some(number));
     }
     if let Some(number) = typed::make(call, tree)? {
+        return Ok(Some(number));
+    }
+    if let Some(number) = edits::make(call, tree)? {
         return Ok(Some(number));
     }
     tools::make(call, tree)

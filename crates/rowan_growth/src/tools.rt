@@ -125,7 +125,11 @@ fn edits(tree: &Tree, step: usize) -> Result<u64, Fault>
 }
 
 fn rewrite(tree: &Tree) -> Result<u64, Fault> {
-    let new = rewrite_tokens(tree.alloc, &tree.green, &mut |_token, _range| Ok(Rewrite::Keep))?;
+    let new = rewrite_tokens(
+        tree.alloc,
+        &tree.green,
+        &mut |_token, _range| Ok(Rewrite::Keep),
+    )?;
     Ok(u64::from(new == tree.green))
 }
 
