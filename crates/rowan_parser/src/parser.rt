@@ -135,12 +135,14 @@ impl Model for CompletedMarker {
 }
 
 impl<'t, L: Language> Parser<'t, L> {
-    /// A parser before its first call, with room for one event a token.
+    /// A parser before its first call, with room for seven events for four tokens, so that the list
+    /// of events seldom grows.
     pub(crate) fn new(alloc: Global, tokens: Vec<SeenToken<'t>>) -> Result<Parser<'t, L>, Fault>
         ensures ok { IfOk result (λ p. p ≡ start_of tokens.entry.items) }
         ensures err { IfErr result (λ fault. fault ≡ Fault.Memory) }
     {
-        let events = Vec::with_capacity(alloc, tokens.len())?;
+        let room = tokens.len().saturating_add(tokens.len() / 4 * 3);
+        let events = Vec::with_capacity(alloc, room)?;
         Ok(Parser {
             alloc,
             tokens,
