@@ -1,4 +1,4 @@
--- Written by rowan_grammar: change the grammar, and not this file.
+-- Written by rowan_grammar from sample.ungram: change that, and not this file.
 -- What casts to an alternative casts to the whole.
 use Rattle.std.specs.Prelude.{◌≡◌, ℕ, Bool, true, false, Option, Some, None}
 use Rattle.std.specs.Option.{option_map, option_map_or}

@@ -1,4 +1,4 @@
--- Written by rowan_grammar: change the grammar, and not this file.
+-- Written by rowan_grammar from sample.ungram: change that, and not this file.
 -- Wrappers of the nodes of Sample: the kinds that cast to each of them.
 use Rattle.std.specs.Prelude.{◌≡◌, Bool, true, false, ◌||◌}
 use Rattle.grammar_sample.specs.declared.kinds.Kind.{Kind}

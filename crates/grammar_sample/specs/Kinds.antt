@@ -1,4 +1,4 @@
--- Written by rowan_grammar: change the grammar, and not this file.
+-- Written by rowan_grammar from sample.ungram: change that, and not this file.
 -- The kinds of Sample.
 use Rattle.std.specs.Prelude.{ℕ, ◌==◌, nat_lt, List, codes, if◌then◌else◌}
 use Rattle.grammar_sample.specs.declared.kinds.Kind.{Kind}

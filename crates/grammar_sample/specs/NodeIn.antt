@@ -1,4 +1,4 @@
--- Written by rowan_grammar: change the grammar, and not this file.
+-- Written by rowan_grammar from sample.ungram: change that, and not this file.
 -- The nodes in the wrappers of more than one kind.
 use Rattle.rowan.specs.Cursor.{Cursor}
 use Rattle.grammar_sample.specs.declared.nodes.Section.{Section}

@@ -1,4 +1,4 @@
-// Written by rowan_grammar: change the grammar, and not this file.
+// Written by rowan_grammar from sample.ungram: change that, and not this file.
 //! The kinds of the tokens and nodes of Sample.
 ghost use Rattle.std.specs.Prelude.{◌≡◌};
 ghost use Rattle.grammar_sample.specs.Kinds.{block_kind_0, block_kind_1};

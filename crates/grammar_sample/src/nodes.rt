@@ -1,4 +1,4 @@
-// Written by rowan_grammar: change the grammar, and not this file.
+// Written by rowan_grammar from sample.ungram: change that, and not this file.
 //! Wrappers of the nodes of Sample.
 use crate::kinds::{Kind, Sample};
 use rowan::ast::{AstChildren, AstNode, support};

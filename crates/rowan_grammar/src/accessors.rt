@@ -1,12 +1,12 @@
 //! The calls of a wrapper as source text.
 use crate::calls::Call;
 use crate::grammar::Sort;
-use crate::writer::{Imports, Scope, fill};
+use crate::writer::{Imports, Scope, arguments, fill, signature};
 use std::alloc::AllocError;
 
 const CHILD: &str = "
     /// The first child that is `$0`.
-    pub fn $1(&self) -> Result<Option<$0>, Fault>
+$1
         ensures ok { let casts = casts_at kind_of is_$2 in
             IfOk result (λ found.
             option_map $3 found ≡ find casts (children self.now)) }
@@ -18,7 +18,7 @@ const CHILD: &str = "
 
 const CHILDREN: &str = "
     /// The children that are `$0`, in order.
-    pub fn $1(&self) -> AstChildren<$0>
+$1
         ensures ok { IfOk result (λ nodes. nodes ≡ children self.now) }
         ensures err { IfErr result (λ e. e ≡ Fault.Memory) }
     {
@@ -28,13 +28,13 @@ const CHILDREN: &str = "
 
 const TOKEN: &str = "
     /// The first token `$0`.
-    pub fn $1(&self) -> Result<Option<SyntaxToken<$2>>, Fault>
+$1
         ensures ok { let means = means_kind kind_of (sameb the_type) Kind.$0 in
             IfOk result (λ found. option_map Token found
             ≡ find (is_token_of means) (children_with_tokens self.now)) }
         ensures err { IfErr result (λ e. e ≡ Fault.Memory) }
     {
-        support::token(&self.syntax, Kind::$0)
+        support::token($2)
     }
 ";
 
@@ -57,20 +57,42 @@ pub fn add_calls(
 }
 
 fn add_call(out: &mut String, scope: &Scope<'_>, call: &Call) -> Result<(), AllocError> {
+    let alloc = scope.alloc;
     let target = scope.grammar.name(call.target);
-    let name = call.name.as_str();
+    let start = format!(in alloc; "    pub fn {}", call.name)?;
+    let result = result_of(scope, call)?;
+    let head = signature(alloc, start.as_str(), "&self", result.as_str())?;
     if call.is_token {
-        return fill(out, TOKEN, &[target, name, scope.language]);
+        let kind = format!(in alloc; "Kind::{target}")?;
+        let arguments = arguments(alloc, "&self.syntax", kind.as_str(), ",")?;
+        return fill(out, TOKEN, &[target, head.as_str(), arguments.as_str()]);
     }
     if call.is_many {
-        return fill(out, CHILDREN, &[target, name]);
+        return fill(out, CHILDREN, &[target, head.as_str()]);
     }
     let snake = scope.grammar.snake(call.target);
     let node_of = match scope.grammar.sort(call.target) {
-        Sort::Choice => format!(in scope.alloc; "node_in_{snake}")?,
-        _ => format!(in scope.alloc; "(λ node. node)")?,
+        Sort::Choice => format!(in alloc; "node_in_{snake}")?,
+        _ => format!(in alloc; "(λ node. node)")?,
     };
-    fill(out, CHILD, &[target, name, snake, node_of.as_str()])
+    fill(
+        out,
+        CHILD,
+        &[target, head.as_str(), snake, node_of.as_str()],
+    )
+}
+
+/// The type of what a call gives.
+fn result_of(scope: &Scope<'_>, call: &Call) -> Result<String, AllocError> {
+    let target = scope.grammar.name(call.target);
+    if call.is_token {
+        let language = scope.language;
+        return format!(in scope.alloc; "Result<Option<SyntaxToken<{language}>>, Fault>");
+    }
+    if call.is_many {
+        return format!(in scope.alloc; "AstChildren<{target}>");
+    }
+    format!(in scope.alloc; "Result<Option<{target}>, Fault>")
 }
 
 const OF_ANY: &str = "    ghost use Rattle.std.specs.Prelude.{◌≡◌, IfOk, IfErr};\n";

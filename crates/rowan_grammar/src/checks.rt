@@ -1,14 +1,29 @@
 //! What can be wrong with a grammar whose items were read.
 use crate::calls::{Call, calls_of};
-use crate::ends::needs_without_end;
-use crate::grammar::{Grammar, Item, Part, Sort};
-use crate::names::{is_call_name, is_reserved, is_taken, is_type_name};
-use crate::place::{Problem, text_at, top};
-use crate::reach::steps_from;
+use crate::grammar::{Grammar, Item, Part, Sort, kinds_of};
+use crate::names::{is_call, why_no_crate, why_no_type};
+use crate::place::{Problem, part_of, text_at, top};
+use crate::reach::{Reach, count_arms, doubtful_choices, leads_to, set, steps_from};
+use crate::rings::{Ring, Want, rings};
 use rowan::TextRange;
 use rowan_parser::Severity;
 use std::alloc::{AllocError, Global};
 use std::collections::HashMap;
+
+/// How many kinds a language may have.
+const MAX_KINDS: usize = 65536;
+
+/// How many kinds a `TokenSet` takes.
+const MAX_TOKENS: usize = 128;
+
+/// How many alternatives may be looked at where choices and parts are compared.
+const MAX_LOOKS: usize = 4_000_000;
+
+/// To how many nodes all choices together may lead.
+const MAX_ARMS: usize = 1_000_000;
+
+/// How many items of a ring are named between its first and its last one.
+const MAX_SHOWN: usize = 8;
 
 /// What is looked at, and what was found.
 #[derive(Drop)]
@@ -16,6 +31,8 @@ pub struct Checker<'t> {
     pub alloc: Global,
     pub text: &'t str,
     pub problems: Vec<Problem>,
+    /// How many alternatives were looked at so far.
+    pub looks: usize,
 }
 
 impl Checker<'_> {
@@ -47,6 +64,7 @@ impl Checker<'_> {
         }
         demote_choices(self.alloc, grammar)?;
         self.check_root(grammar, &names)?;
+        self.check_kinds(grammar)?;
         self.check_choices(grammar)?;
         self.check_ends(grammar)?;
         self.check_calls(grammar)?;
@@ -56,9 +74,11 @@ impl Checker<'_> {
     /// The language, its crate and the root have to be named, and one item has to be the error
     /// kind.
     fn check_head(&mut self, grammar: &Grammar) -> Result<(), AllocError> {
-        self.check_named(grammar.language, "language", "Toml")?;
-        self.check_named(grammar.crate_name, "crate", "toml_syntax")?;
-        self.check_named(grammar.root, "root", "Document")?;
+        let language = part_of(self.text, grammar.language);
+        let crate_name = part_of(self.text, grammar.crate_name);
+        self.check_line(grammar.language, "language", why_no_type(language))?;
+        self.check_line(grammar.crate_name, "crate", why_no_crate(crate_name))?;
+        self.check_line(grammar.root, "root", None)?;
         let errors = grammar.items.iter().filter(|item| item.sort == Sort::Error);
         let count = errors.count();
         if count != 1 {
@@ -68,46 +88,49 @@ impl Checker<'_> {
         Ok(())
     }
 
-    /// A line of the head with this word has to be there, and its name to be spelled as this form.
-    fn check_named(
+    /// A line of the head with this word has to be there, and nothing to be wrong with its name.
+    fn check_line(
         &mut self,
         range: Option<TextRange>,
         word: &str,
-        form: &str,
+        why: Option<&str>,
     ) -> Result<(), AllocError> {
-        let Some(range) = range else {
-            let message = format!(in self.alloc; "a line `{word} NAME` is missing")?;
-            return self.error(top(), message);
-        };
-        let name = text_at(self.text, range);
-        let is_well = match is_type_name(form) {
-            true => is_type_name(name) && !is_taken(name),
-            false => is_call_name(name),
-        };
-        if !is_well {
-            let message = format!(in self.alloc; "`{name}` is needed, or not spelled as `{form}`")?;
-            self.error(range, message)?;
+        match range {
+            Some(range) => self.check_name(range, text_at(self.text, range), why),
+            None => {
+                let message = format!(in self.alloc; "a line `{word} NAME` is missing")?;
+                self.error(top(), message)
+            }
         }
-        Ok(())
+    }
+
+    fn check_name(
+        &mut self,
+        range: TextRange,
+        name: &str,
+        why: Option<&str>,
+    ) -> Result<(), AllocError> {
+        match why {
+            Some(why) => {
+                let message = format!(in self.alloc; "`{name}` {why}")?;
+                self.error(range, message)
+            }
+            None => Ok(()),
+        }
     }
 
     /// The numbers of the items by their names, of which no two may differ in case alone.
     fn check_names(&mut self, grammar: &Grammar) -> Result<HashMap<String, usize>, AllocError> {
         let mut names: HashMap<String, usize> = HashMap::new(self.alloc);
         let mut folded: HashMap<String, usize> = HashMap::new(self.alloc);
-        let language = match grammar.language {
-            Some(range) => text_at(self.text, range),
-            None => "",
-        };
+        let language = part_of(self.text, grammar.language);
         for (index, item) in grammar.items.iter().enumerate() {
             let name = item.name.as_str();
-            if is_taken(name) || name == language {
-                let message = format!(in self.alloc; "what is written needs the name `{name}`")?;
-                self.error(item.range, message)?;
-            } else if !is_type_name(name) {
-                let message = format!(in self.alloc; "`{name}` is not spelled as `InlineTable`")?;
-                self.error(item.range, message)?;
-            }
+            let why = match name == language {
+                true => Some("is the name of the language"),
+                false => why_no_type(name),
+            };
+            self.check_name(item.range, name, why)?;
             let mut key = item.name.clone()?;
             key.make_ascii_lowercase();
             if let Some(earlier) = folded.get(key.as_str()) {
@@ -188,41 +211,94 @@ impl Checker<'_> {
         Ok(())
     }
 
+    /// A kind has 16 bits. A token that no `TokenSet` takes is worth a warning.
+    fn check_kinds(&mut self, grammar: &Grammar) -> Result<(), AllocError> {
+        let kinds = kinds_of(self.alloc, grammar)?;
+        let count = kinds.len();
+        if let Some(index) = kinds.get(MAX_KINDS) {
+            let message = format!(in self.alloc;
+                "a language has at most {MAX_KINDS} kinds, and this one {count}"
+            )?;
+            self.error(grammar.range(*index), message)?;
+        }
+        match kinds.get(MAX_TOKENS) {
+            Some(index) if grammar.sort(*index).is_token() => {
+                let message = format!(in self.alloc;
+                    "a `TokenSet` takes the first {MAX_TOKENS} tokens, and not this one"
+                )?;
+                self.add(Severity::Warning, grammar.range(*index), message)
+            }
+            _ => Ok(()),
+        }
+    }
+
     /// A choice may not lead to itself, and to each node in one way alone.
     fn check_choices(&mut self, grammar: &Grammar) -> Result<(), AllocError> {
-        for (index, item) in grammar.items.iter().enumerate() {
-            if item.sort != Sort::Choice {
+        let rings = rings(self.alloc, grammar, Want::Nodes)?;
+        for ring in rings.iter() {
+            let name = grammar.name(ring.first);
+            let way = way_around(self.alloc, grammar, ring, "leads to")?;
+            let message = format!(in self.alloc; "`{name}` is an alternative of itself: it {way}")?;
+            self.error(grammar.range(ring.first), message)?;
+        }
+        if !rings.is_empty() || !self.check_ways(grammar)? {
+            return Ok(());
+        }
+        match count_arms(self.alloc, grammar)? > MAX_ARMS {
+            true => self.too_many(),
+            false => Ok(()),
+        }
+    }
+
+    fn too_many(&mut self) -> Result<(), AllocError> {
+        let message = "the choices of this grammar lead to too many nodes";
+        self.error(top(), String::from_str(self.alloc, message)?)
+    }
+
+    /// Tells the choices that lead to a node in two ways, but not those that lead to such a one. Says
+    /// whether there is none.
+    fn check_ways(&mut self, grammar: &Grammar) -> Result<bool, AllocError> {
+        let mut is_well = true;
+        let mut is_told: Vec<bool> = vec![in self.alloc; false; grammar.items.len()]?;
+        for index in doubtful_choices(self.alloc, grammar)?.iter() {
+            if leads_to(grammar, *index, is_told.as_slice()) {
+                set(&mut is_told, *index);
                 continue;
             }
-            let reached = steps_from(self.alloc, grammar, index)?;
-            let name = item.name.as_str();
-            let Some(twice) = reached.twice else {
+            let Some(twice) = self.reach(grammar, *index)?.twice else {
                 continue;
             };
+            is_well = false;
+            set(&mut is_told, *index);
+            let name = grammar.name(*index);
             let other = grammar.name(twice);
-            if twice == index {
-                let message = format!(in self.alloc; "`{name}` is an alternative of itself")?;
-                self.error(item.range, message)?;
-            } else if !reached.is_cycle {
-                let message = format!(in self.alloc;
-                    "two alternatives of `{name}` lead to `{other}`"
-                )?;
-                self.error(item.range, message)?;
-            }
+            let message = format!(in self.alloc; "two alternatives of `{name}` lead to `{other}`")?;
+            self.error(grammar.range(*index), message)?;
         }
-        Ok(())
+        Ok(is_well)
+    }
+
+    /// To what an item leads; to nothing where that has taken too many steps.
+    fn reach(&mut self, grammar: &Grammar, start: usize) -> Result<Reach, AllocError> {
+        if self.looks > MAX_LOOKS {
+            return Ok(Reach::nothing(self.alloc));
+        }
+        let reached = steps_from(self.alloc, grammar, start)?;
+        self.looks = self.looks.saturating_add(reached.looks);
+        if self.looks > MAX_LOOKS {
+            self.too_many()?;
+        }
+        Ok(reached)
     }
 
     /// A node may not need a node that needs itself, for then it has no end.
     fn check_ends(&mut self, grammar: &Grammar) -> Result<(), AllocError> {
-        let needs = needs_without_end(self.alloc, grammar)?;
-        for (item, count) in grammar.items.iter().zip(needs.iter()) {
-            if item.sort == Sort::Node && *count > 0 {
-                let name = item.name.as_str();
-                let message = format!(in self.alloc;
-                    "no `{name}` can end: it always has one more node in it"
-                )?;
-                self.error(item.range, message)?;
+        for ring in rings(self.alloc, grammar, Want::End)?.iter() {
+            if grammar.sort(ring.first) == Sort::Node {
+                let name = grammar.name(ring.first);
+                let way = way_around(self.alloc, grammar, ring, "needs")?;
+                let message = format!(in self.alloc; "no `{name}` can end: it {way}")?;
+                self.error(grammar.range(ring.first), message)?;
             }
         }
         Ok(())
@@ -245,7 +321,7 @@ impl Checker<'_> {
         let mut seen: HashMap<String, usize> = HashMap::new(self.alloc);
         for (index, call) in calls.iter().enumerate() {
             let name = call.name.as_str();
-            if is_reserved(name) || !is_call_name(name) {
+            if !is_call(name) {
                 let message = format!(in self.alloc; "no call can be named `{name}`: label this")?;
                 self.error(call.range, message)?;
             }
@@ -261,28 +337,20 @@ impl Checker<'_> {
         Ok(())
     }
 
+    /// Tells the parts that may be what is another part already.
     fn check_parts(&mut self, grammar: &Grammar, calls: &[Call]) -> Result<(), AllocError> {
         let mut owners: HashMap<usize, usize> = HashMap::new(self.alloc);
+        let is_alone = calls.iter().filter(|call| !call.is_token).count() < 2;
         for (index, call) in calls.iter().enumerate() {
-            if call.is_token {
+            if self.tell_owner(grammar, calls, &owners, call, call.target)? || is_alone {
+                owners.insert(call.target, index)?;
                 continue;
             }
-            let reached = steps_from(self.alloc, grammar, call.target)?;
+            let reached = self.reach(grammar, call.target)?;
             for step in reached.steps.iter() {
-                let owner = owners.get(&step.item).copied().unwrap_or(usize::MAX);
-                let Some(owner) = calls.get(owner) else {
-                    continue;
-                };
-                let kind = grammar.name(step.item);
-                let one = owner.name.as_str();
-                let other = call.name.as_str();
-                if one != other {
-                    let message = format!(in self.alloc;
-                        "a `{kind}` here may be `{one}` or `{other}`"
-                    )?;
-                    self.error(call.range, message)?;
+                if self.tell_owner(grammar, calls, &owners, call, step.item)? {
+                    break;
                 }
-                break;
             }
             for step in reached.steps.iter() {
                 owners.insert(step.item, index)?;
@@ -291,14 +359,38 @@ impl Checker<'_> {
         Ok(())
     }
 
+    /// Says whether an item is what another call gives, and tells it if that has another name.
+    fn tell_owner(
+        &mut self,
+        grammar: &Grammar,
+        calls: &[Call],
+        owners: &HashMap<usize, usize>,
+        call: &Call,
+        item: usize,
+    ) -> Result<bool, AllocError> {
+        let Some(owner) = owners.get(&item) else {
+            return Ok(false);
+        };
+        let Some(owner) = calls.get(*owner) else {
+            return Ok(false);
+        };
+        let kind = grammar.name(item);
+        let one = owner.name.as_str();
+        let other = call.name.as_str();
+        if one != other {
+            let message = format!(in self.alloc; "a `{kind}` here may be `{one}` or `{other}`")?;
+            self.error(call.range, message)?;
+        }
+        Ok(true)
+    }
+
     /// A token with a text of its own that stands in no rule is worth a warning.
     fn check_uses(&mut self, grammar: &Grammar) -> Result<(), AllocError> {
         let mut used: Vec<bool> = vec![in self.alloc; false; grammar.items.len()]?;
         for item in grammar.items.iter() {
             for part in item.parts.iter() {
-                let target = part.target.unwrap_or(usize::MAX);
-                if let Some(slot) = used.get_mut(target) {
-                    *slot = true;
+                if let Some(target) = part.target {
+                    set(&mut used, target);
                 }
             }
         }
@@ -311,6 +403,28 @@ impl Checker<'_> {
         }
         Ok(())
     }
+}
+
+/// What the first of a ring leads to, and so on up to itself: `needs B, which needs A`. Of a long
+/// ring the beginning.
+fn way_around(
+    alloc: Global,
+    grammar: &Grammar,
+    ring: &Ring,
+    verb: &str,
+) -> Result<String, AllocError> {
+    let mut out = String::new(alloc);
+    for item in ring.others.iter().take(MAX_SHOWN) {
+        let name = grammar.name(*item);
+        write!(out, "{verb} `{name}`, which ")?;
+    }
+    let more = ring.others.len().saturating_sub(MAX_SHOWN);
+    if more > 0 {
+        write!(out, "{verb} {more} more, the last of which ")?;
+    }
+    let name = grammar.name(ring.first);
+    write!(out, "{verb} `{name}`")?;
+    Ok(out)
 }
 
 /// A rule with tokens among its alternatives is a node that has one of them.
@@ -333,7 +447,9 @@ fn demote_choices(alloc: Global, grammar: &mut Grammar) -> Result<(), AllocError
 }
 
 fn is_leaf(part: &Part, sorts: &[Sort]) -> bool {
-    let target = part.target.unwrap_or(usize::MAX);
+    let Some(target) = part.target else {
+        return false;
+    };
     match sorts.get(target) {
         Some(sort) => !sort.is_wrapped(),
         None => false,

@@ -1,6 +1,7 @@
 //! What a grammar says.
+use crate::place::top;
 use rowan::TextRange;
-use std::alloc::Global;
+use std::alloc::{AllocError, Global};
 
 /// What a name of a grammar stands for.
 #[derive(Clone, Copy, PartialEq, Eq, Debug)]
@@ -70,6 +71,13 @@ impl Grammar {
         }
     }
 
+    pub fn range(&self, index: usize) -> TextRange {
+        match self.items.get(index) {
+            Some(item) => item.range,
+            None => top(),
+        }
+    }
+
     pub fn snake(&self, index: usize) -> &str {
         match self.items.get(index) {
             Some(item) => item.snake.as_str(),
@@ -97,6 +105,30 @@ impl Grammar {
             None => &[],
         }
     }
+}
+
+/// The numbers of the items that are kinds, in the order of the kinds: tokens, which a `TokenSet`
+/// takes if they come first, the kind of errors, and nodes.
+pub fn kinds_of(alloc: Global, grammar: &Grammar) -> Result<Vec<usize>, AllocError> {
+    let mut kinds = Vec::new(alloc);
+    add_numbers(&mut kinds, grammar, &[Sort::Token, Sort::Trivia])?;
+    add_numbers(&mut kinds, grammar, &[Sort::Error])?;
+    add_numbers(&mut kinds, grammar, &[Sort::Node])?;
+    Ok(kinds)
+}
+
+/// Adds the numbers of the items of these sorts.
+pub fn add_numbers(
+    numbers: &mut Vec<usize>,
+    grammar: &Grammar,
+    sorts: &[Sort],
+) -> Result<(), AllocError> {
+    for (index, item) in grammar.items.iter().enumerate() {
+        if sorts.iter().any(|sort| *sort == item.sort) {
+            numbers.push(index)?;
+        }
+    }
+    Ok(())
 }
 
 impl Sort {

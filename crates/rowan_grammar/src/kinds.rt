@@ -1,7 +1,7 @@
 //! The files of the kinds: `src/kinds.rt` and `specs/Kinds.antt`.
 use crate::grammar::Sort;
 use crate::names::upper;
-use crate::writer::{Imports, Scope, add_docs, fill};
+use crate::writer::{ARGUMENTS, Imports, Scope, add_arm, add_docs, fill};
 use std::alloc::AllocError;
 
 /// How many kinds one `match` on numbers tells apart: over many more the checker finds no proof.
@@ -152,33 +152,40 @@ fn add_kind_names(out: &mut String, scope: &Scope<'_>) -> Result<(), AllocError>
     for index in scope.kinds.iter() {
         let name = scope.grammar.name(*index);
         let shown = upper(scope.alloc, scope.grammar.snake(*index))?;
-        fill(
-            out,
-            "            Kind::$0 => \"$1\",\n",
-            &[name, shown.as_str()],
-        )?;
+        let pattern = format!(in scope.alloc; "Kind::{name}")?;
+        let body = format!(in scope.alloc; "\"{shown}\"")?;
+        add_arm(out, "            ", pattern.as_str(), body.as_str())?;
     }
     out.push_str("        }\n    }\n}\n")
 }
 
 /// The kinds of what stands anywhere, as a parser takes them, and the kind of the root.
 fn add_trivia(out: &mut String, scope: &Scope<'_>) -> Result<(), AllocError> {
-    out.push_str("\n/// The kinds of the tokens that may stand anywhere.\n")?;
-    out.push_str("pub const TRIVIA: &[SyntaxKind] = &[")?;
-    let mut comma = "";
+    let mut line = String::new(scope.alloc);
+    let mut lines = String::new(scope.alloc);
     for (number, index) in scope.kinds.iter().enumerate() {
         if scope.grammar.sort(*index) == Sort::Trivia {
-            write!(out, "{comma}SyntaxKind({number})")?;
-            comma = ", ";
+            let comma = if line.is_empty() { "" } else { ", " };
+            write!(line, "{comma}SyntaxKind({number})")?;
+            write!(lines, "\n    SyntaxKind({number}),")?;
         }
     }
-    out.push_str("];\n")?;
-    fill(
-        out,
-        "\n/// The kind of the node of a whole text.\npub const ROOT: Kind = Kind::$0;\n",
-        &[scope.root],
-    )
+    let kinds = if line.len() > ARGUMENTS {
+        lines.push('\n')?;
+        lines.as_str()
+    } else {
+        line.as_str()
+    };
+    fill(out, TRIVIA, &[kinds, scope.root])
 }
+
+const TRIVIA: &str = "
+/// The kinds of the tokens that may stand anywhere.
+pub const TRIVIA: &[SyntaxKind] = &[$0];
+
+/// The kind of the node of a whole text.
+pub const ROOT: Kind = Kind::$1;
+";
 
 const SPECS: &str = "\
 -- The kinds of $1.

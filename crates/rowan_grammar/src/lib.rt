@@ -4,7 +4,6 @@
 mod accessors;
 mod calls;
 mod checks;
-mod ends;
 mod grammar;
 mod kinds;
 mod lexer;
@@ -14,9 +13,10 @@ mod parser;
 mod place;
 mod reach;
 mod reader;
+mod rings;
 mod specs;
 mod syntax;
 mod writer;
 mod written;
 
-pub use written::{File, MARK, MARK_ANTT, Summary, Written, generate};
+pub use written::{File, Summary, Written, check, generate};

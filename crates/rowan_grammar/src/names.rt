@@ -1,38 +1,72 @@
 //! How names are spelled, and which are taken.
 use std::alloc::{AllocError, Global};
 
+/// How many letters a name may have. Longer ones could not be laid out as `rt fmt` does.
+const MAX_LETTERS: usize = 50;
+
 /// Names that what is written needs, or that stand for something in every file of Rattle.
 const TAKEN: &str = "\
-    AstChildren AstNode Bool Box Clone Copy Cursor Debug Default Drop Eq Err Fault Fn FnMut \
+    AstChildren AstNode Below Bool Box Clone Copy Cursor Debug Default Drop Eq Err Fault Fn FnMut \
     FnOnce From Hash IfErr IfOk Into Iterator Kind Language List Memory Model Node None Ok \
     Option Ord PartialEq PartialOrd Result Self Send Sized Some String Sync SyntaxKind \
-    SyntaxNode SyntaxToken Token Vec";
+    SyntaxNode SyntaxToken TheBound TheConstants TheDeep TheImpl TheInside TheLaw TheLaws TheLinks \
+    TheOpen TheOwn TheVariants Token TokenOf Type Vec";
 
-/// Words that no call may be named by: those of the language, and the calls of each wrapper.
-const RESERVED: &str = "\
-    abstract as async await become box break can_cast cast clone_subtree const continue crate \
-    data do dyn else ensures enum extern false final fn for gen ghost if impl in let loop macro \
-    match mod move mut open override priv pub record ref requires result return ruleset self \
-    static struct super syntax trait true try type typeof unsafe unsized use virtual where while \
-    yield";
+/// Words that neither a call nor a crate may be named by.
+const WORDS: &str = "\
+    abstract as async await become box break const continue crate data deriving do dyn else \
+    ensures enum extern false final fn for gen ghost if impl in let loop macro match mod move mut \
+    open override priv pub record ref requires return ruleset self static struct super trait true \
+    try type typeof unsafe unsized use virtual where while yield";
 
-/// Whether a kind or a wrapper cannot have this name.
-pub fn is_taken(name: &str) -> bool {
-    TAKEN.split(' ').any(|word| word == name)
+/// Names of calls that each wrapper has, that a clause gives a meaning, or that the language makes.
+const CALLS: &str = "\
+    can_cast cast clone_subtree drop result syntax the_data the_own the_row the_size the_type";
+
+/// Crates that what is written names.
+const CRATES: &str = "core rowan std";
+
+/// Why neither the language nor a kind or a wrapper can have a name.
+pub fn why_no_type(name: &str) -> Option<&'static str> {
+    if is_in(TAKEN, name) {
+        return Some("is a name that the written files need");
+    }
+    if !is_type_name(name) {
+        return Some("is not spelled as `InlineTable`");
+    }
+    if name.len() > MAX_LETTERS {
+        return Some("has more than 50 letters");
+    }
+    None
 }
 
-/// Whether a call cannot have this name.
-pub fn is_reserved(name: &str) -> bool {
-    RESERVED.split(' ').any(|word| word == name)
+/// Why a crate cannot have a name.
+pub fn why_no_crate(name: &str) -> Option<&'static str> {
+    if is_in(WORDS, name) || is_in(CRATES, name) {
+        return Some("is a name that no crate can have");
+    }
+    if !is_call_name(name) {
+        return Some("is not spelled as `toml_syntax`");
+    }
+    None
+}
+
+/// Whether a call can have this name.
+pub fn is_call(name: &str) -> bool {
+    is_call_name(name) && !is_in(WORDS, name) && !is_in(CALLS, name)
+}
+
+fn is_in(words: &str, name: &str) -> bool {
+    words.split(' ').any(|word| word == name)
 }
 
 /// Whether a name has the form of a type's, as `InlineTable`.
-pub fn is_type_name(name: &str) -> bool {
+fn is_type_name(name: &str) -> bool {
     name.starts_with(|first: char| first.is_ascii_uppercase()) && !name.contains('_')
 }
 
 /// Whether a name has the form of a call's, as `inline_table`.
-pub fn is_call_name(name: &str) -> bool {
+fn is_call_name(name: &str) -> bool {
     name.starts_with(|first: char| first.is_ascii_lowercase())
         && !name.contains(|character: char| character.is_ascii_uppercase())
 }

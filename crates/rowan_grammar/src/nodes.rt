@@ -2,9 +2,9 @@
 use crate::accessors::add_calls;
 use crate::calls::calls_of;
 use crate::grammar::{Item, Sort};
-use crate::reach::{Reach, steps_from};
-use crate::writer::{Scope, add_docs, fill};
-use std::alloc::AllocError;
+use crate::reach::{Reach, Step, steps_from};
+use crate::writer::{Scope, add_docs, arguments, fill, signature};
+use std::alloc::{AllocError, Global};
 
 const HEAD: &str = "\
 //! Wrappers of the nodes of $0.
@@ -13,6 +13,15 @@ use rowan::ast::{$1AstNode$2};
 use rowan::{$3SyntaxNode$4};
 use std::marker::Model;
 ";
+
+/// How long a kind and what is made of its node are together at most on one line.
+const MAX_ARM: usize = 70;
+
+/// How long what is made of a node is at most in one expression.
+const MAX_MADE: usize = 78;
+
+/// How long an alternative is at most in a variant on one line.
+const MAX_VARIANT: usize = 46;
 
 /// What the calls of a grammar need.
 #[derive(Clone, Copy)]
@@ -111,11 +120,9 @@ impl AstNode for $0 {
     ghost node_of = { λ wrapper. wrapper };
 
     fn can_cast(kind: Kind) -> bool {
-        matches!(kind, Kind::$0)
-    }
+";
 
-    fn cast(syntax: SyntaxNode<$3>) -> Option<$0>
-        ensures { let casting = casts_at kind_of is_$1 in
+const NODE_CAST: &str = "        ensures { let casting = casts_at kind_of is_$1 in
             option_map (λ wrapper. wrapper) result ≡ if_casts casting syntax }
     {
         if $0::can_cast(syntax.kind()) {
@@ -138,13 +145,27 @@ fn add_node(out: &mut String, scope: &Scope<'_>, item: &Item) -> Result<(), Allo
     out.push('\n')?;
     add_docs(out, "", item.docs.as_str(), item.rule.as_str())?;
     let name = item.name.as_str();
-    fill(
-        out,
-        NODE,
-        &[name, item.snake.as_str(), scope.crate_name, scope.language],
-    )?;
+    let values = [name, item.snake.as_str(), scope.crate_name, scope.language];
+    fill(out, NODE, &values)?;
+    let kind = format!(in scope.alloc; "Kind::{name}")?;
+    let matched = arguments(scope.alloc, "kind", kind.as_str(), "")?;
+    let cast = cast_head(scope, name)?;
+    writeln!(out, "        matches!({matched})\n    }}\n\n{cast}")?;
+    fill(out, NODE_CAST, &values)?;
     let calls = calls_of(scope.alloc, scope.text, scope.grammar, item)?;
     add_calls(out, scope, name, calls.as_slice())
+}
+
+/// The head of `cast` for a wrapper of this name.
+fn cast_head(scope: &Scope<'_>, name: &str) -> Result<String, AllocError> {
+    let parameter = format!(in scope.alloc; "syntax: SyntaxNode<{}>", scope.language)?;
+    let result = format!(in scope.alloc; "Option<{name}>")?;
+    signature(
+        scope.alloc,
+        "    fn cast",
+        parameter.as_str(),
+        result.as_str(),
+    )
 }
 
 const CHOICE_HEAD: &str = "\
@@ -178,7 +199,7 @@ const CHOICE_CAST: &str = "            _ => false,
         }
     }
 
-    fn cast(syntax: SyntaxNode<$2>) -> Option<$0>
+$0
         ensures { let casting = casts_at kind_of is_$1 in
             option_map node_in_$1 result ≡ if_casts casting syntax }
     {
@@ -223,8 +244,13 @@ fn add_choice(
     fill(out, CHOICE_SYNTAX, &[lemmas.as_str(), scope.language])?;
     for part in item.parts.iter() {
         let one = scope.grammar.name(part.target.unwrap_or(usize::MAX));
-        let names = [item.name.as_str(), one];
-        fill(out, "            $0::$1(node) => node.syntax(),\n", &names)?;
+        let variant = format!(in scope.alloc; "{}::{one}", item.name)?;
+        let template = match variant.len() {
+            0..=64 => "            $0(node) => node.syntax(),\n",
+            65..=79 => "            $0(node) =>\n                node.syntax(),\n",
+            _ => "            $0(\n                node,\n            ) => node.syntax(),\n",
+        };
+        fill(out, template, &[variant.as_str()])?;
     }
     fill(out, CHOICE_END, &[item.snake.as_str()])
 }
@@ -235,7 +261,12 @@ fn add_variants(out: &mut String, scope: &Scope<'_>, item: &Item) -> Result<(), 
     for part in item.parts.iter() {
         let target = part.target.unwrap_or(usize::MAX);
         add_docs(out, "    ", scope.grammar.docs(target), "")?;
-        fill(out, "    $0($0),\n", &[scope.grammar.name(target)])?;
+        let name = scope.grammar.name(target);
+        let template = match name.len() > MAX_VARIANT {
+            true => "    $0(\n        $0,\n    ),\n",
+            false => "    $0($0),\n",
+        };
+        fill(out, template, &[name])?;
     }
     Ok(())
 }
@@ -257,11 +288,8 @@ fn add_casts(
             )?;
         }
     }
-    fill(
-        out,
-        CHOICE_CAST,
-        &[item.name.as_str(), item.snake.as_str(), scope.language],
-    )?;
+    let cast = cast_head(scope, item.name.as_str())?;
+    fill(out, CHOICE_CAST, &[cast.as_str(), item.snake.as_str()])?;
     for (number, step) in reached.steps.iter().enumerate() {
         if scope.grammar.sort(step.item) == Sort::Node {
             add_cast_arm(out, scope, &reached, number)?;
@@ -281,8 +309,25 @@ fn add_cast_arm(
         return Ok(());
     };
     let kind = scope.grammar.name(step.item);
-    let mut made = format!(in scope.alloc; "{kind} {{ syntax }}")?;
-    let mut at = *step;
+    match made_of(scope, reached, *step)? {
+        None => add_long_arm(out, scope, reached, *step),
+        Some(made) if kind.len().saturating_add(made.len()) <= MAX_ARM => {
+            writeln!(out, "            Kind::{kind} => Some({made}),")
+        }
+        Some(made) => {
+            let start = "            Kind::";
+            writeln!(
+                out,
+                "{start}{kind} => {{\n                Some({made})\n            }}"
+            )
+        }
+    }
+}
+
+/// A node in its variants in one expression, if that is short.
+fn made_of(scope: &Scope<'_>, reached: &Reach, step: Step) -> Result<Option<String>, AllocError> {
+    let mut made = format!(in scope.alloc; "{} {{ syntax }}", scope.grammar.name(step.item))?;
+    let mut at = step;
     for _ in 0..reached.steps.len() {
         let Some(before) = reached.steps.get(at.from) else {
             break;
@@ -293,14 +338,55 @@ fn add_cast_arm(
         let whole = scope.grammar.name(before.item);
         let one = scope.grammar.name(at.item);
         made = format!(in scope.alloc; "{whole}::{one}({made})")?;
+        if made.len() > MAX_MADE {
+            return Ok(None);
+        }
         at = *before;
     }
-    let template = match kind.len().saturating_add(made.len()) > 70 {
-        true => "            Kind::$0 => {\n                Some($1)\n            }\n",
-        false => "            Kind::$0 => Some($1),\n",
-    };
-    fill(out, template, &[kind, made.as_str()])
+    Ok(Some(made))
 }
+
+/// An arm that makes the alternative by which a node was reached, and then puts it into its variant.
+fn add_long_arm(
+    out: &mut String,
+    scope: &Scope<'_>,
+    reached: &Reach,
+    step: Step,
+) -> Result<(), AllocError> {
+    let kind = scope.grammar.name(step.item);
+    let one = scope.grammar.name(step.top);
+    let whole = match reached.steps.first() {
+        Some(first) => scope.grammar.name(first.item),
+        None => "",
+    };
+    fill(out, "            Kind::$0 => {\n", &[kind])?;
+    let template = match step.top == step.item {
+        true => "                let node = $0 { syntax };\n",
+        false => "                let node = $0::cast(syntax)?;\n",
+    };
+    fill(out, template, &[one])?;
+    let variant = format!(in scope.alloc; "{whole}::{one}")?;
+    add_wrap(out, variant.as_str())?;
+    out.push_str("                Some(node)\n            }\n")
+}
+
+/// Adds a statement that puts a node into a variant, on as many lines as `rt fmt` takes.
+fn add_wrap(out: &mut String, variant: &str) -> Result<(), AllocError> {
+    let template = match variant.len() {
+        0..=66 => "                let node = $0(node);\n",
+        67..=72 =>
+            "                let node = $0(\n                    node,\n                );\n",
+        73 => "                let node =\n                    $0(node);\n",
+        _ => LONG_WRAP,
+    };
+    fill(out, template, &[variant])
+}
+
+const LONG_WRAP: &str = "                let node =
+                    $0(
+                        node,
+                    );
+";
 
 /// The lemmas that what casts to an alternative casts to the whole.
 fn lemmas_of(scope: &Scope<'_>, item: &Item) -> Result<String, AllocError> {

@@ -3,7 +3,10 @@ ghost use Rattle.std.specs.Prelude.{◌≡◌, IfErr};
 
 use rowan::{Fault, TextRange, TextSize};
 use rowan_parser::{LineIndex, Renderer, Severity};
-use std::alloc::Global;
+use std::alloc::{AllocError, Global};
+
+/// How many problems of one severity are printed.
+const MAX_PRINTED: usize = 20;
 
 /// What is wrong with a grammar, and where.
 #[derive(Drop)]
@@ -25,7 +28,16 @@ pub fn text_at(text: &str, range: TextRange) -> &str {
     text.get(start..end).unwrap_or("")
 }
 
-/// Prints the problems in the order of their places.
+/// The part of a text that has been found; nothing where none was.
+pub fn part_of(text: &str, range: Option<TextRange>) -> &str {
+    match range {
+        Some(range) => text_at(text, range),
+        None => "",
+    }
+}
+
+/// Prints the problems in the order of their places: the first 20 errors and the first 20 warnings,
+/// and how many more there are.
 pub fn render(
     alloc: Global,
     problems: &mut Vec<Problem>,
@@ -41,9 +53,30 @@ pub fn render(
         name,
     };
     let mut out = String::new(alloc);
+    let mut errors = 0usize;
+    let mut warnings = 0usize;
     for problem in problems.iter() {
-        let message = problem.message.as_str();
-        renderer.diagnostic(&mut out, problem.severity, message, problem.range)?;
+        let severity = problem.severity;
+        let count = if severity == Severity::Error {
+            &mut errors
+        } else {
+            &mut warnings
+        };
+        *count = count.saturating_add(1);
+        if *count <= MAX_PRINTED {
+            renderer.diagnostic(&mut out, severity, problem.message.as_str(), problem.range)?;
+        }
     }
+    add_more(&mut out, errors, "error")?;
+    add_more(&mut out, warnings, "warning")?;
     Ok(out)
+}
+
+/// How many of so many problems were not printed.
+fn add_more(out: &mut String, count: usize, what: &str) -> Result<(), AllocError> {
+    match count.saturating_sub(MAX_PRINTED) {
+        0 => Ok(()),
+        1 => writeln!(out, "1 more {what}"),
+        more => writeln!(out, "{more} more {what}s"),
+    }
 }

@@ -3,11 +3,13 @@ use crate::grammar::{Grammar, Sort};
 use std::alloc::{AllocError, Global};
 use std::collections::HashMap;
 
-/// An item that was reached, and the number of the step whose alternative it is.
+/// An item that was reached, the number of the step whose alternative it is, and the alternative of
+/// the first item by which it was reached.
 #[derive(Clone, Copy, PartialEq, Eq, Debug)]
 pub struct Step {
     pub item: usize,
     pub from: usize,
+    pub top: usize,
 }
 
 /// The items to which one leads, itself first, each with its alternatives behind it.
@@ -16,8 +18,18 @@ pub struct Reach {
     pub steps: Vec<Step>,
     /// The first item that was reached again, at which the search ended.
     pub twice: Option<usize>,
-    /// Whether that item leads to itself.
-    pub is_cycle: bool,
+    /// How many alternatives were looked at.
+    pub looks: usize,
+}
+
+impl Reach {
+    pub fn nothing(alloc: Global) -> Reach {
+        Reach {
+            steps: Vec::new(alloc),
+            twice: None,
+            looks: 0,
+        }
+    }
 }
 
 /// The items to which this one leads.
@@ -25,51 +37,177 @@ pub fn steps_from(alloc: Global, grammar: &Grammar, start: usize) -> Result<Reac
     let mut steps: Vec<Step> = Vec::new(alloc);
     let mut found: HashMap<usize, usize> = HashMap::new(alloc);
     let mut open: Vec<Step> = Vec::new(alloc);
+    let mut looks = 0usize;
+    let mut twice = None;
     open.push(Step {
         item: start,
         from: 0,
+        top: start,
     })?;
     for number in 0..=grammar.items.len() {
         let Some(step) = open.pop() else {
             break;
         };
         if found.contains_key(&step.item) {
-            let is_cycle = leads_back(steps.as_slice(), step);
-            let twice = Some(step.item);
-            return Ok(Reach {
-                steps,
-                twice,
-                is_cycle,
-            });
+            twice = Some(step.item);
+            break;
         }
         found.insert(step.item, number)?;
         steps.push(step)?;
+        looks = looks.saturating_add(1);
         if grammar.sort(step.item) == Sort::Choice {
-            for part in grammar.parts(step.item).iter().rev() {
+            let parts = grammar.parts(step.item);
+            looks = looks.saturating_add(parts.len());
+            for part in parts.iter().rev() {
                 if let Some(item) = part.target {
-                    open.push(Step { item, from: number })?;
+                    let from = number;
+                    let top = if number == 0 { item } else { step.top };
+                    open.push(Step { item, from, top })?;
                 }
             }
         }
     }
     Ok(Reach {
         steps,
-        twice: None,
-        is_cycle: false,
+        twice,
+        looks,
     })
 }
 
-/// Whether a step reaches an item from which it came.
-fn leads_back(steps: &[Step], step: Step) -> bool {
-    let mut at = step;
-    for _ in 0..steps.len() {
-        let Some(before) = steps.get(at.from) else {
-            return false;
-        };
-        if before.item == step.item {
-            return true;
+/// An item that is to be looked at, or whose alternatives were.
+#[derive(Clone, Copy)]
+struct Visit {
+    item: usize,
+    is_done: bool,
+}
+
+/// The numbers of the choices, each behind those among its alternatives, where none leads to
+/// itself.
+pub fn choices_of(alloc: Global, grammar: &Grammar) -> Result<Vec<usize>, AllocError> {
+    let mut choices = Vec::new(alloc);
+    let mut is_known: Vec<bool> = vec![in alloc; false; grammar.items.len()]?;
+    for (index, item) in grammar.items.iter().enumerate() {
+        if item.sort == Sort::Choice {
+            add_choices(alloc, grammar, &mut choices, &mut is_known, index)?;
         }
-        at = *before;
+    }
+    Ok(choices)
+}
+
+/// Adds the choices to which one leads and that are not known, and then itself.
+fn add_choices(
+    alloc: Global,
+    grammar: &Grammar,
+    choices: &mut Vec<usize>,
+    is_known: &mut Vec<bool>,
+    start: usize,
+) -> Result<(), AllocError> {
+    let mut open: Vec<Visit> = Vec::new(alloc);
+    open.push(to_visit(start))?;
+    for _ in 0..usize::MAX {
+        let Some(Visit { item, is_done }) = open.pop() else {
+            break;
+        };
+        if is_done {
+            choices.push(item)?;
+        } else if grammar.sort(item) == Sort::Choice && set(is_known, item) {
+            let is_done = true;
+            open.push(Visit { item, is_done })?;
+            for part in grammar.parts(item).iter() {
+                if let Some(item) = part.target {
+                    open.push(to_visit(item))?;
+                }
+            }
+        }
+    }
+    Ok(())
+}
+
+fn to_visit(item: usize) -> Visit {
+    Visit {
+        item,
+        is_done: false,
+    }
+}
+
+/// The choices that may lead to an item in two ways, each behind those among its alternatives: what
+/// they lead to is an alternative more than once.
+pub fn doubtful_choices(alloc: Global, grammar: &Grammar) -> Result<Vec<usize>, AllocError> {
+    let mut doubtful = Vec::new(alloc);
+    let mut is_doubtful = shared_items(alloc, grammar)?;
+    for index in choices_of(alloc, grammar)?.iter() {
+        if leads_to(grammar, *index, is_doubtful.as_slice()) {
+            set(&mut is_doubtful, *index);
+            doubtful.push(*index)?;
+        }
+    }
+    Ok(doubtful)
+}
+
+/// To how many nodes all choices lead together, where each leads to a node in one way: what is
+/// written for choices is as long as that.
+pub fn count_arms(alloc: Global, grammar: &Grammar) -> Result<usize, AllocError> {
+    let mut counts: Vec<usize> = vec![in alloc; 1; grammar.items.len()]?;
+    let mut total = 0usize;
+    for index in choices_of(alloc, grammar)?.iter() {
+        let count = sum_of(grammar, *index, counts.as_slice());
+        total = total.saturating_add(count);
+        if let Some(slot) = counts.get_mut(*index) {
+            *slot = count;
+        }
+    }
+    Ok(total)
+}
+
+/// The count of a choice, from those of its alternatives.
+fn sum_of(grammar: &Grammar, choice: usize, counts: &[usize]) -> usize {
+    let mut sum = 0usize;
+    for part in grammar.parts(choice).iter() {
+        if let Some(target) = part.target {
+            sum = sum.saturating_add(counts.get(target).copied().unwrap_or(0));
+        }
+    }
+    sum
+}
+
+/// Which items are alternatives more than once.
+fn shared_items(alloc: Global, grammar: &Grammar) -> Result<Vec<bool>, AllocError> {
+    let mut is_used: Vec<bool> = vec![in alloc; false; grammar.items.len()]?;
+    let mut is_shared: Vec<bool> = vec![in alloc; false; grammar.items.len()]?;
+    for item in grammar.items.iter() {
+        if item.sort == Sort::Choice {
+            for part in item.parts.iter() {
+                let Some(target) = part.target else {
+                    continue;
+                };
+                if !set(&mut is_used, target) {
+                    set(&mut is_shared, target);
+                }
+            }
+        }
+    }
+    Ok(is_shared)
+}
+
+/// Whether one of the alternatives of a choice is marked.
+pub fn leads_to(grammar: &Grammar, choice: usize, marks: &[bool]) -> bool {
+    for part in grammar.parts(choice).iter() {
+        if let Some(target) = part.target {
+            if marks.get(target).copied().unwrap_or(false) {
+                return true;
+            }
+        }
     }
     false
+}
+
+/// Sets a mark. Says whether it was not set before; of what has no mark that it was.
+pub fn set(marks: &mut Vec<bool>, index: usize) -> bool {
+    match marks.get_mut(index) {
+        Some(mark) if !*mark => {
+            *mark = true;
+            true
+        }
+        _ => false,
+    }
 }

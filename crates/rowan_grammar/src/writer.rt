@@ -36,6 +36,9 @@ impl Scope<'_> {
 /// The longest line of what is written, where it can be broken.
 const WIDTH: usize = 100;
 
+/// How long arguments on one line may be, and the elements of a list.
+pub const ARGUMENTS: usize = 60;
+
 /// Adds a template, in which `$0` stands for the first of the values, `$1` for the second, and so
 /// on up to `$9`. What there is no value for is left out.
 pub fn fill(out: &mut String, template: &str, values: &[&str]) -> Result<(), AllocError> {
@@ -58,6 +61,53 @@ fn value_before<'a>(piece: &str, values: &[&'a str]) -> &'a str {
         Some(value) => value,
         None => "",
     }
+}
+
+/// The head of a function of one parameter, which has a line of its own where one line is too
+/// short. The start is that of the line up to the parenthesis.
+pub fn signature(
+    alloc: Global,
+    start: &str,
+    parameter: &str,
+    gives: &str,
+) -> Result<String, AllocError> {
+    let line = format!(in alloc; "{start}({parameter}) -> {gives}")?;
+    if line.len() > WIDTH {
+        return format!(in alloc; "{start}(\n        {parameter},\n    ) -> {gives}");
+    }
+    Ok(line)
+}
+
+/// Two arguments of a call in a function's body, each on a line of its own where they are long, with
+/// this end behind the second one.
+pub fn arguments(
+    alloc: Global,
+    first: &str,
+    second: &str,
+    end: &str,
+) -> Result<String, AllocError> {
+    let line = format!(in alloc; "{first}, {second}")?;
+    if line.len() > ARGUMENTS {
+        let indent = "            ";
+        return format!(in alloc; "\n{indent}{first},\n{indent}{second}{end}\n        ");
+    }
+    Ok(line)
+}
+
+/// Adds an arm of a `match`. What it gives has a line of its own where one line is too short.
+pub fn add_arm(
+    out: &mut String,
+    indent: &str,
+    pattern: &str,
+    body: &str,
+) -> Result<(), AllocError> {
+    let len = indent.len().saturating_add(pattern.len());
+    let len = len.saturating_add(body.len()).saturating_add(" => ,".len());
+    let template = match len > WIDTH {
+        true => "$0$1 =>\n$0    $2,\n",
+        false => "$0$1 => $2,\n",
+    };
+    fill(out, template, &[indent, pattern, body])
 }
 
 /// Lines that import names of one module, as many in a line as it takes.

@@ -5,31 +5,28 @@ ghost use Rattle.rowan_parser.specs.Parsing.{WhyNoTree};
 
 use crate::calls::calls_of;
 use crate::checks::Checker;
-use crate::grammar::{Grammar, Sort};
+use crate::grammar::{Grammar, Sort, add_numbers, kinds_of};
 use crate::kinds::{kinds_code, kinds_specs};
 use crate::nodes::nodes_code;
 use crate::parser::parse;
-use crate::place::{Problem, render, text_at};
-use crate::reach::steps_from;
+use crate::place::{Problem, part_of, render};
+use crate::reach::choices_of;
 use crate::reader::Reader;
 use crate::specs::{cast_lemmas, casts_specs, nodes_in};
 use crate::syntax::Grammars;
 use crate::writer::Scope;
-use rowan::{Fault, SyntaxNode, TextRange};
+use rowan::{Fault, SyntaxNode};
 use rowan_parser::{Severity, SyntaxError};
 use std::alloc::{AllocError, Global};
-
-/// The line with which each written file of code begins.
-pub const MARK: &str = "// Written by rowan_grammar: change the grammar, and not this file.\n";
-
-/// The same line of a file of definitions or proofs.
-pub const MARK_ANTT: &str = "-- Written by rowan_grammar: change the grammar, and not this file.\n";
 
 /// A file of the crate, by its path in the crate's folder.
 #[derive(Debug, Drop)]
 pub struct File {
     pub path: String,
-    pub text: String,
+    /// The line with which the file begins, by which it is known as one of this grammar.
+    pub mark: String,
+    /// What the file has, with its mark; `None` where the grammar gives no such file.
+    pub text: Option<String>,
 }
 
 /// How much a grammar has.
@@ -47,15 +44,33 @@ pub struct Written {
     pub messages: String,
     pub has_errors: bool,
     pub summary: Summary,
-    /// The files; none where there are errors.
+    /// The files, if they were asked for; none where there are errors.
     pub files: Vec<File>,
 }
 
-/// Reads a grammar that is called by this name in messages, and writes the files of its language.
+/// Reads a grammar that is called by this name in messages, and says what is wrong with it. No file
+/// is written.
 ///
 /// Errors: `TextTooLong` if the text has more than 4,294,967,295 bytes; `TooManyChildren` if a node
 /// of its tree would have more children than that; `Memory` if an allocation failed.
+pub fn check(alloc: Global, text: &str, name: &str) -> Result<Written, Fault>
+    ensures err { IfErr result (WhyNoTree text.now) }
+    ensures too_long { byte_limit < length text.now → result ≡ Err Fault.TextTooLong }
+{
+    made_of(alloc, text, name, false)
+}
+
+/// Reads a grammar as `check` does, and writes the files of its language if nothing is wrong.
+///
+/// Errors: those of `check`.
 pub fn generate(alloc: Global, text: &str, name: &str) -> Result<Written, Fault>
+    ensures err { IfErr result (WhyNoTree text.now) }
+    ensures too_long { byte_limit < length text.now → result ≡ Err Fault.TextTooLong }
+{
+    made_of(alloc, text, name, true)
+}
+
+fn made_of(alloc: Global, text: &str, name: &str, has_files: bool) -> Result<Written, Fault>
     ensures err { IfErr result (WhyNoTree text.now) }
     ensures too_long { byte_limit < length text.now → result ≡ Err Fault.TextTooLong }
 {
@@ -76,10 +91,11 @@ pub fn generate(alloc: Global, text: &str, name: &str) -> Result<Written, Fault>
         alloc,
         text,
         problems,
+        looks: 0,
     };
     checker.check(&mut grammar)?;
     let Checker { mut problems, .. } = checker;
-    answer(alloc, text, name, &grammar, &mut problems)
+    answer(alloc, text, name, &grammar, &mut problems, has_files)
 }
 
 /// The errors of a parse as problems.
@@ -95,21 +111,22 @@ fn problems_of(alloc: Global, errors: &[SyntaxError]) -> Result<Vec<Problem>, Al
     Ok(problems)
 }
 
-/// The messages, and the files where no problem is an error.
+/// The messages, and the files if they are wanted and no problem is an error.
 fn answer(
     alloc: Global,
     text: &str,
     name: &str,
     grammar: &Grammar,
     problems: &mut Vec<Problem>,
+    has_files: bool,
 ) -> Result<Written, Fault>
     ensures { IfErr result (λ e. e ≡ Fault.Memory) }
 {
     let has_errors = problems.iter().any(is_error);
     let messages = render(alloc, problems, text, name)?;
-    let files = match has_errors {
-        true => Vec::new(alloc),
-        false => files_of(alloc, text, grammar)?,
+    let files = match has_files && !has_errors {
+        true => files_of(alloc, text, name, grammar)?,
+        false => Vec::new(alloc),
     };
     let summary = summary_of(alloc, text, grammar)?;
     Ok(Written {
@@ -145,42 +162,15 @@ fn summary_of(alloc: Global, text: &str, grammar: &Grammar) -> Result<Summary, A
     Ok(summary)
 }
 
-/// The numbers of the items of these sorts.
-fn numbers(alloc: Global, grammar: &Grammar, sorts: &[Sort]) -> Result<Vec<usize>, AllocError> {
-    let mut numbers = Vec::new(alloc);
-    for (index, item) in grammar.items.iter().enumerate() {
-        if sorts.iter().any(|sort| *sort == item.sort) {
-            numbers.push(index)?;
-        }
-    }
-    Ok(numbers)
-}
-
-/// The numbers of the choices, each behind those among its alternatives.
-fn choices_of(alloc: Global, grammar: &Grammar) -> Result<Vec<usize>, AllocError> {
-    let mut choices = Vec::new(alloc);
-    let mut is_there: Vec<bool> = vec![in alloc; false; grammar.items.len()]?;
-    for (index, item) in grammar.items.iter().enumerate() {
-        if item.sort == Sort::Choice {
-            let reached = steps_from(alloc, grammar, index)?;
-            for step in reached.steps.iter().rev() {
-                let is_known = is_there.get(step.item).copied().unwrap_or(true);
-                if grammar.sort(step.item) == Sort::Choice && !is_known {
-                    choices.push(step.item)?;
-                    if let Some(slot) = is_there.get_mut(step.item) {
-                        *slot = true;
-                    }
-                }
-            }
-        }
-    }
-    Ok(choices)
-}
-
-fn files_of(alloc: Global, text: &str, grammar: &Grammar) -> Result<Vec<File>, AllocError> {
-    let kinds = [Sort::Token, Sort::Trivia, Sort::Error, Sort::Node];
-    let kinds = numbers(alloc, grammar, &kinds)?;
-    let nodes = numbers(alloc, grammar, &[Sort::Node])?;
+fn files_of(
+    alloc: Global,
+    text: &str,
+    name: &str,
+    grammar: &Grammar,
+) -> Result<Vec<File>, AllocError> {
+    let kinds = kinds_of(alloc, grammar)?;
+    let mut nodes = Vec::new(alloc);
+    add_numbers(&mut nodes, grammar, &[Sort::Node])?;
     let choices = choices_of(alloc, grammar)?;
     let scope = Scope {
         alloc,
@@ -194,51 +184,70 @@ fn files_of(alloc: Global, text: &str, grammar: &Grammar) -> Result<Vec<File>, A
         nodes: nodes.as_slice(),
         choices: choices.as_slice(),
     };
-    files_in(alloc, &scope)
+    files_in(&scope, name)
 }
 
-fn files_in(alloc: Global, scope: &Scope<'_>) -> Result<Vec<File>, AllocError> {
-    let mut files = Vec::new(alloc);
-    add_file(alloc, &mut files, "src/kinds.rt", MARK, kinds_code(scope)?)?;
-    add_file(alloc, &mut files, "src/nodes.rt", MARK, nodes_code(scope)?)?;
+/// The files of a grammar that is called by this name. Without choices two of them have no text.
+fn files_in(scope: &Scope<'_>, name: &str) -> Result<Vec<File>, AllocError> {
+    let mut files = Vec::new(scope.alloc);
+    add_file(&mut files, "src/kinds.rt", name, Some(kinds_code(scope)?))?;
+    add_file(&mut files, "src/nodes.rt", name, Some(nodes_code(scope)?))?;
     add_file(
-        alloc,
         &mut files,
         "specs/Kinds.antt",
-        MARK_ANTT,
-        kinds_specs(scope)?,
+        name,
+        Some(kinds_specs(scope)?),
     )?;
     add_file(
-        alloc,
         &mut files,
         "specs/Casts.antt",
-        MARK_ANTT,
-        casts_specs(scope)?,
+        name,
+        Some(casts_specs(scope)?),
     )?;
-    if !scope.choices.is_empty() {
-        add_file(
-            alloc,
-            &mut files,
-            "specs/NodeIn.antt",
-            MARK_ANTT,
-            nodes_in(scope)?,
-        )?;
-        add_file(
-            alloc,
-            &mut files,
-            "proofs/CastLemmas.antt",
-            MARK_ANTT,
-            cast_lemmas(scope)?,
-        )?;
-    }
+    let (nodes, lemmas) = match scope.choices.is_empty() {
+        true => (None, None),
+        false => (Some(nodes_in(scope)?), Some(cast_lemmas(scope)?)),
+    };
+    add_file(&mut files, "specs/NodeIn.antt", name, nodes)?;
+    add_file(&mut files, "proofs/CastLemmas.antt", name, lemmas)?;
     Ok(files)
 }
 
-fn part_of(text: &str, range: Option<TextRange>) -> &str {
-    match range {
-        Some(range) => text_at(text, range),
-        None => "",
+/// Adds a file. Its text has the mark before it.
+fn add_file(
+    files: &mut Vec<File>,
+    path: &str,
+    name: &str,
+    rest: Option<String>,
+) -> Result<(), AllocError> {
+    let alloc = *files.allocator();
+    let mark = mark_of(alloc, path, name)?;
+    let text = match rest {
+        Some(rest) => Some(format!(in alloc; "{mark}{rest}")?),
+        None => None,
+    };
+    let path = String::from_str(alloc, path)?;
+    files.push(File { path, mark, text })?;
+    Ok(())
+}
+
+/// The first line of a file. It names the grammar as its folder does.
+fn mark_of(alloc: Global, path: &str, name: &str) -> Result<String, AllocError> {
+    let comment = match path.ends_with(".antt") {
+        true => "--",
+        false => "//",
+    };
+    let mut mark = format!(in alloc; "{comment} Written by rowan_grammar from ")?;
+    let start = name.rfind('/').map_or(0, |slash| slash.saturating_add(1));
+    for character in name.get(start..).unwrap_or("").chars() {
+        mark.push(if character.is_control() {
+            '?'
+        } else {
+            character
+        })?;
     }
+    mark.push_str(": change that, and not this file.\n")?;
+    Ok(mark)
 }
 
 fn error_name(grammar: &Grammar) -> &str {
@@ -248,18 +257,4 @@ fn error_name(grammar: &Grammar) -> &str {
         }
     }
     ""
-}
-
-fn add_file(
-    alloc: Global,
-    files: &mut Vec<File>,
-    path: &str,
-    mark: &str,
-    rest: String,
-) -> Result<(), AllocError> {
-    let mut text = String::from_str(alloc, mark)?;
-    text.push_str(rest.as_str())?;
-    let path = String::from_str(alloc, path)?;
-    files.push(File { path, text })?;
-    Ok(())
 }

@@ -5,120 +5,136 @@
 //!     rowan_grammar diff GRAMMAR FOLDER
 #![tactic(auto)]
 
-use anyhow::{Context, Result, bail};
-use rowan_grammar::{File, MARK, MARK_ANTT, Written, generate};
-use std::path::{Path, PathBuf};
+mod folder;
+
+use crate::folder::{Folder, is_in_the_way, is_other};
+use anyhow::{Context, Error, Result, bail};
+use rowan_grammar::{Written, generate};
 use std::process::ExitCode;
 use std::{env, fs};
 
 const USAGE: &str =
     "usage: rowan_grammar check GRAMMAR.. | write GRAMMAR FOLDER | diff GRAMMAR FOLDER";
 
-fn main(rt: HostRuntime) -> ExitCode {
-    match run(&rt) {
-        Ok(true) => ExitCode::SUCCESS,
-        Ok(false) => ExitCode::from(1),
-        Err(error) => {
-            // Where standard error takes no line either, the status alone tells.
-            let _ = eprintln!(rt; "rowan_grammar: {error:#}");
-            ExitCode::from(2)
-        }
-    }
+/// How a command ended, from the best to the worst. The number is the status.
+#[derive(Clone, Copy, PartialEq, Eq, PartialOrd, Ord)]
+enum End {
+    Well = 0,
+    Wrong = 1,
+    Failed = 2,
 }
 
-/// Does what the words behind the program's name ask for. Says whether all is well.
-fn run(rt: &HostRuntime) -> Result<bool> {
+fn main(rt: HostRuntime) -> ExitCode {
+    let end = match run(&rt) {
+        Ok(end) => end,
+        Err(error) => failed(&rt, &error),
+    };
+    ExitCode::from(end as u8)
+}
+
+fn failed(rt: &HostRuntime, error: &Error) -> End {
+    // Where standard error takes no line either, the status alone tells.
+    let _ = eprintln!(rt; "rowan_grammar: {error:#}");
+    End::Failed
+}
+
+/// Does what the words behind the program's name ask for.
+fn run(rt: &HostRuntime) -> Result<End> {
     let words: Vec<String> = env::args(rt)?.skip(1).collect(rt.alloc())?;
     let Some((command, rest)) = words.as_slice().split_first() else {
         bail!("{USAGE}");
     };
     match (command.as_str(), rest) {
-        ("check", [_, ..]) => check_all(rt, rest),
+        ("check", [_, ..]) => Ok(check_all(rt, rest)),
         ("write", [grammar, folder]) => write(rt, grammar.as_str(), folder.as_str()),
         ("diff", [grammar, folder]) => diff(rt, grammar.as_str(), folder.as_str()),
         _ => bail!("{USAGE}"),
     }
 }
 
-/// Prints what is wrong with each of the grammars, and how much those have that can be used.
-fn check_all(rt: &HostRuntime, names: &[String]) -> Result<bool> {
-    let mut is_well = true;
+/// Prints what is wrong with each of the grammars, and how much those have that can be used. Goes
+/// on behind one that cannot be read.
+fn check_all(rt: &HostRuntime, names: &[String]) -> End {
+    let mut worst = End::Well;
     for name in names.iter() {
-        is_well &= check(rt, name.as_str())?;
+        let end = match check(rt, name.as_str()) {
+            Ok(end) => end,
+            Err(error) => failed(rt, &error),
+        };
+        worst = worst.max(end);
     }
-    Ok(is_well)
+    worst
 }
 
-fn check(rt: &HostRuntime, name: &str) -> Result<bool> {
-    let made = read(rt, name)?;
+fn check(rt: &HostRuntime, name: &str) -> Result<End> {
+    let text = read(rt, name)?;
+    let made = rowan_grammar::check(rt.alloc(), text.as_str(), name).context(format_args!(
+        "reading {name}"
+    ))?;
+    print!(rt; "{}", made.messages)?;
     if made.has_errors {
-        return Ok(false);
+        return Ok(End::Wrong);
     }
     let kinds = made.summary.kinds;
     let wrappers = made.summary.wrappers;
     let calls = made.summary.calls;
     println!(rt; "{name}: kinds {kinds}, wrappers {wrappers}, accessors {calls}")?;
-    Ok(true)
+    Ok(End::Well)
 }
 
-/// Reads a grammar and prints what is wrong with it.
-fn read(rt: &HostRuntime, name: &str) -> Result<Written> {
+fn read(rt: &HostRuntime, name: &str) -> Result<String> {
     let text = fs::read_to_string(rt, name).context(format_args!("reading {name}"))?;
+    Ok(text)
+}
+
+/// What a grammar gives. Prints what is wrong with it.
+fn made_by(rt: &HostRuntime, name: &str) -> Result<Written> {
+    let text = read(rt, name)?;
     let made = generate(rt.alloc(), text.as_str(), name).context(format_args!("reading {name}"))?;
     print!(rt; "{}", made.messages)?;
     Ok(made)
 }
 
-/// Writes the files of a grammar into the folder of a crate. A file that the program did not write
-/// is left as it is, and then none is written.
-fn write(rt: &HostRuntime, name: &str, folder: &str) -> Result<bool> {
-    let made = read(rt, name)?;
-    for file in made.files.iter() {
-        let path = path_in(rt, folder, file)?;
-        let old = old_text(rt, path.as_path())?;
-        if !old.is_empty() && !old.starts_with(MARK) && !old.starts_with(MARK_ANTT) {
-            let path = file.path.as_str();
-            bail!("{folder}/{path} was not written by this program");
+/// Writes the files of a grammar into the folder of a crate, and removes those that it no longer
+/// gives: all of them, or none where one of another grammar or by hand stands in the way, or where
+/// one cannot be written.
+fn write(rt: &HostRuntime, name: &str, folder: &str) -> Result<End> {
+    let made = made_by(rt, name)?;
+    if made.has_errors {
+        return Ok(End::Wrong);
+    }
+    let folder = Folder { rt, name: folder };
+    let old = folder.old_texts(made.files.as_slice())?;
+    for (file, old) in made.files.iter().zip(old.iter()) {
+        if is_in_the_way(file, old.as_str()) {
+            bail!("{}/{} was not written for {name}", folder.name, file.path);
         }
     }
-    for file in made.files.iter() {
-        let path = path_in(rt, folder, file)?;
-        if old_text(rt, path.as_path())?.as_str() != file.text.as_str() {
-            let shown = file.path.as_str();
-            fs::write(rt, path.as_path(), file.text.as_str()).context(format_args!(
-                "writing {folder}/{shown}"
-            ))?;
-            println!(rt; "wrote {folder}/{shown}")?;
+    let mut changed = Vec::new(rt.alloc());
+    for (file, old) in made.files.iter().zip(old.iter()) {
+        if is_other(file, old.as_str()) {
+            changed.push(file)?;
         }
     }
-    Ok(!made.has_errors)
+    folder.replace(changed.as_slice())?;
+    Ok(End::Well)
 }
 
-/// Prints the names of the files in the folder of a crate that are not what the grammar gives.
-fn diff(rt: &HostRuntime, name: &str, folder: &str) -> Result<bool> {
-    let made = read(rt, name)?;
-    let mut is_well = !made.has_errors;
-    for file in made.files.iter() {
-        let path = path_in(rt, folder, file)?;
-        if old_text(rt, path.as_path())?.as_str() != file.text.as_str() {
-            is_well = false;
-            let shown = file.path.as_str();
-            println!(rt; "{folder}/{shown} is not what {name} gives")?;
+/// Prints the names of the files in the folder of a crate that are not what the grammar gives, or
+/// that it gives no longer.
+fn diff(rt: &HostRuntime, name: &str, folder: &str) -> Result<End> {
+    let made = made_by(rt, name)?;
+    if made.has_errors {
+        return Ok(End::Wrong);
+    }
+    let folder = Folder { rt, name: folder };
+    let old = folder.old_texts(made.files.as_slice())?;
+    let mut end = End::Well;
+    for (file, old) in made.files.iter().zip(old.iter()) {
+        if is_other(file, old.as_str()) {
+            end = End::Wrong;
+            println!(rt; "{}/{} is not what {name} gives", folder.name, file.path)?;
         }
     }
-    Ok(is_well)
-}
-
-fn path_in(rt: &HostRuntime, folder: &str, file: &File) -> Result<PathBuf> {
-    let path = Path::new(folder).join(rt.alloc(), file.path.as_str())?;
-    Ok(path)
-}
-
-/// The text of a file; nothing where there is none.
-fn old_text(rt: &HostRuntime, path: Path<'_>) -> Result<String> {
-    match fs::read_to_string(rt, path) {
-        Ok(text) => Ok(text),
-        Err(error) if error.kind() == std::io::ErrorKind::NotFound => Ok(String::new(rt.alloc())),
-        Err(error) => Err(error.into()),
-    }
+    Ok(end)
 }
