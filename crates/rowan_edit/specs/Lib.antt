@@ -17,6 +17,7 @@ pub mod Orders
 pub mod Plan
 pub mod PlanCode
 pub mod Positions
+pub mod Ranked
 pub mod Rewriting
 pub mod RewritingCalls
 pub mod Sites

@@ -14,6 +14,7 @@ pub mod laws;
 pub mod make;
 mod open_node;
 pub mod position;
+mod ranked;
 pub mod refusal;
 pub mod rewriting;
 pub mod syntax_editor;
