@@ -13,6 +13,7 @@ pub mod into_elements;
 pub mod laws;
 pub mod make;
 mod open_node;
+mod pointers;
 pub mod position;
 mod ranked;
 pub mod refusal;
