@@ -7,6 +7,7 @@ mod cursors;
 mod depth;
 mod draws;
 mod edits;
+mod many_edits;
 mod printed;
 mod reparse;
 mod timed;
@@ -40,6 +41,7 @@ usage: rowan_bench depth parse|compare|hash|show LEVELS
        rowan_bench walks events|offset|cover|copy|find|equal TURNS
        rowan_bench typed raw|walk|pointers TURNS
        rowan_bench edits replace|root|trace|cursors|green|editor|editor_root TURNS
+       rowan_bench many_edits forwards|backwards|mixed|finish TURNS
        rowan_bench printed debug_tree|json|value TURNS
        rowan_bench reparse list|table|tree_cursor|whole TURNS
 
@@ -93,6 +95,11 @@ edits   parses the s-expressions of standard input, and then in each turn
           green    makes them in green trees alone, and then a cursor at the last root
           editor   collects them by cursors at the first root, and makes them together
           editor_root does so, and makes a cursor at the new root
+many_edits parses the s-expressions of standard input, and then in each turn
+          forwards adds 100,000 replacements of tokens to an editor, in the order of the text
+          backwards adds them from the last to the first
+          mixed    adds them in a mixed order
+          finish   adds them in a mixed order, and makes them
 printed parses the s-expressions of standard input, makes a cursor at the root, and then in each turn
           debug_tree  prints the tree, a line for each node and token
           json        makes its compact JSON
@@ -133,6 +140,7 @@ fn run(rt: &HostRuntime) -> Result<()> {
         "walks" => walk(rt, words),
         "typed" => walk_typed(rt, words),
         "edits" => replace(rt, words),
+        "many_edits" => replace_many(rt, words),
         "printed" => print(rt, words),
         "reparse" => parse_anew(rt, words),
         _ => bail!("there is no such command"),
@@ -302,6 +310,18 @@ fn replace(rt: &HostRuntime, words: &[String]) -> Result<()> {
     let text = io::read_to_string(rt.alloc(), rt.reader())?;
     let parsed = sexp::parse(rt.alloc(), text.as_str())?;
     let (total, marks) = edits::time(rt, parsed.green(), operation, turns)?;
+    println!(rt; "{} ns, {marks}", total.as_nanos())?;
+    Ok(())
+}
+
+fn replace_many(rt: &HostRuntime, words: &[String]) -> Result<()> {
+    let operation = many_edits::Operation::from_word(word_at(words, 1)).context(
+        "forwards, backwards, mixed or finish is missing",
+    )?;
+    let turns = number_at(words, 2)?;
+    let text = io::read_to_string(rt.alloc(), rt.reader())?;
+    let parsed = sexp::parse(rt.alloc(), text.as_str())?;
+    let (total, marks) = many_edits::time(rt, parsed.green(), operation, turns)?;
     println!(rt; "{} ns, {marks}", total.as_nanos())?;
     Ok(())
 }

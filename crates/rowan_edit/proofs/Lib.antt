@@ -15,6 +15,9 @@ pub mod PlaceLemmas
 pub mod Places
 pub mod PlacedLaw
 pub mod PlanLemmas
+pub mod PointerLemmas
+pub mod RankLemmas
+pub mod RankedLemmas
 pub mod RewritingCallLemmas
 pub mod RewritingLemmas
 pub mod RunLemmas

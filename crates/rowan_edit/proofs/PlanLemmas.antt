@@ -27,12 +27,12 @@ EachEndsBefore es e = AllByRecursion (λ f. ends_before f e ≡ true) es
 abbrev pub EndsBeforeEach : Edit → List Edit → Type 0
 EndsBeforeEach e es = AllByRecursion (λ f. ends_before e f ≡ true) es
 
-all-both : {A : Type 0} (P : A → Type 0) (xs ys : List A) → AllByRecursion P (xs ++ ys)
+pub all-both : {A : Type 0} (P : A → Type 0) (xs ys : List A) → AllByRecursion P (xs ++ ys)
     → AllByRecursion P xs × AllByRecursion P ys
 all-both P [] ys a = (tt, a)
 all-both P (x ∷ xs) ys a = let r = all-both P xs ys a.1 in ((a.0, r.0), r.1)
 
-all-joined : {A : Type 0} (P : A → Type 0) (xs ys : List A) → AllByRecursion P xs
+pub all-joined : {A : Type 0} (P : A → Type 0) (xs ys : List A) → AllByRecursion P xs
     → AllByRecursion P ys → AllByRecursion P (xs ++ ys)
 all-joined P [] ys a b = b
 all-joined P (x ∷ xs) ys a b = (a.0, all-joined P xs ys a.1 b)
@@ -81,13 +81,6 @@ ends-before-rest e f fs t h = (h, rest fs t.1)
     rest : (gs : List Edit) → EndsBeforeEach f gs → EndsBeforeEach e gs
     rest [] a = tt
     rest (g ∷ gs) a = (ends-trans e f g h t.0 a.0, rest gs a.1)
-
-turn-behind : (es fs : List Edit) → EndInTurn (es ++ fs) → EndInTurn fs
-turn-behind [] fs t = t
-turn-behind (e ∷ es) fs t = turn-behind es fs t.2
-
-pub order-behind : (root : NodeTerm) (es fs : List Edit) → AreInOrder root (es ++ fs) → EndInTurn fs
-order-behind root es fs h = turn-behind es fs h.in_turn
 
 -- ---- conflicts
 

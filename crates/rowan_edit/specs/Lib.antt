@@ -16,7 +16,9 @@ pub mod OpenNode
 pub mod Orders
 pub mod Plan
 pub mod PlanCode
+pub mod Pointers
 pub mod Positions
+pub mod Ranked
 pub mod Rewriting
 pub mod RewritingCalls
 pub mod Sites

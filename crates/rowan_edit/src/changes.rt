@@ -102,8 +102,8 @@ impl Changes {
     /// The pointer with its range moved as `moved` does. `None` where that is.
     ///
     /// It goes by ranges alone: a node inside of which an edit was made has another range, and at
-    /// the range to which this moves another node may be found, or none. The node itself is where
-    /// `Edited::moved_path` says.
+    /// the range to which this moves another node may be found, or none. `Edited::moved_pointer`
+    /// answers a pointer of the node itself.
     pub fn moved_pointer<L: Language>(&self, pointer: SyntaxNodePtr<L>) -> Option<SyntaxNodePtr<L>>
         ensures { result ≡ option_map (λ range. record { kind = pointer.kind; range = range })
             (moved_through self.now pointer.range) }

@@ -2,8 +2,8 @@
 ghost use Rattle.std.specs.Prelude.{◌≡◌, ◌≤◌, [], ◌∷◌, ◌++◌, IfOk, IfErr};
 ghost use Rattle.rowan_green.specs.Fits.{byte_limit};
 ghost use Rattle.rowan_green.specs.Term.{sum_of_lens};
-ghost use Rattle.rowan_edit.specs.Edit.{lies_before, ends_before};
-ghost use Rattle.rowan_edit.specs.GreenEditor.{edit_of, ArePairs};
+ghost use Rattle.rowan_edit.specs.Edit.{lies_before};
+ghost use Rattle.rowan_edit.specs.GreenEditor.{ArePairs};
 
 use crate::changes::Change;
 use rowan_green::fault::Fault;
@@ -20,15 +20,6 @@ pub(crate) struct Splice {
     pub(crate) end: usize,
     pub(crate) range: TextRange,
     pub(crate) new: Vec<GreenElement>,
-}
-
-impl Splice {
-    /// Whether this edit ends before another one begins.
-    pub(crate) fn ends_before(&self, next: &Splice) -> bool
-        ensures { result ≡ ends_before (edit_of self.now) (edit_of next.now) }
-    {
-        lies_before(&self.parent, self.end, &next.parent, next.start)
-    }
 }
 
 /// The change of each edit. Only where the new elements' texts are past the limit together, its new
@@ -65,7 +56,7 @@ fn len_of(elements: &[GreenElement]) -> TextSize
 
 /// Whether what ends at an index among the children of the node at a path lies before an index
 /// among those of another.
-fn lies_before(parent: &[usize], end: usize, other: &[usize], start: usize) -> bool
+pub(crate) fn lies_before(parent: &[usize], end: usize, other: &[usize], start: usize) -> bool
     ensures { result ≡ lies_before parent.now end (other.now ++ start ∷ []) }
 {
     for (depth, place) in parent.iter().enumerate() {

@@ -1,6 +1,6 @@
 //! An editor of a green tree.
 ghost use Rattle.std.specs.Prelude.{◌≡◌, List, [], false, IfOk, IfErr, OnOk, OnErr};
-ghost use Rattle.std.specs.Prelude.{◌≢◌, ◌≤◌, ◌+◌, true, length, take, drop, Some, IfSome, IsNone};
+ghost use Rattle.std.specs.Prelude.{◌≢◌, ◌≤◌, ◌+◌, true, Some, IfSome, IsNone};
 ghost use Rattle.std.specs.List.{AllByRecursion};
 ghost use Rattle.rowan_green.specs.declared.utility_types.NodeOrToken.TheVariants.{Node};
 ghost use Rattle.rowan_green.specs.Fits.{FitsNode, byte_limit};
@@ -8,15 +8,17 @@ ghost use Rattle.rowan_green.specs.Path.{subterm, offset};
 ghost use Rattle.rowan_green.specs.Search.{child_start};
 ghost use Rattle.rowan_green.specs.Term.{NodeTerm, node_children, node_len};
 ghost use Rattle.rowan_edit.specs.Changes.{changes_of};
-ghost use Rattle.rowan_edit.specs.Edit.{Edit, edited, conflicts, ends_before};
-ghost use Rattle.rowan_edit.specs.Plan.{with_edit, IsOf, WhyRefused, EndInTurn, HasConflict};
-ghost use Rattle.rowan_edit.specs.GreenEditor.{edit_of, edits_of, IsPlaceFor, IsEditIn};
+ghost use Rattle.rowan_edit.specs.Edit.{Edit, edited, conflicts};
+ghost use Rattle.rowan_edit.specs.Plan.{with_edit, IsOf, WhyRefused, AreInOrder};
+ghost use Rattle.rowan_edit.specs.GreenEditor.{edits_of};
+ghost use Rattle.rowan_edit.specs.Ranked.{IsEditIn};
 ghost use Rattle.rowan_edit.specs.Limits.{WhyNotEdited};
 ghost use Rattle.rowan_edit.specs.TextEdits.{IsEdited};
 
 use crate::changes::{Changes, Edited};
 use crate::edit::{Splice, changes_of};
 use crate::edit_sites::EditSites;
+use crate::ranked::{Body, Rank, RankedEdits, has_room, in_order};
 use crate::refusal::Refusal;
 use crate::zipper::Zipper;
 use rowan_green::fault::Fault;
@@ -24,16 +26,20 @@ use rowan_green::green::{GreenElement, GreenNode};
 use rowan_green::text::{TextRange, TextSize};
 use rowan_green::utility_types::NodeOrToken;
 use std::alloc::Global;
+use std::collections::BTreeMap;
 use std::marker::Model;
 use std::ops::Range;
 
 /// Edits of one green tree, which are made together, in one pass. All places are those of the tree
 /// as it was given, whatever else is edited.
+///
+/// The edits are kept in the order of their places, in whatever order they are added: one more is
+/// compared with O(log n) of n others, and moves none of their elements.
 #[derive(Drop)]
 pub struct GreenEditor {
     alloc: Global,
     root: GreenNode,
-    edits: Vec<Splice>,
+    edits: RankedEdits,
 }
 
 impl Model for GreenEditor {
@@ -44,11 +50,11 @@ impl Model for GreenEditor {
 
     ghost coded = { coded_plan };
 
-    ghost use Rattle.rowan_edit.specs.GreenEditor.{edits_of, AreKept};
+    ghost use Rattle.rowan_edit.specs.Ranked.{edits_in, AreKept};
 
-    ghost view = { λ e. record { root = e.root; edits = edits_of e.edits.items } };
+    ghost view = { λ e. record { root = e.root; edits = edits_in e.edits.entries } };
 
-    ghost invariant = { λ e. AreKept e.root e.edits.items };
+    ghost invariant = { λ e. AreKept e.root e.edits.entries };
 }
 
 impl GreenEditor {
@@ -60,7 +66,7 @@ impl GreenEditor {
         Ok(GreenEditor {
             alloc,
             root: root.clone()?,
-            edits: Vec::new(alloc),
+            edits: BTreeMap::new(alloc),
         })
     }
 
@@ -101,11 +107,12 @@ impl GreenEditor {
         } in IfErr result (WhyRefused self.old edit) }
         ensures unchanged { OnErr result (self.new ≡ self.old) }
     {
-        let edit = edit_in(self.alloc, &self.root, parent, children, new)?;
-        let Some(index) = place_for(&self.edits, &edit) else {
+        let count = self.edits.len();
+        let (rank, body) = edit_in(self.alloc, &self.root, parent, children, new, count)?;
+        if !has_room(&self.edits, &rank) {
             return Err(Refusal::Conflict);
-        };
-        self.edits.insert(index, edit)?;
+        }
+        self.edits.insert(rank, body)?;
         Ok(())
     }
 
@@ -127,10 +134,11 @@ impl GreenEditor {
         ensures fits { IfOk result (λ e. FitsNode e.green) }
         ensures err { IfErr result (WhyNotEdited (edited (Node self.root) self.edits)) }
     {
-        let alloc = self.alloc;
-        let list = changes_of(alloc, &self.edits)?;
-        let sites = EditSites::new(alloc, &self.root, &self.edits)?;
-        let green = self.new_root()?;
+        let GreenEditor { alloc, root, edits } = self;
+        let edits = in_order(alloc, edits)?;
+        let list = changes_of(alloc, &edits)?;
+        let sites = EditSites::new(alloc, &root, &edits)?;
+        let green = new_root(alloc, &root, edits)?;
         let changes = Changes::new(alloc, list)?;
         Ok(Edited {
             green,
@@ -138,48 +146,47 @@ impl GreenEditor {
             sites,
         })
     }
-
-    // The root of the tree with all edits made.
-    fn new_root(self) -> Result<GreenNode, Fault>
-        ensures ok { IfOk result (λ n. Node n ≡ edited (Node self.root) self.edits) }
-        ensures fits { IfOk result FitsNode }
-        ensures err { IfErr result (WhyNotEdited (edited (Node self.root) self.edits)) }
-    {
-        let GreenEditor {
-            alloc,
-            root,
-            mut edits,
-        } = self;
-        let mut zipper = Zipper::new(alloc, &root);
-        while let Some(edit) = edits.pop() {
-            let Splice {
-                parent,
-                start,
-                end,
-                range: _,
-                new,
-            } = edit;
-            zipper = zipper.go_to(alloc, &parent, end)?;
-            zipper = zipper.splice(start, end, new)?;
-        }
-        zipper.close()
-    }
 }
 
-/// An edit of a tree. Refused with `NotFound` where the tree has no such place, and with `Memory`.
+/// The root of a tree with edits made.
+fn new_root(alloc: Global, root: &GreenNode, edits: Vec<Splice>) -> Result<GreenNode, Fault>
+    requires { AreInOrder root.now (edits_of edits.items) }
+    ensures ok { IfOk result (λ n. Node n ≡ edited (Node root.now) (edits_of edits.items)) }
+    ensures fits { IfOk result FitsNode }
+    ensures err { IfErr result (WhyNotEdited (edited (Node root.now) (edits_of edits.items))) }
+{
+    let mut left = edits;
+    let mut zipper = Zipper::new(alloc, root);
+    while let Some(edit) = left.pop() {
+        let Splice {
+            parent,
+            start,
+            end,
+            range: _,
+            new,
+        } = edit;
+        zipper = zipper.go_to(alloc, &parent, end)?;
+        zipper = zipper.splice(start, end, new)?;
+    }
+    zipper.close()
+}
+
+/// An edit of a tree, to which so many were added before. Refused with `NotFound` where the tree
+/// has no such place, and with `Memory`.
 fn edit_in(
     alloc: Global,
     root: &GreenNode,
     parent: &[usize],
     children: Range<usize>,
     new: Vec<GreenElement>,
-) -> Result<Splice, Refusal>
+    count: usize,
+) -> Result<(Rank, Body), Refusal>
     ensures ok { let edit : Edit = record {
       parent = parent.now;
       start = children.start;
       end = children.end;
       new = new.items;
-    } in IfOk result (IsEditIn root.now edit) }
+    } in IfOk result (IsEditIn root.now edit count) }
     ensures err { (edits : List Edit) → let edit : Edit = record {
       parent = parent.now;
       start = children.start;
@@ -193,14 +200,9 @@ fn edit_in(
     if children.start > children.end || children.end > place.node.children().len() {
         return Err(Refusal::NotFound);
     }
-    let parent = Vec::from_slice(alloc, parent)?;
-    Ok(Splice {
-        parent,
-        start: children.start,
-        end: children.end,
-        range: place.range_of(children),
-        new,
-    })
+    let range = place.range_of(children.start..children.end);
+    let rank = Rank::new(alloc, parent, children, count)?;
+    Ok((rank, Body { range, new }))
 }
 
 /// A node of a tree, and where its text starts in that of the root.
@@ -262,32 +264,4 @@ fn place_at<'tree>(root: &'tree GreenNode, path: &[usize]) -> Option<Place<'tree
         node = child;
     }
     Some(Place { node, start })
-}
-
-/// How many edits end before another one begins, which they are asked by halves.
-fn place_among(edits: &[Splice], edit: &Splice) -> usize
-    requires { EndInTurn (edits_of edits.now) }
-    ensures within { result ≤ length edits.now }
-    ensures before { AllByRecursion (λ e. ends_before e (edit_of edit.now) ≡ true)
-        (edits_of (take result edits.now)) }
-    ensures behind { AllByRecursion (λ e. ends_before e (edit_of edit.now) ≡ false)
-        (edits_of (drop result edits.now)) }
-{
-    edits.partition_point(|other| other.ends_before(edit))
-}
-
-/// Where another edit comes among edits that stand in order. `None` where it conflicts with one.
-fn place_for(edits: &[Splice], edit: &Splice) -> Option<usize>
-    requires { EndInTurn (edits_of edits.now) }
-    ensures some { IfSome result (IsPlaceFor edits.now (edit_of edit.now)) }
-    ensures none { IsNone result → HasConflict (edits_of edits.now) (edit_of edit.now) }
-{
-    let index = place_among(edits, edit);
-    let Some(next) = edits.get(index) else {
-        return Some(index);
-    };
-    if edit.ends_before(next) {
-        return Some(index);
-    }
-    None
 }

@@ -374,7 +374,10 @@ impl<L: Language> SyntaxEditor<L> {
 }
 
 /// The path of a node: the indexes on the way down to it.
-fn path_to<L: Language>(alloc: Global, node: SyntaxNodeRef<'_, L>) -> Result<Vec<usize>, AllocError>
+pub(crate) fn path_to<L: Language>(
+    alloc: Global,
+    node: SyntaxNodeRef<'_, L>,
+) -> Result<Vec<usize>, AllocError>
     ensures { IfOk result (λ path. path.items ≡ (node_place node.entry).path) }
 {
     let mut path = Vec::new(alloc);

@@ -1,4 +1,4 @@
-//! The tree of the tests.
+//! The trees of the tests.
 use rowan::{Fault, GreenNode, GreenNodeBuilder, SyntaxKind};
 use std::alloc::Global;
 
@@ -20,6 +20,21 @@ pub fn tree(alloc: Global) -> Result<GreenNode, Fault> {
     builder.token(WORD, "cd")?;
     builder.finish_node()?;
     builder.token(WORD, "")?;
+    builder.token(WORD, "e")?;
+    builder.finish_node()?;
+    Ok(builder.finish()?)
+}
+
+/// `ROOT["a" LIST[LIST["bcd"]] "e"]`
+pub fn nested(alloc: Global) -> Result<GreenNode, Fault> {
+    let mut builder = GreenNodeBuilder::new(alloc);
+    builder.start_node(ROOT)?;
+    builder.token(WORD, "a")?;
+    builder.start_node(LIST)?;
+    builder.start_node(LIST)?;
+    builder.token(WORD, "bcd")?;
+    builder.finish_node()?;
+    builder.finish_node()?;
     builder.token(WORD, "e")?;
     builder.finish_node()?;
     Ok(builder.finish()?)

@@ -1,24 +1,9 @@
 //! Where elements of an edited tree are.
-use crate::fixture::{LIST, ROOT, WORD};
-use rowan::{Fault, GreenElement, GreenNode, GreenNodeBuilder, GreenToken, NodeOrToken};
+use crate::fixture::{WORD, nested};
+use rowan::{Fault, GreenElement, GreenToken, NodeOrToken};
 use rowan_edit::{Edited, GreenEditor};
 use std::alloc::Global;
 use std::test::Fail;
-
-/// `ROOT["a" LIST[LIST["bcd"]] "e"]`
-fn nested(alloc: Global) -> Result<GreenNode, Fault> {
-    let mut builder = GreenNodeBuilder::new(alloc);
-    builder.start_node(ROOT)?;
-    builder.token(WORD, "a")?;
-    builder.start_node(LIST)?;
-    builder.start_node(LIST)?;
-    builder.token(WORD, "bcd")?;
-    builder.finish_node()?;
-    builder.finish_node()?;
-    builder.token(WORD, "e")?;
-    builder.finish_node()?;
-    Ok(builder.finish()?)
-}
 
 fn words(alloc: Global, texts: &[&str]) -> Result<Vec<GreenElement>, Fault> {
     let mut all = Vec::new(alloc);
