@@ -6,6 +6,8 @@ pub mod ElementLemmas
 pub mod FinishLemmas
 pub mod FromTextLemmas
 pub mod KeptLemmas
+pub mod KeptTokens
+pub mod LeafOffsets
 pub mod OpenNodeLemmas
 pub mod OrderLaw
 pub mod OverlapLemmas
@@ -15,6 +17,7 @@ pub mod PlaceLemmas
 pub mod Places
 pub mod PlacedLaw
 pub mod PlanLemmas
+pub mod RewriteChangeLemmas
 pub mod RewritingCallLemmas
 pub mod RewritingLemmas
 pub mod RunLemmas
