@@ -1,11 +1,11 @@
 -- A pass over the tokens of a tree: into a node, past a token, and back to the node above.
-use Rattle.std.proofs.Common.{◌≡◌, ◌+◌, List, [], ◌∷◌, ◌++◌, length}
+use Rattle.std.proofs.Common.{◌≡◌, ◌+◌, List, [], ◌∷◌, ◌++◌, map, length}
 use Rattle.std.proofs.Common.{drop, Some, refl, sym, ◌∙◌, ap, arith}
 use Rattle.std.specs.Prelude.{slice_get}
 use Rattle.rowan_green.specs.declared.fault.Fault.{Fault}
 use Rattle.rowan_green.specs.declared.utility_types.NodeOrToken.TheVariants.{Node}
 use Rattle.rowan_green.specs.Fits.{PassesLimit}
-use Rattle.rowan_green.specs.Path.{subterm_of}
+use Rattle.rowan_green.specs.Path.{Path, subterm_of, subterm, LeafAt, below_place}
 use Rattle.rowan_green.specs.Sizes.{terms_size}
 use Rattle.rowan_green.specs.Term.{TokenTerm, NodeTerm, Term, node_of, node_kind, node_children}
 use Rattle.rowan_green.proofs.Terms.{terms-forest}
@@ -14,32 +14,52 @@ use Rattle.rowan_edit.specs.declared.rewriting.draft.Draft.{Draft}
 use Rattle.rowan_edit.specs.Rewriting.{HasNodePast}
 use Rattle.rowan_edit.specs.Drafts.{done, behind, tokens_in, rewritten_list}
 use Rattle.rowan_edit.specs.Drafts.{tokens_behind, whole, top, AreOpen, work_behind}
+use Rattle.rowan_edit.specs.Drafts.{leaves_at, leaves_behind, way}
 
 -- ---- the nodes above: one more
+
+pub top-more : (ds : List Draft) (d : Draft) (n : NodeTerm)
+    → top (ds ++ d ∷ []) n ≡ top ds d.node.now
+top-more [] d n = refl
+top-more (e ∷ ds) d n = refl
 
 pub open-more : (ds : List Draft) (d : Draft) (n : NodeTerm) → AreOpen ds d.node.now
     → slice_get (node_children d.node.now) d.next ≡ Some (Node n) → AreOpen (ds ++ d ∷ []) n
 open-more [] d n h at = (at, tt)
 open-more (c ∷ ds) d n h at = (
-  h.0 ∙ ap (λ m. Some (Node m)) (tops ds),
+  h.0 ∙ ap (λ m. Some (Node m)) (sym (top-more ds d n)),
   open-more ds d n h.1 at,
 )
-  where
-    tops : (es : List Draft) → top es d.node.now ≡ top (es ++ d ∷ []) n
-    tops [] = refl
-    tops (e ∷ es) = refl
 
 pub open-less : (ds : List Draft) (d : Draft) (n : NodeTerm) → AreOpen (ds ++ d ∷ []) n
     → AreOpen ds d.node.now × (slice_get (node_children d.node.now) d.next ≡ Some (Node n))
 open-less [] d n h = (tt, h.0)
 open-less (c ∷ ds) d n h = let rest = open-less ds d n h.1 in (
-  (h.0 ∙ ap (λ m. Some (Node m)) (sym (tops ds)), rest.0),
+  (h.0 ∙ ap (λ m. Some (Node m)) (top-more ds d n), rest.0),
   rest.1,
 )
-  where
-    tops : (es : List Draft) → top es d.node.now ≡ top (es ++ d ∷ []) n
-    tops [] = refl
-    tops (e ∷ es) = refl
+
+-- the path of the node below these nodes
+pub way-stands : (ds : List Draft) (n : NodeTerm) → AreOpen ds n
+    → subterm (Node (top ds n)) (way ds) ≡ Some (Node n)
+way-stands [] n h = refl
+way-stands (d ∷ ds) n h = ap (λ o. subterm_of o (way ds)) h.0 ∙ way-stands ds n h.1
+
+pub leaves-more : (ds : List Draft) (d : Draft) (inside : List LeafAt)
+    → leaves_behind (ds ++ d ∷ []) inside
+    ≡ leaves_behind ds (map (below_place d.next) inside ++ leaves_at (d.next + 1) (behind d))
+leaves-more [] d inside = refl
+leaves-more (c ∷ ds) d inside =
+    ap (λ ls. map (below_place c.next) ls ++ leaves_at (c.next + 1) (behind c))
+    (leaves-more ds d inside)
+
+-- the first leaf inside
+pub leaves-next : (ds : List Draft) (p : Path) (t : TokenTerm) (inside : List LeafAt)
+    → leaves_behind ds ((p, t) ∷ inside) ≡ (way ds ++ p, t) ∷ leaves_behind ds inside
+leaves-next [] p t inside = refl
+leaves-next (c ∷ ds) p t inside =
+    ap (λ ls. map (below_place c.next) ls ++ leaves_at (c.next + 1) (behind c))
+    (leaves-next ds p t inside)
 
 pub behind-more : (ds : List Draft) (d : Draft) (inside : List TokenTerm)
     → tokens_behind (ds ++ d ∷ []) inside ≡ tokens_behind ds (inside ++ tokens_in (behind d))

@@ -1,12 +1,12 @@
 -- The steps of a pass over the tokens of a tree: each keeps the tree that the answers make.
-use Rattle.std.proofs.Common.{◌≡◌, ◌+◌, List, [], ◌∷◌, ◌++◌, length, drop}
+use Rattle.std.proofs.Common.{◌≡◌, ◌+◌, List, [], ◌∷◌, ◌++◌, map, length, drop}
 use Rattle.std.proofs.Common.{Some, None, sym, ◌∙◌, ap, subst, arith, append_assoc}
 use Rattle.std.specs.Prelude.{slice_get}
 use Rattle.std.proofs.lemmas.List.{append-nil, drop_all}
 use Rattle.rowan_green.specs.declared.fault.Fault.{Fault}
 use Rattle.rowan_green.specs.declared.utility_types.NodeOrToken.TheVariants.{Node, Token}
 use Rattle.rowan_green.specs.Fits.{PassesLimit}
-use Rattle.rowan_green.specs.Path.{tokens}
+use Rattle.rowan_green.specs.Path.{LeafAt, below_place, leaves, tokens}
 use Rattle.rowan_green.specs.Sizes.{terms_size}
 use Rattle.rowan_green.specs.Term.{TokenTerm, NodeTerm, Term, node_of, node_kind, node_children}
 use Rattle.rowan_green.proofs.Drops.{terms_size-node_children}
@@ -16,12 +16,14 @@ use Rattle.rowan_edit.specs.declared.rewriting.draft.Draft.{Draft}
 use Rattle.rowan_edit.specs.declared.rewriting.pass.Pass.{Pass}
 use Rattle.rowan_edit.specs.Rewriting.{in_place, rewritten, HasNodePast}
 use Rattle.rowan_edit.specs.Drafts.{done, to_do, behind, tokens_in, rewritten_list, completed}
-use Rattle.rowan_edit.specs.Drafts.{tokens_behind, whole, AreOpen, work_behind, IsPass, left_of}
-use Rattle.rowan_edit.specs.Drafts.{child_of, tree_of, Continues, Takes, Ends}
-use Rattle.rowan_edit.proofs.PassLemmas.{open-more, open-less, behind-more, work-more, round}
-use Rattle.rowan_edit.proofs.PassLemmas.{whole-more, whole-same, behind-next, whole-next}
+use Rattle.rowan_edit.specs.Drafts.{whole, AreOpen, work_behind, IsPass, left_of}
+use Rattle.rowan_edit.specs.Drafts.{child_of, tree_of, Continues, Takes, Ends, top, place_of}
+use Rattle.rowan_edit.specs.Drafts.{leaves_at, leaves_behind}
+use Rattle.rowan_edit.proofs.PassLemmas.{top-more, open-more, open-less, leaves-more, leaves-next}
+use Rattle.rowan_edit.proofs.PassLemmas.{work-more, round, whole-more, whole-same, whole-next}
 use Rattle.rowan_edit.proofs.PassLemmas.{past-whole}
-use Rattle.rowan_edit.proofs.RewritingLemmas.{tokens-children, rewritten-list, drop-at, get-past}
+use Rattle.rowan_edit.proofs.RewritingLemmas.{leaves-children, tokens-children, rewritten-list}
+use Rattle.rowan_edit.proofs.RewritingLemmas.{drop-at, get-past}
 
 -- ---- a node of which nothing is rewritten
 
@@ -42,6 +44,12 @@ new-completed n d h more =
     ∙ ap (λ ts. node_of (node_kind n) (ts ++ rewritten_list (to_do d) more)) h.done
     ∙ ap (λ ts. node_of (node_kind n) (rewritten_list ts more)) (new-to_do n d h)
     ∙ sym (rewritten-list n more)
+
+pub new-leaves : (n : NodeTerm) (d : Draft) → IsNew n d
+    → leaves_at d.next (to_do d) ≡ leaves (Node n)
+new-leaves n d h =
+    ap (λ i. leaves_at i (to_do d)) h.next ∙ ap (leaves_at 0) (new-to_do n d h)
+    ∙ sym (leaves-children n)
 
 pub new-tokens : (n : NodeTerm) (d : Draft) → IsNew n d → tokens_in (to_do d) ≡ tokens (Node n)
 new-tokens n d h = ap tokens_in (new-to_do n d h) ∙ sym (tokens-children n)
@@ -69,10 +77,13 @@ enters old new n opened at stack h =
     record {
       pass = subst (λ es. AreOpen es e.node.now) (sym stack)
           (subst (AreOpen (ds ++ d ∷ [])) (sym h.node) (open-more ds d n opened at));
-      left = ap (λ ts. tokens_behind ds (tokens_in ts)) split
-          ∙ ap (λ ts. tokens_behind ds (ts ++ rest)) own
-          ∙ sym (behind-more ds d (tokens_in (to_do e)))
-          ∙ ap (λ es. tokens_behind es (tokens_in (to_do e))) (sym stack);
+      root = sym (top-more ds d n) ∙ ap (λ es. top es n) (sym stack)
+          ∙ ap (top new.above.items) (sym h.node);
+      left = ap (λ ts. leaves_behind ds (leaves_at d.next ts)) split
+          ∙ ap (λ ls. leaves_behind ds (map (below_place d.next) ls
+          ++ leaves_at (d.next + 1) (behind d))) (sym (new-leaves n e h))
+          ∙ sym (leaves-more ds d (leaves_at e.next (to_do e)))
+          ∙ ap (λ es. leaves_behind es (leaves_at e.next (to_do e))) (sym stack);
       tree = λ more. (ap (λ ts. whole ds (completed d) (tokens_in ts) more) split
           ∙ ap (λ ts. whole ds (completed d) (ts ++ rest) more) own
           ∙ whole-same ds (completed d) (round d (completed e) (tokens_in (to_do e)))
@@ -102,6 +113,12 @@ past-to_do d e new h =
     ap (λ m. drop e.next (node_children m)) h.node
     ∙ ap (λ k. drop k (node_children d.node.now)) h.next
 
+past-leaves : (d e : Draft) (new : List Term) → IsPast d new e
+    → leaves_at (d.next + 1) (behind d) ≡ leaves_at e.next (to_do e)
+past-leaves d e new h =
+    ap (λ i. leaves_at i (behind d)) (sym h.next)
+    ∙ ap (leaves_at e.next) (sym (past-to_do d e new h))
+
 -- the node, once the answers for the children behind have come
 past-completed : (d e : Draft) (new : List Term) → IsPast d new e → (more : List Rewrite)
     → node_of (node_kind d.node.now) (done d ++ (new ++ rewritten_list (behind d) more))
@@ -114,13 +131,18 @@ past-completed d e new h more =
     (sym (past-to_do d e new h))
     ∙ ap (λ m. node_of (node_kind m) (done e ++ rewritten_list (to_do e) more)) (sym h.node)
 
+-- the leaves behind the child whose turn it is
+abbrev pub leaves_past : Pass → List LeafAt
+leaves_past p = leaves_behind p.above.items (leaves_at (p.inner.next + 1) (behind p.inner))
+
 -- the next token
 pub left-token : (p : Pass) (t : TokenTerm) → child_of p ≡ Some (Token t)
-    → left_of p ≡ t ∷ tokens_behind p.above.items (tokens_in (behind p.inner))
+    → left_of p ≡ (place_of p, t) ∷ leaves_past p
 left-token p t at =
-    ap (λ ts. tokens_behind p.above.items (tokens_in ts))
+    ap (λ ts. leaves_behind p.above.items (leaves_at p.inner.next ts))
     (drop-at (node_children p.inner.node.now) p.inner.next (Token t) at)
-    ∙ behind-next p.above.items t (tokens_in (behind p.inner))
+    ∙ leaves-next p.above.items (p.inner.next ∷ []) t
+    (leaves_at (p.inner.next + 1) (behind p.inner))
 
 pub takes : (old new : Pass) (t : TokenTerm) (a : Rewrite) → IsPass old
     → child_of old ≡ Some (Token t) → new.above.items ≡ old.above.items
@@ -139,9 +161,11 @@ takes old new t a opened at stack h =
     record {
       pass = subst (λ es. AreOpen es e.node.now) (sym stack)
           (subst (AreOpen ds) (sym h.node) opened);
-      left = ap (λ ts. tokens_behind ds (tokens_in ts)) split ∙ behind-next ds t rest
-          ∙ ap (λ ts. t ∷ tokens_behind ds (tokens_in ts)) all
-          ∙ ap (λ es. t ∷ tokens_behind es (tokens_in (to_do e))) (sym stack);
+      root = ap (top ds) (sym h.node) ∙ ap (λ es. top es e.node.now) (sym stack);
+      left = left-token old t at
+          ∙ ap (λ ls. (place_of old, t) ∷ leaves_behind ds ls) (past-leaves d e (in_place t a) h)
+          ∙ ap (λ es. (place_of old, t) ∷ leaves_behind es (leaves_at e.next (to_do e)))
+          (sym stack);
       tree = λ more. (ap (λ ts. whole ds (completed d) (tokens_in ts) (a ∷ more)) split
           ∙ whole-next ds (completed d) (completed e) t rest a more (same more)
           ∙ ap (λ ts. whole ds (completed e) (tokens_in ts) more) all
@@ -168,11 +192,11 @@ pub parent-open : (old : Pass) (ds : List Draft) (p : Draft) → IsPass old
 parent-open old ds p opened stack =
     open-less ds p old.inner.node.now (subst (λ es. AreOpen es old.inner.node.now) stack opened)
 
-pub leaves : (old new : Pass) (p : Draft) (n : NodeTerm) → IsPass old → child_of old ≡ None
+pub goes_up : (old new : Pass) (p : Draft) (n : NodeTerm) → IsPass old → child_of old ≡ None
     → old.above.items ≡ new.above.items ++ p ∷ []
     → n ≡ node_of (node_kind old.inner.node.now) (done old.inner)
     → IsPast p (Node n ∷ []) new.inner → Continues old new
-leaves old new p n opened none stack made h =
+goes_up old new p n opened none stack made h =
     let ds = new.above.items in
     let d = old.inner in
     let e = new.inner in
@@ -184,9 +208,11 @@ leaves old new p n opened none stack made h =
     (completed-none old more none ∙ sym made) ∙ past-completed p e (Node n ∷ []) h more) in
     record {
       pass = subst (AreOpen ds) (sym h.node) up.0;
-      left = ap (λ ts. tokens_behind old.above.items ts) nothing
-          ∙ ap (λ es. tokens_behind es []) stack ∙ behind-more ds p []
-          ∙ ap (λ ts. tokens_behind ds (tokens_in ts)) all;
+      root = ap (λ es. top es d.node.now) stack ∙ top-more ds p d.node.now
+          ∙ ap (top ds) (sym h.node);
+      left = ap (λ ts. leaves_behind old.above.items (leaves_at d.next ts)) (to_do-none old none)
+          ∙ ap (λ es. leaves_behind es []) stack ∙ leaves-more ds p []
+          ∙ ap (leaves_behind ds) (past-leaves p e (Node n ∷ []) h);
       tree = λ more. (ap (λ ts. whole old.above.items (completed d) ts more) nothing
           ∙ ap (λ es. whole es (completed d) [] more) stack
           ∙ whole-more ds p (completed d) [] more
@@ -205,8 +231,8 @@ leaves old new p n opened none stack made h =
 pub ends : (old : Pass) (n : NodeTerm) → child_of old ≡ None → old.above.items ≡ []
     → n ≡ node_of (node_kind old.inner.node.now) (done old.inner) → Ends old n
 ends old n none stack made = record {
-  left = ap (λ es. tokens_behind es (tokens_in (to_do old.inner))) stack
-      ∙ ap tokens_in (to_do-none old none);
+  left = ap (λ es. leaves_behind es (leaves_at old.inner.next (to_do old.inner))) stack
+      ∙ ap (leaves_at old.inner.next) (to_do-none old none);
   tree = λ more. (ap (λ es. whole es (completed old.inner) (tokens_in (to_do old.inner)) more) stack
       ∙ completed-none old more none
       ∙ sym made);

@@ -1,22 +1,34 @@
 -- Rewritten trees by lists of children, and their texts.
 use Rattle.std.proofs.Common.{◌≡◌, ℕ, zero, suc, ◌+◌, ◌≤◌, List, [], ◌∷◌, ◌++◌, map, length}
 use Rattle.std.proofs.Common.{take, drop, Some, None, refl, sym, ◌∙◌, ap, arith, append_assoc}
-use Rattle.std.specs.Prelude.{slice_get}
+use Rattle.std.specs.Prelude.{Bool, slice_get}
+use Rattle.std.specs.List.{filter, flat_map}
 use Rattle.std.proofs.lemmas.Grind.{flat_map-append}
 use Rattle.std.proofs.lemmas.List.{map-append}
+use Rattle.std.proofs.lemmas.List.Elements.{filter-append}
 use Rattle.std.proofs.lemmas.Simd.{map-map}
 use Rattle.rowan_green.specs.declared.utility_types.NodeOrToken.TheVariants.{Node}
-use Rattle.rowan_green.specs.Path.{LeafAt, below_place, node_leaves, leaves_from, tokens}
+use Rattle.rowan_green.specs.Path.{LeafAt, below_place, node_leaves, leaves_from, leaves, tokens}
 use Rattle.rowan_green.specs.Term.{TokenTerm, NodeTerm, node, Forest, empty, node_then, token_then}
 use Rattle.rowan_green.specs.Term.{terms, node_of, node_kind, node_children, node_text}
-use Rattle.rowan_green.specs.Term.{term_text, joined_text}
-use Rattle.rowan_green.proofs.Terms.{forest_text-forest}
+use Rattle.rowan_green.specs.Term.{Term, term_text, joined_text}
+use Rattle.rowan_green.proofs.OffsetLemmas.{joined-terms}
+use Rattle.rowan_green.proofs.Terms.{terms-forest}
 use Rattle.rowan_edit.specs.declared.rewriting.Rewrite.{Rewrite}
-use Rattle.rowan_edit.specs.Drafts.{tokens_in, rewritten_list}
+use Rattle.rowan_edit.specs.Drafts.{tokens_in, rewritten_list, leaves_at}
 use Rattle.rowan_edit.specs.Rewriting.{in_place, first_answer, rewritten, rewritten_children}
-use Rattle.rowan_edit.specs.Rewriting.{rewritten_text}
+use Rattle.rowan_edit.specs.Rewriting.{rewritten_by, rewritten_text, rewritten_tokens, AllKeep}
 
--- ---- tokens
+-- ---- leaves and tokens
+
+leaves-from : (i : ℕ) (f : Forest) → leaves_from i f ≡ leaves_at i (terms f)
+leaves-from i empty = refl
+leaves-from i (node_then n f) =
+    ap (λ ls. map (below_place i) (node_leaves n) ++ ls) (leaves-from (i + 1) f)
+leaves-from i (token_then t f) = ap (λ ls. (i ∷ [], t) ∷ ls) (leaves-from (i + 1) f)
+
+pub leaves-children : (n : NodeTerm) → leaves (Node n) ≡ leaves_at 0 (node_children n)
+leaves-children (node k f) = leaves-from 0 f
 
 tokens-from : (i : ℕ) (f : Forest) → map (λ l. l.1) (leaves_from i f) ≡ tokens_in (terms f)
 tokens-from i empty = refl
@@ -44,45 +56,80 @@ pub rewritten-list : (n : NodeTerm) (answers : List Rewrite)
     → rewritten n answers ≡ node_of (node_kind n) (rewritten_list (node_children n) answers)
 rewritten-list (node k f) answers = ap (node_of k) (rewritten-terms f answers)
 
--- ---- texts
+-- ---- texts and tokens
 
 drop-more : {A : Type 0} (k : ℕ) (xs : List A) → drop k (drop 1 xs) ≡ drop (suc k) xs
 drop-more zero [] = refl
 drop-more (suc k) [] = refl
 drop-more k (x ∷ xs) = refl
 
-text-append : (ts us : List TokenTerm) (answers : List Rewrite)
-    → rewritten_text (ts ++ us) answers
-    ≡ rewritten_text ts answers ++ rewritten_text us (drop (length ts) answers)
-text-append [] us answers = refl
-text-append (t ∷ ts) us answers =
-    let own = joined_text (in_place t (first_answer answers)) in
-    ap (λ bs. own ++ bs) (text-append ts us (drop 1 answers))
-    ∙ ap (λ rest. own ++ (rewritten_text ts (drop 1 answers) ++ rewritten_text us rest))
-    (drop-more (length ts) answers)
-    ∙ sym (append_assoc own (rewritten_text ts (drop 1 answers))
-    (rewritten_text us (drop (suc (length ts)) answers)))
+-- what a node has is what its children have, one after the other
+module _ {A : Type 0} (has : Term → List A)
+    (in_node : (n : NodeTerm) → has (Node n) ≡ flat_map has (node_children n)) where
+  by-append : (ts us : List TokenTerm) (answers : List Rewrite)
+      → rewritten_by has (ts ++ us) answers
+      ≡ rewritten_by has ts answers ++ rewritten_by has us (drop (length ts) answers)
+  by-append [] us answers = refl
+  by-append (t ∷ ts) us answers =
+      let own = flat_map has (in_place t (first_answer answers)) in
+      ap (λ xs. own ++ xs) (by-append ts us (drop 1 answers))
+      ∙ ap (λ rest. own ++ (rewritten_by has ts (drop 1 answers) ++ rewritten_by has us rest))
+      (drop-more (length ts) answers)
+      ∙ sym (append_assoc own (rewritten_by has ts (drop 1 answers))
+      (rewritten_by has us (drop (suc (length ts)) answers)))
 
-mutual
-  pub text-rewritten : (n : NodeTerm) (answers : List Rewrite)
-      → node_text (rewritten n answers) ≡ rewritten_text (tokens (Node n)) answers
-  text-rewritten (node k f) answers =
-      forest_text-forest (rewritten_children f answers) ∙ text-children f answers
-      ∙ ap (λ ts. rewritten_text ts answers) (sym (tokens-from 0 f))
+  mutual
+    by-node : (n : NodeTerm) (answers : List Rewrite)
+        → has (Node (rewritten n answers)) ≡ rewritten_by has (tokens (Node n)) answers
+    by-node (node k f) answers =
+        in_node (rewritten (node k f) answers)
+        ∙ ap (flat_map has) (terms-forest (rewritten_children f answers))
+        ∙ by-children f answers ∙ ap (λ ts. rewritten_by has ts answers) (sym (tokens-from 0 f))
 
-  text-children : (f : Forest) (answers : List Rewrite)
-      → joined_text (rewritten_children f answers) ≡ rewritten_text (tokens_in (terms f)) answers
-  text-children empty answers = refl
-  text-children (node_then n f) answers =
-      let rest = rewritten_children f (drop (length (tokens (Node n))) answers) in
-      ap (λ bs. bs ++ joined_text rest) (text-rewritten n answers)
-      ∙ ap (λ bs. rewritten_text (tokens (Node n)) answers ++ bs)
-      (text-children f (drop (length (tokens (Node n))) answers))
-      ∙ sym (text-append (tokens (Node n)) (tokens_in (terms f)) answers)
-  text-children (token_then t f) answers =
-      let own = in_place t (first_answer answers) in
-      flat_map-append term_text own (rewritten_children f (drop 1 answers))
-      ∙ ap (λ bs. joined_text own ++ bs) (text-children f (drop 1 answers))
+    by-children : (f : Forest) (answers : List Rewrite)
+        → flat_map has (rewritten_children f answers)
+        ≡ rewritten_by has (tokens_in (terms f)) answers
+    by-children empty answers = refl
+    by-children (node_then n f) answers =
+        let rest = rewritten_children f (drop (length (tokens (Node n))) answers) in
+        ap (λ xs. xs ++ flat_map has rest) (by-node n answers)
+        ∙ ap (λ xs. rewritten_by has (tokens (Node n)) answers ++ xs)
+        (by-children f (drop (length (tokens (Node n))) answers))
+        ∙ sym (by-append (tokens (Node n)) (tokens_in (terms f)) answers)
+    by-children (token_then t f) answers =
+        let own = in_place t (first_answer answers) in
+        flat_map-append has own (rewritten_children f (drop 1 answers))
+        ∙ ap (λ xs. flat_map has own ++ xs) (by-children f (drop 1 answers))
+
+text-node : (n : NodeTerm) → node_text n ≡ joined_text (node_children n)
+text-node (node k f) = joined-terms f
+
+pub text-rewritten : (n : NodeTerm) (answers : List Rewrite)
+    → node_text (rewritten n answers) ≡ rewritten_text (tokens (Node n)) answers
+text-rewritten n answers = by-node term_text text-node n answers
+
+pub tokens-rewritten : (n : NodeTerm) (answers : List Rewrite)
+    → tokens (Node (rewritten n answers)) ≡ rewritten_tokens (tokens (Node n)) answers
+tokens-rewritten n answers = by-node tokens tokens-children n answers
+
+-- ---- tokens that are kept
+
+kept-tokens : (test : TokenTerm → Bool) (ts : List TokenTerm) (answers : List Rewrite)
+    → AllKeep test ts answers → filter test (rewritten_tokens ts answers) ≡ filter test ts
+kept-tokens test [] answers h = refl
+kept-tokens test (t ∷ ts) answers h =
+    let own = flat_map tokens (in_place t (first_answer answers)) in
+    filter-append test own (rewritten_tokens ts (drop 1 answers))
+    ∙ ap (λ us. us ++ filter test (rewritten_tokens ts (drop 1 answers))) h.0
+    ∙ ap (λ us. filter test (t ∷ []) ++ us) (kept-tokens test ts (drop 1 answers) h.1)
+    ∙ sym (filter-append test (t ∷ []) ts)
+
+pub kept-rewritten : (old : NodeTerm) (answers : List Rewrite) (test : TokenTerm → Bool)
+    → AllKeep test (tokens (Node old)) answers
+    → filter test (tokens (Node (rewritten old answers))) ≡ filter test (tokens (Node old))
+kept-rewritten old answers test h =
+    ap (filter test) (tokens-rewritten old answers)
+    ∙ kept-tokens test (tokens (Node old)) answers h
 
 -- ---- lists
 

@@ -1,6 +1,7 @@
 -- What is kept of changes: that they stand in order, and where each ends in the new text.
 use Rattle.std.specs.Prelude.{◌≡◌, ℕ, ◌+◌, ◌-◌, ◌≤◌, false, List, [], ◌∷◌}
 use Rattle.std.specs.List.{list_any, filter}
+use Rattle.rowan_green.specs.Fits.{byte_limit}
 use Rattle.rowan_green.specs.Span.{Span}
 use Rattle.rowan_edit.specs.declared.changes.Change.{Change}
 use Rattle.rowan_edit.specs.Changes.{old_bytes, new_bytes, is_ahead, overlaps}
@@ -15,6 +16,11 @@ Follow at (c ∷ cs) =
 abbrev pub last_end : ℕ → List Change → ℕ
 last_end at [] = at
 last_end at (c ∷ cs) = last_end c.range.end cs
+
+-- the changes stand in order, and the text behind them ends within the limit
+pub record CanBeKept (list : List Change) : Type 0 where
+  pub follow : Follow 0 list
+  pub fits : last_end 0 list + new_bytes list ≤ byte_limit + old_bytes list
 
 -- where each ends in the new text, if earlier ones took some bytes away and put others
 abbrev pub AreEnds : ℕ → ℕ → List Change → List ℕ → Type 0

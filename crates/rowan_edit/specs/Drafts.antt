@@ -1,10 +1,10 @@
--- A pass over the tokens of a tree: which tokens are left, and what tree the rest of the answers
+-- A pass over the tokens of a tree: which leaves are left, and what tree the rest of the answers
 -- make of it. The nodes above the one where it is are listed from the root on.
-use Rattle.std.specs.Prelude.{◌≡◌, ℕ, ◌+◌, ◌<◌, List, [], ◌∷◌, ◌++◌, take, drop, length, Option}
+use Rattle.std.specs.Prelude.{◌≡◌, ℕ, ◌+◌, ◌<◌, List, [], ◌∷◌, ◌++◌, map, take, drop, length, Option}
 use Rattle.std.specs.Prelude.{Some, None, Vec, slice_get}
 use Rattle.std.specs.List.{flat_map}
 use Rattle.rowan_green.specs.declared.utility_types.NodeOrToken.TheVariants.{Node, Token}
-use Rattle.rowan_green.specs.Path.{tokens}
+use Rattle.rowan_green.specs.Path.{Path, LeafAt, below_place, leaves, tokens}
 use Rattle.rowan_green.specs.Sizes.{terms_size}
 use Rattle.rowan_green.specs.Term.{TokenTerm, NodeTerm, Term, node_of, node_kind, node_children}
 use Rattle.rowan_edit.specs.declared.rewriting.Rewrite.{Rewrite}
@@ -60,6 +60,21 @@ abbrev pub tokens_behind : List Draft → List TokenTerm → List TokenTerm
 tokens_behind [] inside = inside
 tokens_behind (d ∷ ds) inside = tokens_behind ds inside ++ tokens_in (behind d)
 
+-- the leaves of children, from a place on
+abbrev pub leaves_at : ℕ → List Term → List LeafAt
+leaves_at i [] = []
+leaves_at i (t ∷ ts) = map (below_place i) (leaves t) ++ leaves_at (i + 1) ts
+
+-- the leaves behind these nodes, after those inside; their paths begin at the first of the nodes
+abbrev pub leaves_behind : List Draft → List LeafAt → List LeafAt
+leaves_behind [] inside = inside
+leaves_behind (d ∷ ds) inside =
+    map (below_place d.next) (leaves_behind ds inside) ++ leaves_at (d.next + 1) (behind d)
+
+-- the path from the first of these nodes to the one below them
+abbrev pub way : List Draft → Path
+way ds = map (λ d. d.next) ds
+
 -- the tree round a node, which the answers for the tokens inside it make
 abbrev pub whole : List Draft → (List Rewrite → NodeTerm) → List TokenTerm → List Rewrite → NodeTerm
 whole [] inner inside answers = inner answers
@@ -90,9 +105,17 @@ IsPass p = AreOpen p.above.items p.inner.node.now
 abbrev pub child_of : Pass → Option Term
 child_of p = slice_get (node_children p.inner.node.now) p.inner.next
 
--- the tokens that are left
-abbrev pub left_of : Pass → List TokenTerm
-left_of p = tokens_behind p.above.items (tokens_in (to_do p.inner))
+-- the root of the tree that is rewritten
+abbrev pub root_of : Pass → NodeTerm
+root_of p = top p.above.items p.inner.node.now
+
+-- the path of the child whose turn it is
+abbrev pub place_of : Pass → Path
+place_of p = way p.above.items ++ p.inner.next ∷ []
+
+-- the leaves that are left
+abbrev pub left_of : Pass → List LeafAt
+left_of p = leaves_behind p.above.items (leaves_at p.inner.next (to_do p.inner))
 
 -- the tree, once the answers for them have come
 abbrev pub tree_of : Pass → List Rewrite → NodeTerm
@@ -104,6 +127,7 @@ work_left p = work_behind p.above.items + (terms_size (to_do p.inner) + 1)
 -- the pass goes on, and no token has had its turn
 pub record Continues (old new : Pass) : Type 0 where
   pub pass : IsPass new
+  pub root : root_of old ≡ root_of new
   pub left : left_of old ≡ left_of new
   pub tree : (more : List Rewrite) → tree_of old more ≡ tree_of new more
   pub work : work_left new < work_left old
@@ -111,7 +135,8 @@ pub record Continues (old new : Pass) : Type 0 where
 -- a token has had its turn, with this answer
 pub record Takes (t : TokenTerm) (answer : Rewrite) (old new : Pass) : Type 0 where
   pub pass : IsPass new
-  pub left : left_of old ≡ t ∷ left_of new
+  pub root : root_of old ≡ root_of new
+  pub left : left_of old ≡ (place_of old, t) ∷ left_of new
   pub tree : (more : List Rewrite) → tree_of old (answer ∷ more) ≡ tree_of new more
   pub work : work_left new < work_left old
 

@@ -1,67 +1,75 @@
 -- What a closure's calls at the tokens of a tree make of the tree.
-use Rattle.std.specs.Prelude.{◌≡◌, ◌≢◌, ◌⊎◌, ℕ, ◌+◌, List, [], ◌∷◌, ◌++◌, length, Result, Ok, Err}
-use Rattle.std.specs.List.{flat_map}
+use Rattle.std.specs.Prelude.{◌≡◌, ◌≢◌, ◌⊎◌, Bool, List, [], ◌∷◌, ◌++◌, Result, Some, Ok, Err}
 use Rattle.std.specs.Fn.{Called, Mut}
-use Rattle.std.specs.Borrow.{Bor}
 use Rattle.rowan_green.specs.declared.fault.Fault.{Fault}
 use Rattle.rowan_green.specs.declared.fault.Fault.TheVariants.{Memory}
 use Rattle.rowan_green.specs.declared.utility_types.NodeOrToken.TheVariants.{Node}
-use Rattle.rowan_green.specs.Path.{tokens}
-use Rattle.rowan_green.specs.Span.{Span}
-use Rattle.rowan_green.specs.Term.{TokenTerm, NodeTerm, token_len, node_text}
+use Rattle.rowan_green.specs.Path.{Path, subterm, LeafAt, leaves, tokens, offset}
+use Rattle.rowan_green.specs.Term.{TokenTerm, NodeTerm, node_text}
 use Rattle.rowan_edit.specs.declared.rewriting.Rewrite.{Rewrite}
-use Rattle.rowan_edit.specs.Rewriting.{rewritten, rewritten_text, HasNodePast}
+use Rattle.rowan_edit.specs.declared.rewriting.Rewritten.{Rewritten}
+use Rattle.rowan_edit.specs.declared.rewriting.token_at.TokenAt.{TokenAt}
+use Rattle.rowan_edit.specs.Rewriting.{rewritten, rewritten_text, rewrite_changes, HasNodePast}
+use Rattle.rowan_edit.specs.Rewriting.{Keeps}
 
--- the number of bytes of these tokens
-abbrev pub bytes_of : List TokenTerm → ℕ
-bytes_of ts = length (flat_map (λ t. t.text) ts)
+-- the view shows this leaf of a tree: its token, the node above it, its index there, and where its
+-- text starts
+pub record Shows (root : NodeTerm) (view : TokenAt) (leaf : LeafAt) : Type 0 where
+  pub shown : view.token.now ≡ leaf.1
+  pub above : Path
+  pub path : leaf.0 ≡ above ++ view.index ∷ []
+  pub stands : subterm (Node root) above ≡ Some (Node view.parent.now)
+  pub offset_is : view.start ≡ offset (Node root) leaf.0
 
-module _ {F : Type 0} (g : Mut F (Bor TokenTerm × (Span × Unit {0})) (Result Rewrite Fault)) where
-  -- a call of f at a token, whose text starts at an offset, may give this answer, and leave f'
-  pub record CalledAtToken (f : F) (at : ℕ) (t : TokenTerm) (answer : Result Rewrite Fault)
+module _ {F : Type 0} (g : Mut F (TokenAt × Unit {0}) (Result Rewrite Fault)) where
+  -- a call of f, shown this leaf of a tree, may give this answer, and leave f'
+  pub record CalledAtLeaf (root : NodeTerm) (f : F) (leaf : LeafAt) (answer : Result Rewrite Fault)
       (f' : F) : Type 0 where
-    pub shown : Bor TokenTerm
-    pub shows : shown.now ≡ t
-    pub span : Span
-    pub lies : span ≡ record { start = at; end = at + token_len t }
-    pub called : Called g f (shown, (span, tt)) answer f'
+    pub view : TokenAt
+    pub shows : Shows root view leaf
+    pub called : Called g f (view, tt) answer f'
 
-  -- calls at these tokens, whose texts follow one another from an offset on, give these answers,
-  -- one each, and take f to `last`
-  abbrev pub Answers : F → ℕ → List TokenTerm → List Rewrite → F → Type 0
-  Answers f at [] [] last = last ≡ f
-  Answers f at [] (a ∷ answers) last = ⊥
-  Answers f at (t ∷ ts) [] last = ⊥
-  Answers f at (t ∷ ts) (a ∷ answers) last =
-      (next : F) × CalledAtToken f at t (Ok a) next × Answers next (at + token_len t) ts answers last
+  -- calls at these leaves of a tree, in turn, give these answers, one each, and take f to `last`
+  abbrev pub Answers : NodeTerm → F → List LeafAt → List Rewrite → F → Type 0
+  Answers root f [] [] last = last ≡ f
+  Answers root f [] (a ∷ answers) last = ⊥
+  Answers root f (l ∷ ls) [] last = ⊥
+  Answers root f (l ∷ ls) (a ∷ answers) last =
+      (next : F) × CalledAtLeaf root f l (Ok a) next × Answers root next ls answers last
 
   -- the new root is the old one, rewritten as the closure answers at its tokens; these calls take
   -- it to `last`
-  pub record IsRewritten (f last : F) (old new : NodeTerm) : Type 0 where
+  pub record IsRewritten (f last : F) (old : NodeTerm) (new : Rewritten) : Type 0 where
     pub answers : List Rewrite
-    pub calls : Answers f 0 (tokens (Node old)) answers last
-    pub tree : new ≡ rewritten old answers
-    pub text : node_text new ≡ rewritten_text (tokens (Node old)) answers
+    pub calls : Answers old f (leaves (Node old)) answers last
+    pub tree : new.green ≡ rewritten old answers
+    pub text : node_text new.green ≡ rewritten_text (tokens (Node old)) answers
+    pub changes : new.changes ≡ rewrite_changes 0 (tokens (Node old)) answers
+
+  -- whatever f answers where it is shown a leaf of this tree, the tokens that pass a test are kept
+  abbrev pub AlwaysKeeps : (TokenTerm → Bool) → NodeTerm → Type 0
+  AlwaysKeeps test root = (f : F) (leaf : LeafAt) (answer : Rewrite) (next : F)
+      → CalledAtLeaf root f leaf (Ok answer) next → Keeps test leaf.1 answer
 
   -- the calls at the first tokens of a tree, and their answers
-  pub record Began (f : F) (old : NodeTerm) (behind : List TokenTerm) (last : F) : Type 0 where
-    pub before : List TokenTerm
-    pub parts : tokens (Node old) ≡ before ++ behind
+  pub record Began (f : F) (old : NodeTerm) (behind : List LeafAt) (last : F) : Type 0 where
+    pub before : List LeafAt
+    pub parts : leaves (Node old) ≡ before ++ behind
     pub answers : List Rewrite
-    pub calls : Answers f 0 before answers last
+    pub calls : Answers old f before answers last
 
   -- the closure refuses a token, by the call that takes it to `last`
   pub record RefusesToken (f last : F) (old : NodeTerm) (fault : Fault) : Type 0 where
-    pub token : TokenTerm
-    pub behind : List TokenTerm
+    pub leaf : LeafAt
+    pub behind : List LeafAt
     pub at_token : F
-    pub began : Began f old (token ∷ behind) at_token
-    pub refuses : CalledAtToken at_token (bytes_of began.before) token (Err fault) last
+    pub began : Began f old (leaf ∷ behind) at_token
+    pub refuses : CalledAtLeaf old at_token leaf (Err fault) last
 
   -- the calls at the first tokens take the closure to `last`; with their answers, and the other
   -- tokens kept, a node passes a limit, if it is not for want of memory
   pub record StopsBehind (f last : F) (old : NodeTerm) (fault : Fault) : Type 0 where
-    pub behind : List TokenTerm
+    pub behind : List LeafAt
     pub began : Began f old behind last
     pub past : fault ≢ Memory → HasNodePast (rewritten old began.answers) fault
 

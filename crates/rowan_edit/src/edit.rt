@@ -41,7 +41,7 @@ pub(crate) fn changes_of(alloc: Global, edits: &[Splice]) -> Result<Vec<Change>,
 
 /// The length of the texts of elements, one after the other, or the greatest one where it is past
 /// the limit.
-fn len_of(elements: &[GreenElement]) -> TextSize
+pub(crate) fn len_of(elements: &[GreenElement]) -> TextSize
     ensures { sum_of_lens elements.now ≤ byte_limit → result ≡ sum_of_lens elements.now }
 {
     let mut sum = TextSize::from(0);

@@ -1,13 +1,13 @@
 //! Laws of edits, each as the contract of a function that does nothing.
 ghost use Rattle.std.specs.Prelude.{◌≡◌, ◌≤◌, ◌<◌, ◌+◌, ℕ, List, [], ◌∷◌, ◌++◌, length};
-ghost use Rattle.std.specs.Prelude.{true, false, Some, ◌↔◌, IsPermutation, slice_get};
-ghost use Rattle.std.specs.List.{AllByRecursion, list_any};
+ghost use Rattle.std.specs.Prelude.{Bool, true, false, Some, ◌↔◌, IsPermutation, slice_get};
+ghost use Rattle.std.specs.List.{AllByRecursion, list_any, filter};
 ghost use Rattle.rowan_green.specs.declared.utility_types.NodeOrToken.TheVariants.{Node};
 ghost use Rattle.rowan_green.specs.Fits.{Fits};
-ghost use Rattle.rowan_green.specs.Path.{Path, subterm, put, range, shifted};
+ghost use Rattle.rowan_green.specs.Path.{Path, subterm, tokens, put, range, shifted};
 ghost use Rattle.rowan_green.specs.Replacements.{Replacement, Makes};
 ghost use Rattle.rowan_green.specs.Term.{NodeTerm, Term, term_text, term_len, node_children};
-ghost use Rattle.rowan_green.specs.Term.{node_kind};
+ghost use Rattle.rowan_green.specs.Term.{node_kind, TokenTerm};
 ghost use Rattle.rowan_edit.specs.Changes.{changes_of, edits_before, old_bytes, new_bytes};
 ghost use Rattle.rowan_edit.specs.Changes.{moved_through};
 ghost use Rattle.rowan_edit.specs.Edit.{Edit, edited, edited_once, ends_before};
@@ -16,8 +16,15 @@ ghost use Rattle.rowan_edit.specs.Inside.{edits_inside};
 ghost use Rattle.rowan_edit.specs.Moved.{moved_by, IsUntouchedBy};
 ghost use Rattle.rowan_edit.specs.Orders.{AreReplacements};
 ghost use Rattle.rowan_edit.specs.Plan.{Plan, EndInTurn, AreInOrder, with_edit};
+ghost use Rattle.rowan_edit.specs.declared.rewriting.Rewrite.{Rewrite};
+ghost use Rattle.rowan_edit.specs.declared.rewriting.Rewritten.{Rewritten};
+ghost use Rattle.rowan_edit.specs.Rewriting.{rewritten, rewritten_tokens, AllKeep};
+ghost use Rattle.rowan_edit.specs.RewritingCalls.{IsRewritten, AlwaysKeeps};
 ghost use Rattle.rowan_edit.specs.Sites.{sites_of, is_taken_at, moved_over, ArePutAt};
 ghost use Rattle.rowan_edit.specs.TextWith.{text_with};
+
+use crate::rewriting::{Rewrite, TokenAt};
+use rowan_green::fault::Fault;
 
 /// An element that no edit takes away, and in which none stands, is in the edited tree as it was.
 pub fn untouched_elements_stay()
@@ -107,4 +114,27 @@ pub fn replacements_may_come_in_any_order()
 /// other takes away.
 pub fn conflicts_are_overlaps()
     ensures { (e : Edit) (f : Edit) → (conflicts e f ≡ true) ↔ EditsOverlap e f }
+{}
+
+/// The tokens of a rewritten tree are those of what comes in the place of each token.
+pub fn tokens_are_rewritten()
+    ensures { (old : NodeTerm) (answers : List Rewrite) → tokens (Node (rewritten old answers))
+        ≡ rewritten_tokens (tokens (Node old)) answers }
+{}
+
+/// Where each answer keeps the tokens that pass a test, the new tree has the same ones as the old
+/// one, in the same order.
+pub fn kept_tokens_stay()
+    ensures { (old : NodeTerm) (answers : List Rewrite) (test : TokenTerm → Bool)
+        → AllKeep test (tokens (Node old)) answers
+        → filter test (tokens (Node (rewritten old answers)))
+        ≡ filter test (tokens (Node old)) }
+{}
+
+/// A closure that keeps the tokens that pass a test, whatever token it is shown, keeps those of a
+/// whole tree by `rewrite_tokens`.
+pub fn closures_keep_tokens<F: FnMut(TokenAt<'_>) -> Result<Rewrite, Fault>>()
+    ensures { (test : TokenTerm → Bool) (f : F) (last : F) (old : NodeTerm) (new : Rewritten)
+        → AlwaysKeeps F.FnMut test old → IsRewritten F.FnMut f last old new
+        → filter test (tokens (Node new.green)) ≡ filter test (tokens (Node old)) }
 {}

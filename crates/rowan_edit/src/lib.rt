@@ -33,6 +33,6 @@ pub use into_elements::IntoElements;
 pub use make::Make;
 pub use position::Position;
 pub use refusal::Refusal;
-pub use rewriting::{Rewrite, rewrite_tokens};
+pub use rewriting::{Rewrite, Rewritten, TokenAt, rewrite_tokens};
 pub use syntax_editor::SyntaxEditor;
 pub use tree_cursor::TreeCursor;

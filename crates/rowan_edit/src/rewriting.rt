@@ -1,16 +1,23 @@
 //! Trees with other tokens: what formatters and renames make.
 mod draft;
 mod pass;
+mod token_at;
 
-ghost use Rattle.std.specs.Prelude.{IfOk, IfErr};
+ghost use Rattle.std.specs.Prelude.{◌≡◌, ◌≤◌, ◌++◌, IfOk, IfErr, OnOk};
+ghost use Rattle.rowan_green.specs.Fits.{byte_limit, FitsNode};
+ghost use Rattle.rowan_edit.specs.ChangesKept.{CanBeKept};
+ghost use Rattle.rowan_edit.specs.Rewriting.{change_of, put_len};
 ghost use Rattle.rowan_edit.specs.RewritingCalls.{IsRewritten, WhyNotRewritten};
 
+use crate::changes::{Change, Changes};
+use crate::edit::len_of;
 use pass::{Left, Pass};
 use rowan_green::fault::Fault;
-use rowan_green::green::{GreenElement, GreenNode, GreenToken};
+use rowan_green::green::{GreenElement, GreenNode};
 use rowan_green::text::{TextRange, TextSize};
 use rowan_green::utility_types::NodeOrToken;
 use std::alloc::Global;
+pub use token_at::TokenAt;
 
 /// What becomes of a token.
 #[derive(Drop)]
@@ -23,21 +30,30 @@ pub enum Rewrite {
     Replace(Vec<GreenElement>),
 }
 
-/// The root of a new tree, in which a closure has said of each token what becomes of it. All nodes
-/// stay, with their kinds. The closure is called once at each token, in the order of the text, with
-/// the range of its text in that of the old root, in bytes. It is not called at what it puts there,
-/// and not again after the last token. The old tree stays as it is, and the new one shares each
-/// node in which all tokens were kept.
+/// A tree with other tokens, and what they changed in its text.
+#[derive(Drop)]
+pub struct Rewritten {
+    /// The root of the new tree.
+    pub green: GreenNode,
+    /// One change for each token that was not kept, in the order of the text.
+    pub changes: Changes,
+}
+
+/// A new tree, in which a closure has said of each token what becomes of it. All nodes stay, with
+/// their kinds. The closure is called once at each token, in the order of the text, and is shown
+/// the token where it stands in the old tree. It is not called at what it puts there, and not again
+/// after the last token. The old tree stays as it is, and the new one shares each node in which all
+/// tokens were kept.
 ///
 /// Errors: the first refusal that the closure answers, and it is not called again. A node whose
 /// tokens are all rewritten is made before the next token is looked at, and refused as
 /// `GreenNode::new` does: `TooManyChildren` past 4,294,967,295 children, `TextTooLong` past as many
 /// bytes of text. `Memory` if an allocation failed.
-pub fn rewrite_tokens<F: FnMut(&GreenToken, TextRange) -> Result<Rewrite, Fault>>(
+pub fn rewrite_tokens<F: FnMut(TokenAt<'_>) -> Result<Rewrite, Fault>>(
     alloc: Global,
     root: &GreenNode,
     rewrite: &mut F,
-) -> Result<GreenNode, Fault>
+) -> Result<Rewritten, Fault>
     requires { F.IsAlwaysCallable rewrite.old }
     ensures ok { IfOk result (IsRewritten F.FnMut rewrite.old rewrite.new root.now) }
     ensures err { IfErr result (WhyNotRewritten F.FnMut rewrite.old rewrite.new root.now) }
@@ -45,6 +61,7 @@ pub fn rewrite_tokens<F: FnMut(&GreenToken, TextRange) -> Result<Rewrite, Fault>
     // A tree is within the limits, and with it each offset of the text.
     let _text_len = root.text_len();
     let mut pass = Pass::new(alloc, root);
+    let mut changes = Vec::new(alloc);
     let mut at = TextSize::from(0);
     loop {
         match pass.child() {
@@ -52,8 +69,11 @@ pub fn rewrite_tokens<F: FnMut(&GreenToken, TextRange) -> Result<Rewrite, Fault>
                 NodeOrToken::Node(node) => pass = pass.enter(node)?,
                 NodeOrToken::Token(token) => {
                     let range = TextRange::at(at, token.text_len());
-                    match rewrite(token, range) {
-                        Ok(answer) => pass = pass.answer(alloc, answer)?,
+                    match rewrite(pass.token_at(token, at)) {
+                        Ok(answer) => {
+                            note(&mut changes, range, &answer)?;
+                            pass = pass.answer(alloc, answer)?;
+                        }
                         Err(refusal) => return Err(refusal),
                     }
                     at = range.end();
@@ -61,8 +81,36 @@ pub fn rewrite_tokens<F: FnMut(&GreenToken, TextRange) -> Result<Rewrite, Fault>
             },
             None => match pass.leave(alloc)? {
                 Left::ToParent(parent) => pass = parent,
-                Left::Tree(tree) => return Ok(tree),
+                Left::Tree(green) => return with_changes(alloc, green, changes),
             },
         }
     }
+}
+
+// Notes what an answer changes at a range of the old text. Only where the new elements' texts are
+// past the limit together, the new length is not theirs.
+fn note(changes: &mut Vec<Change>, range: TextRange, answer: &Rewrite) -> Result<(), Fault>
+    ensures ok { OnOk result (put_len answer.now ≤ byte_limit
+        → changes.new.items ≡ changes.old.items ++ change_of range answer.now) }
+    ensures err { IfErr result (λ e. e ≡ Fault.Memory) }
+{
+    let new_len = match answer {
+        Rewrite::Keep => return Ok(()),
+        Rewrite::Remove => TextSize::from(0),
+        Rewrite::Replace(elements) => len_of(elements),
+    };
+    changes.push(Change { range, new_len })?;
+    Ok(())
+}
+
+// The new tree with its changes.
+fn with_changes(alloc: Global, green: GreenNode, changes: Vec<Change>) -> Result<Rewritten, Fault>
+    requires { FitsNode green → CanBeKept changes.items }
+    ensures ok { IfOk result (λ r. (r.green ≡ green) × (r.changes ≡ changes.items)
+        × FitsNode green) }
+    ensures err { IfErr result (λ e. e ≡ Fault.Memory) }
+{
+    let _text_len = green.text_len();
+    let changes = Changes::new(alloc, changes)?;
+    Ok(Rewritten { green, changes })
 }

@@ -125,12 +125,8 @@ fn edits(tree: &Tree, step: usize) -> Result<u64, Fault>
 }
 
 fn rewrite(tree: &Tree) -> Result<u64, Fault> {
-    let new = rewrite_tokens(
-        tree.alloc,
-        &tree.green,
-        &mut |_token, _range| Ok(Rewrite::Keep),
-    )?;
-    Ok(u64::from(new == tree.green))
+    let new = rewrite_tokens(tree.alloc, &tree.green, &mut |_at| Ok(Rewrite::Keep))?;
+    Ok(u64::from(new.green == tree.green))
 }
 
 /// From place to place, in the order of the text.

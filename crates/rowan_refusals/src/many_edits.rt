@@ -8,7 +8,9 @@ use crate::shape::Shape;
 use crate::transcript::{Phase, Stop, Transcript};
 use rowan::cursor::{SyntaxElement, SyntaxNode};
 use rowan::{Fault, GreenElement, GreenNode, GreenToken, SyntaxKind, TextSize};
-use rowan_edit::{Edited, Editor, GreenEditor, Refusal, Rewrite, TreeCursor, rewrite_tokens};
+use rowan_edit::{
+    Edited, Editor, GreenEditor, Refusal, Rewrite, Rewritten, TreeCursor, rewrite_tokens,
+};
 use rowan_tool::sexp::parse;
 use std::alloc::Global;
 use std::ops::Range;
@@ -32,7 +34,7 @@ pub fn run_edits(log: &Transcript<'_>) -> Result<(), Stop> {
     let edited = ask(log, "Editor, with drops", || by_cursors(&subject))?;
     tell(log, &edited)?;
     let rewritten = ask(log, "rewrite_tokens, with drops", || rewritten(&subject))?;
-    log.tell("tree", &Shape(&rewritten))?;
+    log.tell("tree", &Shape(&rewritten.green))?;
     let replaced = ask(log, "TreeCursor, with drops", || replaced(&subject))?;
     log.tell("tree", &Shape(&replaced))?;
     log.phase(Phase::Moving)?;
@@ -103,12 +105,12 @@ fn by_cursors(subject: &Subject) -> Result<Edited, Fault> {
 }
 
 /// Another token comes in place of each that is one byte long.
-fn rewritten(subject: &Subject) -> Result<GreenNode, Fault> {
+fn rewritten(subject: &Subject) -> Result<Rewritten, Fault> {
     rewrite_tokens(
         subject.alloc,
         &subject.tree,
-        &mut |token, _| {
-            if token.text().len() == 1 {
+        &mut |at| {
+            if at.text().len() == 1 {
                 let new = vec![in subject.alloc; leaf(&subject.token)?]?;
                 return Ok(Rewrite::Replace(new));
             }

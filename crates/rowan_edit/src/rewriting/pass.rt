@@ -1,18 +1,22 @@
 //! A pass over the tokens of a tree, which has a stack of its own.
-ghost use Rattle.std.specs.Prelude.{◌≡◌, ◌≢◌, [], List, Some, None, IfOk, IfErr, MatchOption};
+ghost use Rattle.std.specs.Prelude.{◌≡◌, ◌≢◌, ◌+◌, ◌≤◌, [], List, Some, None, IfOk, IfErr};
+ghost use Rattle.std.specs.Prelude.{MatchOption};
 ghost use Rattle.rowan_green.specs.declared.utility_types.NodeOrToken.TheVariants.{Node, Token};
+ghost use Rattle.rowan_green.specs.Fits.{byte_limit};
 ghost use Rattle.rowan_green.specs.Lent.{pointee};
-ghost use Rattle.rowan_green.specs.Path.{tokens};
-ghost use Rattle.rowan_green.specs.Term.{TokenTerm};
+ghost use Rattle.rowan_green.specs.Path.{leaves};
+ghost use Rattle.rowan_green.specs.Term.{TokenTerm, token_len};
 ghost use Rattle.rowan_edit.specs.declared.rewriting.Rewrite.{Rewrite};
 ghost use Rattle.rowan_edit.specs.Drafts.{IsPass, child_of, left_of, tree_of, Continues, Takes};
-ghost use Rattle.rowan_edit.specs.Drafts.{Ends, Leaves};
+ghost use Rattle.rowan_edit.specs.Drafts.{Ends, Leaves, root_of};
 ghost use Rattle.rowan_edit.specs.Rewriting.{rewritten, HasNodePast};
 
 use super::Rewrite;
 use super::draft::{Draft, closed_or_shared};
+use super::token_at::TokenAt;
 use rowan_green::fault::Fault;
-use rowan_green::green::{GreenElementRef, GreenNode};
+use rowan_green::green::{GreenElementRef, GreenNode, GreenToken};
+use rowan_green::text::TextSize;
 use std::alloc::Global;
 
 /// The node whose children have their turn, and those above it, the root first.
@@ -35,7 +39,8 @@ impl<'tree> Pass<'tree> {
     /// At the first child of the root.
     pub(crate) fn new(alloc: Global, root: &'tree GreenNode) -> Pass<'tree>
         ensures pass { IsPass result }
-        ensures left { left_of result ≡ tokens (Node root.now) }
+        ensures root { root_of result ≡ root.now }
+        ensures left { left_of result ≡ leaves (Node root.now) }
         ensures tree { (more : List Rewrite) → tree_of result more ≡ rewritten root.now more }
     {
         Pass {
@@ -50,6 +55,18 @@ impl<'tree> Pass<'tree> {
             (λ c. child_of self.now ≡ Some (pointee c)) }
     {
         self.inner.child()
+    }
+
+    /// The child, a token whose text starts at an offset, where it stands in the tree.
+    pub(crate) fn token_at(&self, token: &'tree GreenToken, start: TextSize) -> TokenAt<'tree>
+        requires child { child_of self.now ≡ Some (Token token.now) }
+        requires fits { start + token_len token.now ≤ byte_limit }
+        ensures token { result.token.now ≡ token.now }
+        ensures parent { result.parent.now ≡ self.now.inner.node.now }
+        ensures index { result.index ≡ self.now.inner.next }
+        ensures start { result.start ≡ start }
+    {
+        TokenAt::new(token, self.inner.node, self.inner.next, start)
     }
 
     /// Goes into the child, a node.

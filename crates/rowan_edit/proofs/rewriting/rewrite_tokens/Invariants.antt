@@ -6,7 +6,7 @@ use Rattle.rowan_edit.proofs.rewriting.rewrite_tokens.Given as goal
 abbrev pub invariant-loop-child : goal.invariant-loop-child
 invariant-loop-child g l =
     goal.F-IsAlwaysCallable g l.rewrite
-    × SoFar g.F.FnMut l.fn.rewrite l.root l.rewrite l.at l.pass
+    × SoFar g.F.FnMut l.fn.rewrite l.root l.rewrite l.at l.changes.items l.pass
 
 abbrev pub decreases-loop-child : goal.decreases-loop-child
 decreases-loop-child g l = work_left l.pass

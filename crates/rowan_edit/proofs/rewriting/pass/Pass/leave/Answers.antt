@@ -4,7 +4,7 @@ use Rattle.std.proofs.lemmas.Result.{err_from_is_err_and}
 use Rattle.rowan_green.specs.declared.utility_types.NodeOrToken.TheVariants.{Node}
 use Rattle.rowan_green.specs.Term.{node_children}
 use Rattle.rowan_edit.specs.Drafts.{closed}
-use Rattle.rowan_edit.proofs.PassSteps.{ends, leaves, parent-open, past-here}
+use Rattle.rowan_edit.proofs.PassSteps.{ends, goes_up, parent-open, past-here}
 use Rattle.rowan_edit.proofs.RewritingLemmas.{get-past}
 use Rattle.rowan_edit.proofs.rewriting.pass.Pass.leave.Goals as goal
 
@@ -35,7 +35,7 @@ returns-in-Some-clause-ok c =
     let p = c.in-Some.parent in
     let made = c.in_ok-put_closed-in-Some.ensures in
     let up = parent-open old c.pop.new.self.items p c.requires.pass c.in-Some.ensures.items in
-    leaves old (record { above = c.pop.new.self; inner = c.in_ok-put_closed-in-Some.field-0 }) p
+    goes_up old (record { above = c.pop.new.self; inner = c.in_ok-put_closed-in-Some.field-0 }) p
     (closed old.inner.node.now c.in_ok-new.new) c.requires.pass c.requires.child
     c.in-Some.ensures.items c.in_ok-new.ensures.ok (record {
       node = made.node;

@@ -1,7 +1,13 @@
 use Rattle.std.proofs.Common.{◌∙◌, ap}
-use Rattle.rowan_edit.specs.Drafts.{completed, to_do, tokens_behind, tokens_in, whole}
-use Rattle.rowan_edit.proofs.PassSteps.{IsNew, new-tokens, new-completed}
+use Rattle.rowan_edit.specs.Drafts.{completed, to_do, tokens_in, whole, top, leaves_at}
+use Rattle.rowan_edit.specs.Drafts.{leaves_behind}
+use Rattle.rowan_edit.proofs.PassSteps.{IsNew, new-leaves, new-completed}
 use Rattle.rowan_edit.proofs.rewriting.pass.Pass.new.Goals as goal
+
+pub returns-clause-root : goal.returns-clause-root
+returns-clause-root c =
+    let d = c.new-2.result in
+    ap (λ es. top es d.node.now) c.new.ensures.items ∙ c.new-2.ensures.node
 
 pub returns-clause-left : goal.returns-clause-left
 returns-clause-left c =
@@ -9,8 +15,8 @@ returns-clause-left c =
     let made = c.new-2.ensures in
     let h : IsNew c.args.root.now d =
     record { node = made.node; next = made.next; done = made.done } in
-    ap (λ es. tokens_behind es (tokens_in (to_do d))) c.new.ensures.items
-    ∙ new-tokens c.args.root.now d h
+    ap (λ es. leaves_behind es (leaves_at d.next (to_do d))) c.new.ensures.items
+    ∙ new-leaves c.args.root.now d h
 
 pub returns-clause-tree : goal.returns-clause-tree
 returns-clause-tree c = λ more.
