@@ -2,6 +2,7 @@
 -- the other. And children that are tokens of a kind.
 use Rattle.std.specs.Prelude.{◌≡◌, ℕ, ◌<◌, if◌then◌else◌, Bool, false, List, [], ◌∷◌, length}
 use Rattle.std.specs.Prelude.{filter, Option, Some, None, Result, Ok, Err}
+use Rattle.std.specs.List.{list_any}
 use Rattle.std.specs.Option.{option_map, option_map_or}
 use Rattle.rowan_green.specs.declared.fault.Fault.{Fault}
 use Rattle.rowan_green.specs.declared.fault.Fault.TheVariants.{Memory}
@@ -11,6 +12,7 @@ use Rattle.rowan_cursor.specs.Moves.{Element}
 use Rattle.rowan_cursor.specs.Yields.{Rest}
 use Rattle.rowan_api.specs.Refs.{rest_of_nodes}
 use Rattle.rowan.specs.declared.ast.children_ref.AstChildrenRef.{AstChildrenRef}
+use Rattle.rowan.specs.declared.ast.nodes_ref.AstNodesRef.{AstNodesRef}
 
 -- whether the node has a kind that casts, by what raw kinds mean
 abbrev pub casts_at : {K : Type 0} → (ℕ → K) → (K → Bool) → Cursor → Bool
@@ -55,3 +57,17 @@ rest_of_children list = if list.was_refused then [] else rest_of_nodes list.node
 abbrev pub is_token_of : (ℕ → Bool) → Element → Bool
 is_token_of means (Token c) = option_map_or means (kind c) false
 is_token_of means (Node c) = false
+
+-- the children that are still to come of a list of borrowed wrappers
+abbrev pub rest_that_casts : {N L : Type 0} → (Cursor → Bool) → AstNodesRef N L → List Cursor
+rest_that_casts casts list = filter casts (rest_of_nodes list.nodes)
+
+-- whether raw kind number n means one of these kinds, by what raw kinds mean and when kinds are
+-- equal
+abbrev pub means_one_of : {K : Type 0} → (ℕ → K) → (K → K → Bool) → List K → ℕ → Bool
+means_one_of meaning same kinds raw = list_any (λ k. same k (meaning raw)) kinds
+
+-- whether it has one of these kinds
+abbrev pub has_one_of : {K : Type 0} → (ℕ → K) → (K → K → Bool) → List K → Cursor → Bool
+has_one_of meaning same kinds c =
+    option_map_or (means_one_of meaning same kinds) (kind c) false

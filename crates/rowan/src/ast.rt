@@ -8,15 +8,24 @@
 //! A call that gives a node or a token shares its tree once more. Where that is refused, since the
 //! tree's reference count is full, the answer is `Err(Fault::Memory)`. What is borrowed from a tree
 //! shares nothing: calls whose names end in `_ref` or `_of` take it and, where they can, give it.
+pub mod algo;
+mod alike;
+mod ancestors_at_offset;
 mod ast_ptr;
 mod children;
 mod children_ref;
 mod node;
+mod node_ref;
+mod nodes_ref;
 pub mod support;
 mod syntax_node_ptr;
+mod token;
 
 pub use ast_ptr::AstPtr;
 pub use children::AstChildren;
 pub use children_ref::AstChildrenRef;
 pub use node::AstNode;
+pub use node_ref::AstNodeRef;
+pub use nodes_ref::AstNodesRef;
 pub use syntax_node_ptr::SyntaxNodePtr;
+pub use token::{AstToken, AstTokenRef};

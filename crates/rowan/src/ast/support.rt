@@ -10,6 +10,8 @@ ghost use Rattle.rowan_api.specs.Refs.{node_place, token_place};
 ghost use Rattle.rowan.specs.Ast.{casts_at, is_token_of, rest_of_children};
 ghost use Rattle.rowan.specs.Pointer.{means_kind};
 
+pub use super::alike::{nth_child, nth_child_ref, nth_token, nth_token_ref};
+pub use super::nodes_ref::{child_ref, children_ref};
 use super::{AstChildren, AstChildrenRef, AstNode};
 use crate::api::{Language, SyntaxNode, SyntaxNodeRef, SyntaxToken, SyntaxTokenRef};
 use crate::fault::Fault;

@@ -1,0 +1,12 @@
+use Rattle.std.proofs.Common.{◌≡◌}
+use Rattle.std.specs.List.{find}
+use Rattle.rowan_api.specs.Refs.{rest_of_ancestors}
+use Rattle.rowan.specs.Ast.{casts_at}
+use Rattle.rowan.proofs.ast.algo.first_that_casts.Given as goal
+
+abbrev pub invariant-loop-node : goal.invariant-loop-node
+invariant-loop-node g l =
+    let casts = casts_at g.N.Language.Language.meaning g.N.AstNodeRef.casts in
+    (goal.iterator-loop-node g).can_next l.nodes
+    × (goal.iterator-loop-node g).is_finite l.nodes
+    × (find casts (rest_of_ancestors l.nodes) ≡ find casts (rest_of_ancestors l.fn.nodes))
