@@ -10,6 +10,7 @@ mod texts;
 mod tools;
 mod trees;
 mod typed;
+mod wrappers;
 
 use anyhow::{Result, bail};
 use rowan::Fault;
@@ -79,6 +80,9 @@ fn make(call: &str, tree: &Tree) -> Result<Option<u64>, Fault> {
         return Ok(Some(number));
     }
     if let Some(number) = edits::make(call, tree)? {
+        return Ok(Some(number));
+    }
+    if let Some(number) = wrappers::make(call, tree)? {
         return Ok(Some(number));
     }
     tools::make(call, tree)
