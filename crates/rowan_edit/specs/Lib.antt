@@ -26,6 +26,7 @@ pub mod SitesCode
 pub mod SitesKept
 pub mod TextEdits
 pub mod TextWith
+pub mod TokenAts
 pub mod TreeCursor
 pub mod TreeCursorMoves
 pub mod Zipper

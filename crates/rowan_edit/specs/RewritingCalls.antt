@@ -11,15 +11,16 @@ use Rattle.rowan_edit.specs.declared.rewriting.Rewritten.{Rewritten}
 use Rattle.rowan_edit.specs.declared.rewriting.token_at.TokenAt.{TokenAt}
 use Rattle.rowan_edit.specs.Rewriting.{rewritten, rewritten_text, rewrite_changes, HasNodePast}
 use Rattle.rowan_edit.specs.Rewriting.{Keeps}
+use Rattle.rowan_edit.specs.TokenAts.{token_in, parent_in, index_in, start_in}
 
 -- the view shows this leaf of a tree: its token, the node above it, its index there, and where its
 -- text starts
 pub record Shows (root : NodeTerm) (view : TokenAt) (leaf : LeafAt) : Type 0 where
-  pub shown : view.token.now ≡ leaf.1
+  pub shown : token_in view ≡ leaf.1
   pub above : Path
-  pub path : leaf.0 ≡ above ++ view.index ∷ []
-  pub stands : subterm (Node root) above ≡ Some (Node view.parent.now)
-  pub offset_is : view.start ≡ offset (Node root) leaf.0
+  pub path : leaf.0 ≡ above ++ index_in view ∷ []
+  pub stands : subterm (Node root) above ≡ Some (Node (parent_in view))
+  pub offset_is : start_in view ≡ offset (Node root) leaf.0
 
 module _ {F : Type 0} (g : Mut F (TokenAt × Unit {0}) (Result Rewrite Fault)) where
   -- a call of f, shown this leaf of a tree, may give this answer, and leave f'

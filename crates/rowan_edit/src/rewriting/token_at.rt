@@ -21,6 +21,7 @@ pub struct TokenAt<'tree> {
 impl<'tree> TokenAt<'tree> {
     ghost use Rattle.std.specs.Prelude.{◌≡◌, ◌-◌, MatchOption, Some, None, slice_get};
     ghost use Rattle.rowan_green.specs.Lent.{pointee};
+    ghost use Rattle.rowan_edit.specs.TokenAts.{token_in, parent_in, index_in, start_in};
 
     // The token at an index among the children of a node, whose text starts at an offset.
     pub(super) fn new(
@@ -46,51 +47,51 @@ impl<'tree> TokenAt<'tree> {
 
     /// The token.
     pub fn token(&self) -> &'tree GreenToken
-        ensures { result.now ≡ self.now.token.now }
+        ensures { result.now ≡ token_in self.now }
     {
         self.token
     }
 
     /// The kind of the token.
     pub fn kind(&self) -> SyntaxKind
-        ensures { result.0 ≡ self.now.token.now.kind }
+        ensures { result.0 ≡ (token_in self.now).kind }
     {
         self.token.kind()
     }
 
     /// The text of the token.
     pub fn text(&self) -> &'tree str
-        ensures { result.now ≡ self.now.token.now.text }
+        ensures { result.now ≡ (token_in self.now).text }
     {
         self.token.text()
     }
 
     /// Where the text of the token lies in that of the tree, in bytes.
     pub fn range(&self) -> TextRange
-        ensures { let start = self.now.start in
-            result ≡ record { start = start; end = start + token_len self.now.token.now } }
+        ensures { let start = start_in self.now in
+            result ≡ record { start = start; end = start + token_len (token_in self.now) } }
     {
         TextRange::at(TextSize::from(self.start), self.token.text_len())
     }
 
     /// The node whose child the token is. It is a node of the old tree.
     pub fn parent(&self) -> &'tree GreenNode
-        ensures { result.now ≡ self.now.parent.now }
+        ensures { result.now ≡ parent_in self.now }
     {
         self.parent
     }
 
     /// The index of the token among the children of its parent.
     pub fn index(&self) -> usize
-        ensures { result ≡ self.now.index }
+        ensures { result ≡ index_in self.now }
     {
         self.index
     }
 
     /// The child of the parent that stands before the token. `None` where the token is the first.
     pub fn before(&self) -> Option<GreenElementRef<'tree>>
-        ensures { MatchOption result (self.now.index ≡ 0) (λ e. (0 < self.now.index)
-            × (slice_get (node_children self.now.parent.now) (self.now.index - 1)
+        ensures { MatchOption result (index_in self.now ≡ 0) (λ e. (0 < index_in self.now)
+            × (slice_get (node_children (parent_in self.now)) (index_in self.now - 1)
             ≡ Some (pointee e))) }
     {
         if self.index == 0 {
@@ -104,7 +105,7 @@ impl<'tree> TokenAt<'tree> {
 
     /// The child of the parent that stands behind the token. `None` where the token is the last.
     pub fn behind(&self) -> Option<GreenElementRef<'tree>>
-        ensures { let found = slice_get (node_children self.now.parent.now) (self.now.index + 1) in
+        ensures { let found = slice_get (node_children (parent_in self.now)) (index_in self.now + 1) in
             MatchOption result (found ≡ None) (λ e. found ≡ Some (pointee e)) }
     {
         // A node is within the limits, and with it each place among its children.
