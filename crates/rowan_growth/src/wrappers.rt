@@ -20,18 +20,28 @@ struct AtomRef<'tree> {
 impl<'tree> AstNodeRef<'tree> for AtomRef<'tree> {
     type Language = Lang;
 
+    ghost use Rattle.std.specs.Prelude.{◌≡◌, true};
+    ghost use Rattle.std.specs.Option.{option_map};
+    ghost use Rattle.rowan.specs.Ast.{casts_at, if_casts};
     ghost use Rattle.rowan.specs.Refs.{node_place};
     ghost use Rattle.rowan_tool.specs.Casts.{is_atom};
+    ghost use Rattle.rowan_tool.specs.Sexp.{kind_of};
 
     ghost casts = { is_atom };
 
     ghost node_of = { λ atom. node_place atom.syntax };
 
-    fn can_cast(kind: SyntaxKind) -> bool {
+    fn can_cast(kind: SyntaxKind) -> bool
+        ensures { result ≡ is_atom kind }
+    {
         matches!(kind, SyntaxKind::ATOM)
     }
 
-    fn cast(syntax: SyntaxNodeRef<'tree, Lang>) -> Option<AtomRef<'tree>> {
+    fn cast(syntax: SyntaxNodeRef<'tree, Lang>) -> Option<AtomRef<'tree>>
+        ensures { let casting = casts_at kind_of is_atom in
+            option_map (λ atom. node_place atom.syntax) result
+            ≡ if_casts casting (node_place syntax.entry) }
+    {
         if AtomRef::can_cast(syntax.kind()) {
             Some(AtomRef { syntax })
         } else {
@@ -39,7 +49,10 @@ impl<'tree> AstNodeRef<'tree> for AtomRef<'tree> {
         }
     }
 
-    fn syntax(&self) -> SyntaxNodeRef<'tree, Lang> {
+    fn syntax(&self) -> SyntaxNodeRef<'tree, Lang>
+        ensures node { node_place result ≡ node_place self.now.syntax }
+        ensures casts { casts_at kind_of is_atom (node_place result) ≡ true }
+    {
         self.syntax
     }
 }
