@@ -1,6 +1,6 @@
 //! Edits of JSON with comments, read from standard input; a text with errors is refused. Each word
 //! behind the program's name is an edit of what the edit before it made: `rename:OLD:NEW`,
-//! `set:NAME:VALUE`, `delete:NAME`, `wrap`, `sort` or `format`. Names are written with their quotes.
+//! `set:NAME:VALUE`, `delete:NAME`, `wrap`, `sort` or `format`. Names have their quotes.
 #![tactic(auto)]
 
 use anyhow::{Result, bail};

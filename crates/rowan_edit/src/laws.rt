@@ -61,8 +61,9 @@ pub fn sites_say_where_elements_go()
     ensures { (es : List Edit) (p : Path) → moved_by es p ≡ moved_over (sites_of es) p }
 {}
 
-/// The range of an element that no edit takes away, and in which none stands, is moved by the differences of the edits that end before it: by as
-/// many bytes as they make the text longer or shorter.
+/// The range of an element that no edit takes away, and in which none stands, is moved by the
+/// differences of the edits that end before it: by as many bytes as they make the text longer or
+/// shorter.
 pub fn untouched_ranges_are_shifted()
     ensures { (root : NodeTerm) (es : List Edit) (p : Path) (u : Term) → AreInOrder root es
         → AllByRecursion (λ e. IsUntouchedBy e p) es → subterm (Node root) p ≡ Some u

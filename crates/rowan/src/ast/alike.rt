@@ -45,8 +45,8 @@ fn nth_of_kinds<'tree, L: Language>(
     None
 }
 
-/// Of the children of a borrowed node whose kind is one of these, the one at an index, in a borrowed
-/// wrapper. `None` where there are not so many, and where that one does not cast.
+/// Of the children of a borrowed node whose kind is one of these, the one at an index, in a
+/// borrowed wrapper. `None` where there are not so many, and where that one does not cast.
 pub fn nth_child_ref<'tree, N: AstNodeRef<'tree>>(
     parent: SyntaxNodeRef<'tree, N::Language>,
     kinds: &[<N::Language as Language>::Kind],
@@ -63,8 +63,9 @@ pub fn nth_child_ref<'tree, N: AstNodeRef<'tree>>(
     }
 }
 
-/// Of the children of a node whose kind is one of these, the one at an index, in its wrapper. `None`
-/// where there are not so many, and where that one does not cast. Refused with `Memory` alone.
+/// Of the children of a node whose kind is one of these, the one at an index, in its wrapper.
+/// `None` where there are not so many, and where that one does not cast. Refused with `Memory`
+/// alone.
 pub fn nth_child<N: AstNode>(
     parent: &SyntaxNode<N::Language>,
     kinds: &[<N::Language as Language>::Kind],
