@@ -3,11 +3,9 @@ use Rattle.std.proofs.Common.{◌≡◌, ℕ, ◌+◌, ◌≤◌, ◌||◌, Bool
 use Rattle.std.proofs.lemmas.List.{map-append, drop_all}
 use Rattle.rowan_parser.specs.Events.{is_trivia}
 use Rattle.rowan_parser.specs.Log.{Piece}
-use Rattle.rowan_parser.specs.Parsing.{has_line_end, pieces_since, Error, error_value, said_of}
-use Rattle.rowan_parser.specs.Parsing.{lexer_errors}
+use Rattle.rowan_parser.specs.Parsing.{has_line_end, pieces_since}
 use Rattle.rowan_parser.specs.Seen.{piece}
 use Rattle.rowan_parser.specs.declared.lexer.Token.{Token}
-use Rattle.rowan_parser.specs.declared.parsed.SyntaxError.{SyntaxError}
 use Rattle.rowan_parser.specs.declared.parser.SeenToken.{SeenToken}
 use Rattle.rowan_parser.specs.declared.tree.Trivia.{Trivia}
 
@@ -71,34 +69,4 @@ seen_all seen start joined line trivia ts i all none so_far =
     sym (append-nil (map piece seen))
     ∙ ap (λ us. map piece seen ++ pieces_since start joined line trivia us)
     (sym (drop_all i ts none))
-    ∙ so_far
-
--- ---- what the lexer said
-
--- one token on
-pub said_on : (old new : List SyntaxError) (start next : ℕ) (t : Token)
-    (rest others : List Token) (all : List Error)
-    → rest ≡ t ∷ others
-    → next ≡ start + length t.text.now
-    → map error_value new
-    ≡ map error_value old ++ said_of t.message (record { start = start; end = next })
-    → map error_value old ++ lexer_errors start rest ≡ all
-    → map error_value new ++ lexer_errors next others ≡ all
-said_on old new start next t rest others all first at pushed so_far =
-    let end = start + length t.text.now in
-    let said : ℕ → List Error = λ n. said_of t.message (record { start = start; end = n }) in
-    ap (λ es. es ++ lexer_errors next others) pushed
-    ∙ append_assoc (map error_value old) (said next) (lexer_errors next others)
-    ∙ ap (λ n. map error_value old ++ (said n ++ lexer_errors n others)) at
-    ∙ ap (λ ts. map error_value old ++ lexer_errors start ts) (sym first)
-    ∙ so_far
-
-pub said_all : (errors : List SyntaxError) (start : ℕ) (ts : List Token) (i : ℕ)
-    (all : List Error)
-    → length ts ≤ i
-    → map error_value errors ++ lexer_errors start (drop i ts) ≡ all
-    → map error_value errors ≡ all
-said_all errors start ts i all none so_far =
-    sym (append-nil (map error_value errors))
-    ∙ ap (λ us. map error_value errors ++ lexer_errors start us) (sym (drop_all i ts none))
     ∙ so_far

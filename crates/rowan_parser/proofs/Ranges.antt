@@ -4,9 +4,11 @@ use Rattle.std.specs.Prelude.{string_bytes}
 use Rattle.std.proofs.lemmas.List.{map-append, drop_all}
 use Rattle.rowan_green.specs.Span.{Span}
 use Rattle.rowan_parser.specs.Events.{is_trivia}
-use Rattle.rowan_parser.specs.Parsing.{Error, error_value, error_of, ranges_from, range_at}
+use Rattle.rowan_parser.specs.Parsing.{Error, error_value, error_of, lexer_error}
+use Rattle.rowan_parser.specs.Parsing.{ranges_from, range_at}
 use Rattle.rowan_parser.specs.Tokens.{tokens_text}
 use Rattle.rowan_parser.specs.Told.{Told}
+use Rattle.rowan_parser.specs.declared.lexer.LexError.{LexError}
 use Rattle.rowan_parser.specs.declared.lexer.Token.{Token}
 use Rattle.rowan_parser.specs.declared.parsed.SyntaxError.{SyntaxError}
 use Rattle.rowan_parser.specs.declared.parser.Spot.{Spot}
@@ -115,3 +117,29 @@ pub told_end : (trivia : Trivia) (tokens : List Token) (left : List Told) (old :
     → map error_value old ≡ all
 told_end trivia tokens (t ∷ left) old all none so_far = absurd (omega (arith, none))
 told_end trivia tokens [] old all none so_far = sym (append-nil (map error_value old)) ∙ so_far
+
+-- ---- what the lexer said
+
+pub lexer_more : (told : LexError) (error : SyntaxError) (left others : List LexError)
+    (old new : List SyntaxError) (all : List Error)
+    → left ≡ told ∷ others
+    → new ≡ old ++ error ∷ []
+    → error_value error ≡ lexer_error told
+    → map error_value old ++ map lexer_error left ≡ all
+    → map error_value new ++ map lexer_error others ≡ all
+lexer_more told error left others old new all first pushed is so_far =
+    ap (λ es. map error_value es ++ map lexer_error others) pushed
+    ∙ ap (λ vs. vs ++ map lexer_error others) (map-append error_value old (error ∷ []))
+    ∙ append_assoc (map error_value old) (error_value error ∷ []) (map lexer_error others)
+    ∙ ap (λ v. map error_value old ++ v ∷ map lexer_error others) is
+    ∙ ap (λ ts. map error_value old ++ map lexer_error ts) (sym first)
+    ∙ so_far
+
+pub lexer_end : (told : List LexError) (errors : List SyntaxError) (i : ℕ) (all : List Error)
+    → length told ≤ i
+    → map error_value errors ++ map lexer_error (drop i told) ≡ all
+    → map error_value errors ≡ all
+lexer_end told errors i all none so_far =
+    sym (append-nil (map error_value errors))
+    ∙ ap (λ es. map error_value errors ++ map lexer_error es) (sym (drop_all i told none))
+    ∙ so_far

@@ -1,8 +1,8 @@
 -- From a text to its tree: the tokens of a lexer, what a grammar did over those that are no trivia,
 -- and the tree of its events.
 use Rattle.std.specs.Prelude.{◌≡◌, ℕ, ◌+◌, ◌<◌, ◌==◌, ◌||◌, Bool, true, false, cond, List, [], ◌∷◌}
-use Rattle.std.specs.Prelude.{◌++◌, map, length, get_or, min, string_bytes, Option, Some, None}
-use Rattle.std.specs.Borrow.{Bor, MutBor}
+use Rattle.std.specs.Prelude.{◌++◌, map, length, get_or, min, string_bytes}
+use Rattle.std.specs.Borrow.{MutBor}
 use Rattle.std.specs.Fn.{Once}
 use Rattle.std.specs.List.{list_any}
 use Rattle.rowan_green.specs.declared.fault.Fault.{Fault}
@@ -21,6 +21,7 @@ use Rattle.rowan_parser.specs.Seen.{started}
 use Rattle.rowan_parser.specs.Told.{Told}
 use Rattle.rowan_parser.specs.Tokens.{tokens_text, token_terms, AreSaid}
 use Rattle.rowan_parser.specs.declared.event.Event.{Event}
+use Rattle.rowan_parser.specs.declared.lexer.LexError.{LexError}
 use Rattle.rowan_parser.specs.declared.lexer.Lexeme.{Lexeme}
 use Rattle.rowan_parser.specs.declared.lexer.Token.{Token}
 use Rattle.rowan_parser.specs.declared.parsed.SyntaxError.{SyntaxError}
@@ -100,17 +101,12 @@ error_of trivia tokens told = record {
   range = range_at (ranges_from 0 trivia tokens) told.place told.spot;
 }
 
--- what the lexer said of a token with this range, if it complained of it
-abbrev pub said_of : Option (Bor (List ℕ)) → Span → List Error
-said_of None range = []
-said_of (Some message) range = record { message = message.now; range = range } ∷ []
-
--- what the lexer said of these tokens, the first of which starts at this offset
-abbrev pub lexer_errors : ℕ → List Token → List Error
-lexer_errors start [] = []
-lexer_errors start (token ∷ tokens) =
-    let end = start + length token.text.now in
-    said_of token.message (record { start = start; end = end }) ++ lexer_errors end tokens
+-- the error that a lexer told
+abbrev pub lexer_error : LexError → Error
+lexer_error error = record {
+  message = error.message.now;
+  range = record { start = error.range.start; end = error.range.end };
+}
 
 -- ---- a run
 
@@ -121,12 +117,13 @@ pub record IsRun {X G : Type 0} (says : X → List ℕ → Lexeme → X → Type
     (calls : Once G (MutBor Seen × Unit {0}) (Unit {0} × (MutBor Seen × Unit {0})))
     (grammar : G) (trivia : Trivia) (text : List ℕ)
     (tokens : List Token) (events : List Event) (errors : List SyntaxError) : Type 0 where
-  pub said : AreSaid says lexer tokens
+  pub complained : List LexError
+  pub said : AreSaid says lexer 0 tokens complained
   pub whole : tokens_text tokens ≡ text
   pub complaints : List Told
   pub makes : Makes calls grammar (started (pieces trivia tokens)) events complaints
   pub told : map error_value errors
-      ≡ lexer_errors 0 tokens ++ map (error_of trivia tokens) complaints
+      ≡ map lexer_error complained ++ map (error_of trivia tokens) complaints
 
 -- why a text is not run over
 abbrev pub WhyNotRun : List ℕ → Fault → Type 0

@@ -17,7 +17,7 @@ pub mod token_set;
 pub mod tree;
 
 pub use event::Event;
-pub use lexer::{Lexeme, Lexer, Token, lex};
+pub use lexer::{LexError, Lexed, Lexeme, Lexer, Token, lex};
 pub use line_index::{LineColumn, LineIndex};
 pub use parsed::{Parse, SyntaxError};
 pub use parser::{CompletedMarker, Marker, Parser};

@@ -1,5 +1,5 @@
 //! From a text to its tree, by a lexer and a grammar.
-ghost use Rattle.std.specs.Prelude.{◌≡◌, ◌+◌, ◌<◌, ◌≤◌, ◌++◌, ◌∷◌, [], length, map, cond};
+ghost use Rattle.std.specs.Prelude.{◌≡◌, ◌+◌, ◌<◌, ◌≤◌, ◌++◌, ◌∷◌, [], length, map, cond, All};
 ghost use Rattle.std.specs.Prelude.{IfOk, IfErr, OnOk, List, false};
 ghost use Rattle.rowan_green.specs.Cache.{first_seen};
 ghost use Rattle.rowan_green.specs.Fits.{byte_limit};
@@ -9,14 +9,14 @@ ghost use Rattle.rowan_green.specs.declared.utility_types.NodeOrToken.TheVariant
 ghost use Rattle.rowan_parser.specs.Parsing.{has_line_end, pieces_since, pieces, ranges_from};
 ghost use Rattle.rowan_parser.specs.Parsing.{empty_at, end_behind, nth_range, range_at};
 ghost use Rattle.rowan_parser.specs.Parsing.{error_value, error_of};
-ghost use Rattle.rowan_parser.specs.Parsing.{said_of, lexer_errors, IsRun, WhyNotRun};
+ghost use Rattle.rowan_parser.specs.Parsing.{lexer_error, IsRun, WhyNotRun};
 ghost use Rattle.rowan_parser.specs.Parsing.{IsParsed, WhyNotParsed, WhyNoTree};
 ghost use Rattle.rowan_parser.specs.Seen.{piece};
-ghost use Rattle.rowan_parser.specs.Tokens.{tokens_text};
+ghost use Rattle.rowan_parser.specs.Tokens.{tokens_text, lies_within};
 ghost use Rattle.rowan_parser.specs.declared.lexer.Token.{Token};
 
 use crate::event::Event;
-use crate::lexer::{Lexer, Token, lex};
+use crate::lexer::{LexError, Lexed, Lexer, Token, lex};
 use crate::parsed::{Parse, SyntaxError};
 use crate::parser::{Complaint, Parser, SeenToken, Spot};
 use crate::running::{Made, run_grammar};
@@ -136,9 +136,13 @@ pub fn run<'text, L: Language, X: Lexer + Drop, G: FnOnce(&mut Parser<'text, L>)
     if text.len() > u32::MAX as usize {
         return Err(Fault::TextTooLong);
     }
-    let tokens = lex(alloc, text, lexer)?;
-    let mut errors = Vec::new(alloc);
-    let seen = seen_tokens(alloc, tokens.as_slice(), trivia, &mut errors)?;
+    let lexed = lex(alloc, text, lexer)?;
+    let Lexed {
+        tokens,
+        errors: complained,
+    } = lexed;
+    let mut errors = errors_of(alloc, complained.as_slice())?;
+    let seen = seen_tokens(alloc, tokens.as_slice(), trivia)?;
     let made = run_grammar(alloc, seen, grammar)?;
     let Made { events, complaints } = made;
     push_errors(alloc, &mut errors, tokens.as_slice(), trivia, complaints)?;
@@ -158,19 +162,15 @@ struct Gap {
     is_after_line: bool,
 }
 
-/// The tokens that are no trivia. Puts what the lexer said into `errors`, which are none yet.
+/// The tokens that are no trivia.
 fn seen_tokens<'text>(
     alloc: Global,
     tokens: &[Token<'text>],
     trivia: Trivia<'_>,
-    errors: &mut Vec<SyntaxError>,
 ) -> Result<Vec<SeenToken<'text>>, Fault>
-    requires short { length (tokens_text tokens.now) ≤ byte_limit }
-    requires none { errors.old.items ≡ [] }
+    requires { length (tokens_text tokens.now) ≤ byte_limit }
     ensures seen { IfOk result (λ seen.
         map piece seen.items ≡ pieces trivia.entry tokens.now) }
-    ensures told { IfOk result (λ _.
-        map error_value errors.new.items ≡ lexer_errors 0 tokens.now) }
     ensures err { IfErr result (λ e. e ≡ Fault.Memory) }
 {
     let mut seen = Vec::with_capacity(alloc, tokens.len())?;
@@ -181,34 +181,37 @@ fn seen_tokens<'text>(
     };
     for token in tokens {
         let end = gap.start + token.text.len() as u32;
-        push_said(alloc, errors, token.message, gap.start, end)?;
         gap = see(&mut seen, trivia, gap, token, end)?;
     }
     Ok(seen)
 }
 
-/// Puts what the lexer said of a token with this range behind the other errors, if it complained.
-#[inline(always)]
-fn push_said(
-    alloc: Global,
-    errors: &mut Vec<SyntaxError>,
-    message: Option<&str>,
-    start: u32,
-    end: u32,
-) -> Result<(), Fault>
-    requires { start ≤ end }
-    ensures told { OnOk result (map error_value errors.new.items
-        ≡ map error_value errors.old.items
-        ++ said_of message.entry (record { start = start; end = end })) }
+/// What a lexer complained of, as errors of a parse.
+fn errors_of(alloc: Global, complained: &[LexError]) -> Result<Vec<SyntaxError>, Fault>
+    requires { All (lies_within byte_limit) complained.now }
+    ensures told { IfOk result (λ errors.
+        map error_value errors.items ≡ map lexer_error complained.now) }
     ensures err { IfErr result (λ e. e ≡ Fault.Memory) }
 {
-    let Some(message) = message else {
-        return Ok(());
-    };
-    let message = String::from_str(alloc, message)?;
-    let range = TextRange::new(TextSize::from(start), TextSize::from(end));
-    errors.push(SyntaxError { message, range })?;
-    Ok(())
+    let mut errors = Vec::new(alloc);
+    for error in complained {
+        errors.push(told_error(alloc, error)?)?;
+    }
+    Ok(errors)
+}
+
+fn told_error(alloc: Global, error: &LexError) -> Result<SyntaxError, Fault>
+    requires { lies_within byte_limit error.now }
+    ensures ok { IfOk result (λ e. error_value e ≡ lexer_error error.now) }
+    ensures err { IfErr result (λ e. e ≡ Fault.Memory) }
+{
+    let message = String::from_str(alloc, error.message)?;
+    let start = TextSize::from(error.range.start as u32);
+    let end = TextSize::from(error.range.end as u32);
+    Ok(SyntaxError {
+        message,
+        range: TextRange::new(start, end),
+    })
 }
 
 /// Puts a token, which ends here, behind the others, unless it is trivia, and gives what then stands

@@ -9,7 +9,7 @@ use anyhow::{Context, Result, bail};
 use arithmetic_syntax::Arithmetic;
 use json_syntax::Json;
 use rowan::{Fault, GreenNode, Language, SyntaxNode, WalkEvent};
-use rowan_parser::{Event, Parse, Token, lex};
+use rowan_parser::{Event, Lexed, Parse, Token, lex};
 use std::alloc::Global;
 use std::mem::size_of;
 use std::time::Instant;
@@ -44,7 +44,7 @@ impl Input {
         }
     }
 
-    fn lex(self, alloc: Global, text: &str) -> Result<Vec<Token<'_>>, Fault> {
+    fn lex(self, alloc: Global, text: &str) -> Result<Lexed<'_>, Fault> {
         match self {
             Input::Json => lex(alloc, text, json_syntax::next_token),
             Input::Sums => lex(alloc, text, arithmetic_syntax::next_token),
@@ -100,10 +100,10 @@ fn main(rt: HostRuntime) -> Result<()> {
 /// Makes one turn, and gives its number.
 fn take_turn(alloc: Global, input: Input, command: &str, text: &str) -> Result<usize> {
     match command {
-        "lex" => Ok(input.lex(alloc, text)?.len()),
+        "lex" => Ok(input.lex(alloc, text)?.tokens.len()),
         "direct" => {
-            let tokens = input.lex(alloc, text)?;
-            Ok(len_of(&input.build(alloc, tokens.as_slice())?))
+            let lexed = input.lex(alloc, text)?;
+            Ok(len_of(&input.build(alloc, lexed.tokens.as_slice())?))
         }
         "events" => Ok(len_of(&input.parse(alloc, text)?.green)),
         _ => bail!("there is no such command"),
@@ -115,7 +115,7 @@ fn len_of(tree: &GreenNode) -> usize {
 }
 
 fn count(rt: &HostRuntime, input: Input, text: &str) -> Result<()> {
-    let tokens = input.lex(rt.alloc(), text)?;
+    let tokens = input.lex(rt.alloc(), text)?.tokens;
     let direct = input.build(rt.alloc(), tokens.as_slice())?;
     let parse = input.parse(rt.alloc(), text)?;
     let mut seen = 0usize;

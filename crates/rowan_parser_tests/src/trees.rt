@@ -84,7 +84,6 @@ fn token(kind: Kind, text: &str) -> Token<'_> {
     Token {
         kind: Arithmetic::kind_to_raw(kind),
         text,
-        message: None,
     }
 }
 

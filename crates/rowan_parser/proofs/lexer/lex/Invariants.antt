@@ -1,8 +1,9 @@
-use Rattle.std.proofs.Common.{List, ◌≡◌, ◌<◌, ◌++◌, All, length}
+use Rattle.std.proofs.Common.{List, ◌≡◌, ◌+◌, ◌<◌, ◌++◌, All, length}
 use denote.Text.{Utf8}
 use denote.Shadow.{shadow}
 use Rattle.rowan_parser.specs.declared.lexer.Token.{Token}
-use Rattle.rowan_parser.specs.Tokens.{tokens_text, AreSaid}
+use Rattle.rowan_parser.specs.Tokens.{tokens_text, lies_within}
+use Rattle.rowan_parser.proofs.Lexing.{Joins}
 use Rattle.rowan_parser.proofs.lexer.lex.Given as goal
 
 -- the tokens are of what was read, and the rest is still to come
@@ -12,8 +13,9 @@ invariant-loop-rest g l = record {
   ready : g.X.Lexer.is_ready l.lexer;
   text : tokens_text l.tokens.items ++ l.rest ≡ l.text;
   filled : All (λ token. 0 < length token.text.now) l.tokens.items;
-  said : (others : List Token) → tokens_text others ≡ l.rest → AreSaid g.X.Lexer.says l.lexer others
-      → AreSaid g.X.Lexer.says l.fn.lexer (l.tokens.items ++ others);
+  start : l.start + length l.rest ≡ length l.text;
+  within : All (lies_within (length l.text)) l.errors.items;
+  said : Joins g.X.Lexer.says l.fn.lexer l.lexer l.rest l.start l.tokens.items l.errors.items;
 }
 
 abbrev pub decreases-loop-rest : goal.decreases-loop-rest

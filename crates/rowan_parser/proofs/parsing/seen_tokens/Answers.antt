@@ -1,9 +1,9 @@
-use Rattle.std.proofs.Common.{ap, sym, ◌∙◌, ◌++◌, ◌+◌, length, map, drop, arith, refl}
+use Rattle.std.proofs.Common.{ap, sym, ◌∙◌, ◌++◌, ◌+◌, length, map, drop, arith}
 use Rattle.std.proofs.lemmas.List.{drop_more}
-use Rattle.rowan_parser.specs.Parsing.{pieces_since, pieces, error_value, lexer_errors}
+use Rattle.rowan_parser.specs.Parsing.{pieces_since, pieces}
 use Rattle.rowan_parser.specs.Seen.{piece}
 use Rattle.rowan_parser.specs.Tokens.{tokens_text}
-use Rattle.rowan_parser.proofs.Pieces.{seen_all, said_on, said_all}
+use Rattle.rowan_parser.proofs.Pieces.{seen_all}
 use Rattle.rowan_parser.proofs.Ranges.{left_more}
 use Rattle.rowan_parser.proofs.parsing.seen_tokens.Goals as goal
 
@@ -12,7 +12,6 @@ loop-token-init c = record {
   left = omega arith;
   seen = ap (λ ts. map piece ts ++ pieces c.args.trivia c.args.tokens.now)
       c.in_ok-seen.ensures.items;
-  said = ap (λ es. map error_value es ++ lexer_errors 0 c.args.tokens.now) c.requires.none;
 }
 
 pub loop-token-preserved : goal.loop-token-preserved
@@ -27,16 +26,8 @@ loop-token-preserved c =
           c.loop-token.gap.is_joined c.loop-token.gap.is_after_line c.args.trivia ts)
           (sym next)
           ∙ c.loop-token.invariant.seen;
-      said = ap (λ n. map error_value c.push_said.new.errors.items ++ lexer_errors n
-          (drop (c.loop-token.token-index + 1) c.args.tokens.now)) c.in_ok-gap.ensures.start
-          ∙ said_on _ _ c.loop-token.gap.start _ _ _ _ _ next refl c.in_ok-push_said.ensures.told
-          c.loop-token.invariant.said;
     }
 
 pub returns-clause-seen : goal.returns-clause-seen
 returns-clause-seen c = seen_all _ _ _ _ c.args.trivia c.args.tokens.now c.loop-token.token-index _
     (omega arith) c.loop-token.invariant.seen
-
-pub returns-clause-told : goal.returns-clause-told
-returns-clause-told c = said_all _ c.loop-token.gap.start c.args.tokens.now c.loop-token.token-index
-    _ (omega arith) c.loop-token.invariant.said

@@ -1,5 +1,5 @@
 use Rattle.std.proofs.Common.{◌≡◌, ◌+◌, ◌++◌, length, map, drop}
-use Rattle.rowan_parser.specs.Parsing.{pieces_since, pieces, error_value, lexer_errors}
+use Rattle.rowan_parser.specs.Parsing.{pieces_since, pieces}
 use Rattle.rowan_parser.specs.Seen.{piece}
 use Rattle.rowan_parser.specs.Tokens.{tokens_text}
 use Rattle.rowan_parser.proofs.parsing.seen_tokens.Given as goal
@@ -11,7 +11,4 @@ invariant-loop-token l = record {
   seen : map piece l.seen.items ++ pieces_since l.gap.start l.gap.is_joined l.gap.is_after_line
       l.trivia (drop l.token-index l.tokens)
       ≡ pieces l.trivia l.tokens;
-  said : map error_value l.errors.items
-      ++ lexer_errors l.gap.start (drop l.token-index l.tokens)
-      ≡ lexer_errors 0 l.tokens;
 }
