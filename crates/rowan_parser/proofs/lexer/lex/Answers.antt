@@ -1,4 +1,4 @@
-use Rattle.std.proofs.Common.{rules, length, take, [], refl, subst, append-nil, ap, ◌∙◌, ◌++◌, take-append-drop, arith, ◌≡◌}
+use Rattle.std.proofs.Common.{rules, length, take, [], refl, subst, append-nil, ap, ◌∙◌, ◌++◌, take-append-drop, arith, sym, ◌≡◌, All}
 use Rattle.std.proofs.lemmas.Grind.{common_steps}
 use Rattle.std.proofs.lemmas.List.Elements.{All-append, All-nil}
 use Rattle.rowan_parser.specs.Tokens.{AreSaid, lies_within}
