@@ -1,5 +1,5 @@
--- A closure that keeps the tokens that pass a test, at each token of a tree.
-use Rattle.std.proofs.Common.{◌≡◌, List, [], ◌∷◌, map, ◌∙◌, ap}
+-- What holds of each answer of a closure, at the tokens of a tree.
+use Rattle.std.proofs.Common.{◌≡◌, List, [], ◌∷◌, map, sym, ◌∙◌, ap, subst}
 use Rattle.std.specs.Prelude.{Bool, Result}
 use Rattle.std.specs.List.{filter}
 use Rattle.std.specs.Fn.{Mut}
@@ -10,20 +10,22 @@ use Rattle.rowan_green.specs.Term.{TokenTerm, NodeTerm}
 use Rattle.rowan_edit.specs.declared.rewriting.Rewrite.{Rewrite}
 use Rattle.rowan_edit.specs.declared.rewriting.Rewritten.{Rewritten}
 use Rattle.rowan_edit.specs.declared.rewriting.token_at.TokenAt.{TokenAt}
-use Rattle.rowan_edit.specs.Rewriting.{AllKeep}
-use Rattle.rowan_edit.specs.RewritingCalls.{Answers, IsRewritten, AlwaysKeeps}
+use Rattle.rowan_edit.specs.Rewriting.{Keeps, Each}
+use Rattle.rowan_edit.specs.RewritingCalls.{Answers, IsRewritten, Always, AlwaysKeeps, AlwaysFormats}
+use Rattle.rowan_edit.specs.Trivia.{StandOutside, Formats}
 use Rattle.rowan_edit.proofs.RewritingLemmas.{kept-rewritten}
+use Rattle.rowan_edit.proofs.TriviaLemmas.{trivia-outside}
 
 module _ {F : Type 0} (g : Mut F (TokenAt × Unit {0}) (Result Rewrite Fault)) where
-  all-keep : (test : TokenTerm → Bool) (root : NodeTerm) (f last : F) (ls : List LeafAt)
-      (answers : List Rewrite) → AlwaysKeeps g test root → Answers g root f ls answers last
-      → AllKeep test (map (λ l. l.1) ls) answers
-  all-keep test root f last [] [] keeps h = tt
-  all-keep test root f last [] (a ∷ answers) keeps h = absurd h
-  all-keep test root f last (l ∷ ls) [] keeps h = absurd h
-  all-keep test root f last (l ∷ ls) (a ∷ answers) keeps h = (
-    keeps f l a h.0 h.1,
-    all-keep test root h.0 last ls answers keeps h.2,
+  each-answer : (Holds : TokenTerm → Rewrite → Type 0) (root : NodeTerm) (f last : F)
+      (ls : List LeafAt) (answers : List Rewrite) → Always g Holds root
+      → Answers g root f ls answers last → Each Holds (map (λ l. l.1) ls) answers
+  each-answer Holds root f last [] [] always h = tt
+  each-answer Holds root f last [] (a ∷ answers) always h = absurd h
+  each-answer Holds root f last (l ∷ ls) [] always h = absurd h
+  each-answer Holds root f last (l ∷ ls) (a ∷ answers) always h = (
+    always f l a h.0 h.1,
+    each-answer Holds root h.0 last ls answers always h.2,
   )
 
   pub kept-calls : (test : TokenTerm → Bool) (f last : F) (old : NodeTerm) (new : Rewritten)
@@ -32,4 +34,12 @@ module _ {F : Type 0} (g : Mut F (TokenAt × Unit {0}) (Result Rewrite Fault)) w
   kept-calls test f last old new keeps made =
       ap (λ n. filter test (tokens (Node n))) made.tree
       ∙ kept-rewritten old made.answers test
-      (all-keep test old f last (leaves (Node old)) made.answers keeps made.calls)
+      (each-answer (Keeps test) old f last (leaves (Node old)) made.answers keeps made.calls)
+
+  pub formatted-calls : (test : TokenTerm → Bool) (f last : F) (old : NodeTerm) (new : Rewritten)
+      → AlwaysFormats g test old → StandOutside test old → IsRewritten g f last old new
+      → StandOutside test new.green
+  formatted-calls test f last old new formats outside made =
+      subst (StandOutside test) (sym made.tree)
+      (trivia-outside test old made.answers outside
+      (each-answer (Formats test) old f last (leaves (Node old)) made.answers formats made.calls))

@@ -34,6 +34,7 @@ pub mod TreeCursorLemmas
 pub mod TreeCursorMoveLemmas
 pub mod TreeCursorReplaceLemmas
 pub mod TreeCursorSearchLemmas
+pub mod TriviaLemmas
 pub mod Untouched
 pub mod Ways
 pub mod ZipperLemmas

@@ -2,18 +2,21 @@
 use Rattle.std.proofs.Common.{◌≡◌, ℕ, ◌+◌, ◌≤◌, List, [], ◌∷◌, ◌++◌, map, length, refl, sym}
 use Rattle.std.proofs.Common.{◌∙◌, ap, arith, append_assoc, length-append}
 use Rattle.std.specs.List.{AllByRecursion}
+use Rattle.std.proofs.lemmas.Grind.{flat_map-append}
 use Rattle.std.proofs.lemmas.List.{append-nil}
+use Rattle.rowan_green.specs.declared.utility_types.NodeOrToken.TheVariants.{Token}
 use Rattle.rowan_green.specs.Fits.{byte_limit}
 use Rattle.rowan_green.specs.Path.{LeafAt}
 use Rattle.rowan_green.specs.Span.{Span}
-use Rattle.rowan_green.specs.Term.{TokenTerm, token_len, joined_text}
+use Rattle.rowan_green.specs.Term.{TokenTerm, Term, token_len, term_text, joined_text, sum_of_lens}
 use Rattle.rowan_green.proofs.Terms.{length-joined_text}
 use Rattle.rowan_edit.specs.declared.changes.Change.{Change}
 use Rattle.rowan_edit.specs.declared.rewriting.Rewrite.{Rewrite}
-use Rattle.rowan_edit.specs.declared.rewriting.Rewrite.TheVariants.{Keep, Remove, Replace}
+use Rattle.rowan_edit.specs.declared.rewriting.Rewrite.TheVariants.{Keep, KeepBehind, Remove, Replace}
 use Rattle.rowan_edit.specs.Changes.{old_bytes, new_bytes}
 use Rattle.rowan_edit.specs.ChangesKept.{Follow, last_end, CanBeKept}
-use Rattle.rowan_edit.specs.Rewriting.{in_place, rewritten_text, change_of, rewrite_changes, put_len}
+use Rattle.rowan_edit.specs.Rewriting.{in_place, rewritten_text, insertion_of, change_of}
+use Rattle.rowan_edit.specs.Rewriting.{rewrite_changes, put_len}
 use Rattle.rowan_edit.proofs.LeafOffsets.{bytes_of}
 
 abbrev pub tokens_of : List LeafAt → List TokenTerm
@@ -63,8 +66,22 @@ changes-more at (k ∷ ls) (b ∷ answers) l a h =
 
 -- ---- how long the texts are
 
+joined-behind : (new : List Term) (t : TokenTerm)
+    → joined_text (new ++ Token t ∷ []) ≡ joined_text new ++ t.text
+joined-behind new t =
+    flat_map-append term_text new (Token t ∷ [])
+    ∙ ap (λ text. joined_text new ++ text) (append-nil t.text)
+
 put-len : (t : TokenTerm) (a : Rewrite) → put_len a ≤ length (joined_text (in_place t a))
 put-len t Keep = omega arith
+put-len t (KeepBehind new) =
+    let all = joined-behind new.items t in
+    omega (
+      arith,
+      length-joined_text new.items,
+      ap length all,
+      length-append (joined_text new.items) t.text,
+    )
 put-len t Remove = omega arith
 put-len t (Replace new) = omega (arith, length-joined_text new.items)
 
@@ -81,6 +98,17 @@ within-text (l ∷ ls) (a ∷ answers) h fits =
       within-text ls answers h (omega (arith, both, fits)),
     )
 
+-- an insertion takes no bytes away, and puts those of its elements
+insertion-old : (at : ℕ) (new : List Term) (more : List Change)
+    → old_bytes (insertion_of at new ++ more) ≡ old_bytes more
+insertion-old at [] more = refl
+insertion-old at (t ∷ ts) more = omega arith
+
+insertion-new : (at : ℕ) (new : List Term) (more : List Change)
+    → new_bytes (insertion_of at new ++ more) ≡ sum_of_lens new + new_bytes more
+insertion-new at [] more = omega arith
+insertion-new at (t ∷ ts) more = refl
+
 -- the new text is as much longer than the old one as the changes say
 balance : (at : ℕ) (ls : List LeafAt) (answers : List Rewrite) → HaveAnswers ls answers
     → length (rewritten_text (tokens_of ls) answers)
@@ -96,6 +124,21 @@ balance at (l ∷ ls) (Keep ∷ answers) h =
       ap length (append-nil l.1.text),
       balance (at + token_len l.1) ls answers h,
     )
+balance at (l ∷ ls) (KeepBehind new ∷ answers) h =
+    let next = at + token_len l.1 in
+    let own = joined_text (new.items ++ Token l.1 ∷ []) in
+    let rest = rewritten_text (tokens_of ls) answers in
+    let more = rewrite_changes next (tokens_of ls) answers in
+    omega (
+      arith,
+      length-append own rest,
+      ap length (joined-behind new.items l.1),
+      length-append (joined_text new.items) l.1.text,
+      length-joined_text new.items,
+      insertion-old at new.items more,
+      insertion-new at new.items more,
+      balance next ls answers h,
+    )
 balance at (l ∷ ls) (Remove ∷ answers) h =
     omega (arith, balance (at + token_len l.1) ls answers h)
 balance at (l ∷ ls) (Replace new ∷ answers) h =
@@ -108,6 +151,17 @@ balance at (l ∷ ls) (Replace new ∷ answers) h =
 
 -- ---- the order of changes
 
+follow-insertion : (from at : ℕ) (new : List Term) (more : List Change) → from ≤ at
+    → Follow from more → Follow at more → Follow from (insertion_of at new ++ more)
+follow-insertion from at [] more le none some = none
+follow-insertion from at (t ∷ ts) more le none some = (le, (omega arith, some))
+
+last-insertion : (from at end : ℕ) (new : List Term) (more : List Change)
+    → last_end from more ≤ end → last_end at more ≤ end
+    → last_end from (insertion_of at new ++ more) ≤ end
+last-insertion from at end [] more none some = none
+last-insertion from at end (t ∷ ts) more none some = some
+
 follow : (from at : ℕ) (ls : List LeafAt) (answers : List Rewrite) → HaveAnswers ls answers
     → from ≤ at → Follow from (rewrite_changes at (tokens_of ls) answers)
 follow from at [] [] h le = tt
@@ -115,6 +169,11 @@ follow from at [] (a ∷ answers) h le = absurd h
 follow from at (l ∷ ls) [] h le = absurd h
 follow from at (l ∷ ls) (Keep ∷ answers) h le =
     follow from (at + token_len l.1) ls answers h (omega (arith, le))
+follow from at (l ∷ ls) (KeepBehind new ∷ answers) h le =
+    let end = at + token_len l.1 in
+    follow-insertion from at new.items (rewrite_changes end (tokens_of ls) answers) le
+    (follow from end ls answers h (omega (arith, le)))
+    (follow at end ls answers h (omega arith))
 follow from at (l ∷ ls) (Remove ∷ answers) h le =
     let end = at + token_len l.1 in
     (le, (omega arith, follow end end ls answers h (omega arith)))
@@ -129,6 +188,15 @@ last from at [] (a ∷ answers) h le = absurd h
 last from at (l ∷ ls) [] h le = absurd h
 last from at (l ∷ ls) (Keep ∷ answers) h le =
     omega (arith, last from (at + token_len l.1) ls answers h (omega (arith, le)))
+last from at (l ∷ ls) (KeepBehind new ∷ answers) h le =
+    let end = at + token_len l.1 in
+    omega (
+      arith,
+      last-insertion from at (at + bytes_of (l ∷ ls)) new.items
+          (rewrite_changes end (tokens_of ls) answers)
+          (omega (arith, last from end ls answers h (omega (arith, le))))
+          (omega (arith, last at end ls answers h (omega arith))),
+    )
 last from at (l ∷ ls) (Remove ∷ answers) h le =
     let end = at + token_len l.1 in omega (arith, last end end ls answers h (omega arith))
 last from at (l ∷ ls) (Replace new ∷ answers) h le =

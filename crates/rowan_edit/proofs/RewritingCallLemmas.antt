@@ -8,7 +8,7 @@ use Rattle.rowan_green.specs.declared.fault.Fault.{Fault}
 use Rattle.rowan_green.specs.declared.fault.Fault.TheVariants.{Memory}
 use Rattle.rowan_green.specs.declared.utility_types.NodeOrToken.TheVariants.{Node, Token}
 use Rattle.rowan_green.specs.Fits.{byte_limit, FitsNode}
-use Rattle.rowan_green.specs.Path.{LeafAt, leaves, subterm, tokens}
+use Rattle.rowan_green.specs.Path.{LeafAt, leaves, subterm}
 use Rattle.rowan_green.specs.Term.{TokenTerm, NodeTerm, node_len, node_text, token_len}
 use Rattle.rowan_green.proofs.Terms.{Fits-len}
 use Rattle.rowan_edit.specs.declared.changes.Change.{Change}
@@ -21,7 +21,7 @@ use Rattle.rowan_edit.specs.Drafts.{IsPass, root_of, place_of, left_of, tree_of,
 use Rattle.rowan_edit.specs.Drafts.{Continues, Takes, Ends}
 use Rattle.rowan_edit.specs.Rewriting.{rewritten, rewritten_text, change_of, rewrite_changes}
 use Rattle.rowan_edit.specs.Rewriting.{put_len, HasNodePast}
-use Rattle.rowan_edit.specs.RewritingCalls.{Shows, CalledAtLeaf, Answers, IsRewritten, Began}
+use Rattle.rowan_edit.specs.RewritingCalls.{CalledAtLeaf, Answers, IsRewritten, Began}
 use Rattle.rowan_edit.specs.RewritingCalls.{WhyNotRewritten}
 use Rattle.rowan_edit.proofs.LeafOffsets.{bytes_of, bytes-append, bytes-whole, offset-leaf}
 use Rattle.rowan_edit.proofs.PassLemmas.{way-stands}
@@ -144,34 +144,32 @@ module _ {F : Type 0} (g : Mut F (TokenAt × Unit {0}) (Result Rewrite Fault)) w
       ∙ ap bytes_of (b.parts ∙ ap (λ ls. b.before ++ ls) (left-token p t here)) in
       omega (arith, all, bytes-append b.before (l ∷ leaves_past p), s.place, s.limit)
 
-  -- what a view of the next token shows
-  pub shows-next : (first f : F) (root : NodeTerm) (at : ℕ) (list : List Change) (p : Pass)
-      (t : TokenTerm) (view : TokenAt) → SoFar first root f at list p
-      → child_of p ≡ Some (Token t) → view.token.now ≡ t → view.parent.now ≡ p.inner.node.now
-      → view.index ≡ p.inner.next → view.start ≡ at → Shows root view (place_of p, t)
-  shows-next first f root at list p t view s here token parent index start =
+  -- the closure is called with a view of the next token
+  pub called-next : (first f next : F) (root : NodeTerm) (at : ℕ) (list : List Change) (p : Pass)
+      (t : TokenTerm) (view : TokenAt) (given answer : Result Rewrite Fault)
+      → SoFar first root f at list p → child_of p ≡ Some (Token t) → view.token.now ≡ t
+      → view.parent.now ≡ p.inner.node.now → view.index ≡ p.inner.next → view.start ≡ at
+      → Called g f (view, tt) given next → given ≡ answer
+      → CalledAtLeaf g root f (place_of p, t) answer next
+  called-next first f next root at list p t view given answer s here token parent index start call
+      said =
       let b = s.began in
       let ds = p.above.items in
       record {
-        shown = token;
-        above = way ds;
-        path = ap (λ i. way ds ++ i ∷ []) (sym index);
-        stands = ap (λ n. subterm (Node n) (way ds)) (sym s.whole)
-            ∙ way-stands ds p.inner.node.now s.pass
-            ∙ ap (λ n. Some (Node n)) (sym parent);
-        offset_is = start ∙ s.place
-            ∙ sym (offset-leaf root b.before (leaves_past p) (place_of p, t)
-            (b.parts ∙ ap (λ ls. b.before ++ ls) (left-token p t here)));
+        view = view;
+        shows = record {
+          shown = token;
+          above = way ds;
+          path = ap (λ i. way ds ++ i ∷ []) (sym index);
+          stands = ap (λ n. subterm (Node n) (way ds)) (sym s.whole)
+              ∙ way-stands ds p.inner.node.now s.pass.0
+              ∙ ap (λ n. Some (Node n)) (sym parent);
+          offset_is = start ∙ s.place
+              ∙ sym (offset-leaf root b.before (leaves_past p) (place_of p, t)
+              (b.parts ∙ ap (λ ls. b.before ++ ls) (left-token p t here)));
+        };
+        called = subst (λ r. Called g f (view, tt) r next) said call;
       }
-
-  pub called-at : (root : NodeTerm) (f next : F) (l : LeafAt) (view : TokenAt)
-      (given answer : Result Rewrite Fault) → Shows root view l
-      → Called g f (view, tt) given next → given ≡ answer → CalledAtLeaf g root f l answer next
-  called-at root f next l view given answer shows call said = record {
-    view = view;
-    shows = shows;
-    called = subst (λ r. Called g f (view, tt) r next) said call;
-  }
 
   -- ---- the end
 

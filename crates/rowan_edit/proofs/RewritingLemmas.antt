@@ -15,8 +15,9 @@ use Rattle.rowan_green.specs.Term.{Term, term_text, joined_text}
 use Rattle.rowan_green.proofs.OffsetLemmas.{joined-terms}
 use Rattle.rowan_green.proofs.Terms.{terms-forest}
 use Rattle.rowan_edit.specs.declared.rewriting.Rewrite.{Rewrite}
-use Rattle.rowan_edit.specs.Drafts.{tokens_in, rewritten_list, leaves_at}
-use Rattle.rowan_edit.specs.Rewriting.{in_place, first_answer, rewritten, rewritten_children}
+use Rattle.rowan_edit.specs.Drafts.{tokens_in, rewritten_list, list_lead, behind_list, leaves_at}
+use Rattle.rowan_edit.specs.Rewriting.{lead, own, in_place, first_answer, node_lead, first_lead}
+use Rattle.rowan_edit.specs.Rewriting.{behind_lead, new_children, with_front, rewritten}
 use Rattle.rowan_edit.specs.Rewriting.{rewritten_by, rewritten_text, rewritten_tokens, AllKeep}
 
 -- ---- leaves and tokens
@@ -44,21 +45,44 @@ tokens-children (node k f) = tokens-from 0 f
 
 -- ---- children
 
-pub rewritten-terms : (f : Forest) (answers : List Rewrite)
-    → rewritten_children f answers ≡ rewritten_list (terms f) answers
-rewritten-terms empty answers = refl
-rewritten-terms (node_then n f) answers = ap (λ ts. Node (rewritten n answers) ∷ ts)
-    (rewritten-terms f (drop (length (tokens (Node n))) answers))
-rewritten-terms (token_then t f) answers = ap (λ ts. in_place t (first_answer answers) ++ ts)
-    (rewritten-terms f (drop 1 answers))
+first-lead : (f : Forest) (answers : List Rewrite)
+    → first_lead f answers ≡ list_lead (terms f) answers
+first-lead empty answers = refl
+first-lead (node_then n f) answers = refl
+first-lead (token_then t f) answers = refl
 
-pub rewritten-list : (n : NodeTerm) (answers : List Rewrite)
-    → rewritten n answers ≡ node_of (node_kind n) (rewritten_list (node_children n) answers)
-rewritten-list (node k f) answers = ap (node_of k) (rewritten-terms f answers)
+-- what the first child leads with, and what comes behind that
+pub list-parts : (ts : List Term) (answers : List Rewrite)
+    → list_lead ts answers ++ behind_list ts answers ≡ rewritten_list ts answers
+list-parts [] answers = refl
+list-parts (t ∷ ts) answers = refl
+
+new-terms : (f : Forest) (answers : List Rewrite)
+    → new_children f answers ≡ behind_list (terms f) answers
+new-terms empty answers = refl
+new-terms (node_then n f) answers =
+    let rest = drop (length (tokens (Node n))) answers in
+    ap (λ ts. Node (behind_lead n answers) ∷ (ts ++ new_children f rest)) (first-lead f rest)
+    ∙ ap (λ ts. Node (behind_lead n answers) ∷ (list_lead (terms f) rest ++ ts)) (new-terms f rest)
+    ∙ ap (λ ts. Node (behind_lead n answers) ∷ ts) (list-parts (terms f) rest)
+new-terms (token_then t f) answers =
+    let rest = drop 1 answers in
+    let new = own t (first_answer answers) in
+    ap (λ ts. new ++ (ts ++ new_children f rest)) (first-lead f rest)
+    ∙ ap (λ ts. new ++ (list_lead (terms f) rest ++ ts)) (new-terms f rest)
+    ∙ ap (λ ts. new ++ ts) (list-parts (terms f) rest)
+
+pub lead-children : (n : NodeTerm) (answers : List Rewrite)
+    → node_lead n answers ≡ list_lead (node_children n) answers
+lead-children (node k f) answers = first-lead f answers
+
+pub behind-children : (n : NodeTerm) (answers : List Rewrite)
+    → behind_lead n answers ≡ node_of (node_kind n) (behind_list (node_children n) answers)
+behind-children (node k f) answers = ap (node_of k) (new-terms f answers)
 
 -- ---- texts and tokens
 
-drop-more : {A : Type 0} (k : ℕ) (xs : List A) → drop k (drop 1 xs) ≡ drop (suc k) xs
+pub drop-more : {A : Type 0} (k : ℕ) (xs : List A) → drop k (drop 1 xs) ≡ drop (suc k) xs
 drop-more zero [] = refl
 drop-more (suc k) [] = refl
 drop-more k (x ∷ xs) = refl
@@ -78,28 +102,55 @@ module _ {A : Type 0} (has : Term → List A)
       ∙ sym (append_assoc own (rewritten_by has ts (drop 1 answers))
       (rewritten_by has us (drop (suc (length ts)) answers)))
 
+  in-front : (ts : List Term) (n : NodeTerm)
+      → has (Node (with_front ts n)) ≡ flat_map has ts ++ has (Node n)
+  in-front ts n =
+      in_node (with_front ts n)
+      ∙ ap (flat_map has) (terms-forest (ts ++ node_children n))
+      ∙ flat_map-append has ts (node_children n)
+      ∙ ap (λ xs. flat_map has ts ++ xs) (sym (in_node n))
+
   mutual
-    by-node : (n : NodeTerm) (answers : List Rewrite)
-        → has (Node (rewritten n answers)) ≡ rewritten_by has (tokens (Node n)) answers
-    by-node (node k f) answers =
-        in_node (rewritten (node k f) answers)
-        ∙ ap (flat_map has) (terms-forest (rewritten_children f answers))
+    by-led : (n : NodeTerm) (answers : List Rewrite)
+        → flat_map has (node_lead n answers) ++ has (Node (behind_lead n answers))
+        ≡ rewritten_by has (tokens (Node n)) answers
+    by-led (node k f) answers =
+        ap (λ xs. flat_map has (first_lead f answers) ++ xs)
+        (in_node (behind_lead (node k f) answers)
+        ∙ ap (flat_map has) (terms-forest (new_children f answers)))
         ∙ by-children f answers ∙ ap (λ ts. rewritten_by has ts answers) (sym (tokens-from 0 f))
 
     by-children : (f : Forest) (answers : List Rewrite)
-        → flat_map has (rewritten_children f answers)
+        → flat_map has (first_lead f answers) ++ flat_map has (new_children f answers)
         ≡ rewritten_by has (tokens_in (terms f)) answers
     by-children empty answers = refl
     by-children (node_then n f) answers =
-        let rest = rewritten_children f (drop (length (tokens (Node n))) answers) in
-        ap (λ xs. xs ++ flat_map has rest) (by-node n answers)
+        let rest = drop (length (tokens (Node n))) answers in
+        let before = flat_map has (node_lead n answers) in
+        let new = has (Node (behind_lead n answers)) in
+        let all = first_lead f rest ++ new_children f rest in
+        sym (append_assoc before new (flat_map has all))
+        ∙ ap (λ xs. xs ++ flat_map has all) (by-led n answers)
         ∙ ap (λ xs. rewritten_by has (tokens (Node n)) answers ++ xs)
-        (by-children f (drop (length (tokens (Node n))) answers))
+        (flat_map-append has (first_lead f rest) (new_children f rest) ∙ by-children f rest)
         ∙ sym (by-append (tokens (Node n)) (tokens_in (terms f)) answers)
     by-children (token_then t f) answers =
-        let own = in_place t (first_answer answers) in
-        flat_map-append has own (rewritten_children f (drop 1 answers))
-        ∙ ap (λ xs. flat_map has own ++ xs) (by-children f (drop 1 answers))
+        let rest = drop 1 answers in
+        let a = first_answer answers in
+        let before = flat_map has (lead a) in
+        let new = flat_map has (own t a) in
+        let more = rewritten_by has (tokens_in (terms f)) rest in
+        ap (λ xs. before ++ xs)
+        (flat_map-append has (own t a) (first_lead f rest ++ new_children f rest)
+        ∙ ap (λ xs. new ++ xs)
+        (flat_map-append has (first_lead f rest) (new_children f rest) ∙ by-children f rest))
+        ∙ sym (append_assoc before new more)
+        ∙ ap (λ xs. xs ++ more) (sym (flat_map-append has (lead a) (own t a)))
+
+  by-node : (n : NodeTerm) (answers : List Rewrite)
+      → has (Node (rewritten n answers)) ≡ rewritten_by has (tokens (Node n)) answers
+  by-node n answers =
+      in-front (node_lead n answers) (behind_lead n answers) ∙ by-led n answers
 
 text-node : (n : NodeTerm) → node_text n ≡ joined_text (node_children n)
 text-node (node k f) = joined-terms f

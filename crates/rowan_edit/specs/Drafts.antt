@@ -1,7 +1,7 @@
 -- A pass over the tokens of a tree: which leaves are left, and what tree the rest of the answers
 -- make of it. The nodes above the one where it is are listed from the root on.
 use Rattle.std.specs.Prelude.{◌≡◌, ℕ, ◌+◌, ◌<◌, List, [], ◌∷◌, ◌++◌, map, take, drop, length, Option}
-use Rattle.std.specs.Prelude.{Some, None, Vec, slice_get}
+use Rattle.std.specs.Prelude.{Some, None, Vec, slice_get, nat_eq, if◌then◌else◌}
 use Rattle.std.specs.List.{flat_map}
 use Rattle.rowan_green.specs.declared.utility_types.NodeOrToken.TheVariants.{Node, Token}
 use Rattle.rowan_green.specs.Path.{Path, LeafAt, below_place, leaves, tokens}
@@ -12,7 +12,7 @@ use Rattle.rowan_edit.specs.declared.rewriting.draft.Draft.{Draft}
 use Rattle.rowan_edit.specs.declared.rewriting.pass.Pass.{Pass}
 use Rattle.rowan_edit.specs.declared.rewriting.pass.Left.{Left}
 use Rattle.rowan_edit.specs.declared.rewriting.pass.Left.TheVariants.{ToParent, Tree}
-use Rattle.rowan_edit.specs.Rewriting.{in_place, first_answer, rewritten}
+use Rattle.rowan_edit.specs.Rewriting.{lead, own, first_answer, node_lead, behind_lead, with_front}
 
 -- ---- one node
 
@@ -39,19 +39,52 @@ behind d = drop (d.next + 1) (node_children d.node.now)
 abbrev pub tokens_in : List Term → List TokenTerm
 tokens_in ts = flat_map tokens ts
 
--- what comes in the place of these children
-abbrev pub rewritten_child : Term → List Rewrite → List Term
-rewritten_child (Node n) answers = Node (rewritten n answers) ∷ []
-rewritten_child (Token t) answers = in_place t (first_answer answers)
+-- what a child leads with, and what comes in its place behind that
+abbrev pub child_lead : Term → List Rewrite → List Term
+child_lead (Node n) answers = node_lead n answers
+child_lead (Token t) answers = lead (first_answer answers)
 
+abbrev pub new_child : Term → List Rewrite → List Term
+new_child (Node n) answers = Node (behind_lead n answers) ∷ []
+new_child (Token t) answers = own t (first_answer answers)
+
+-- what comes in the place of these children
 abbrev pub rewritten_list : List Term → List Rewrite → List Term
 rewritten_list [] answers = []
-rewritten_list (t ∷ ts) answers =
-    rewritten_child t answers ++ rewritten_list ts (drop (length (tokens t)) answers)
+rewritten_list (t ∷ ts) answers = child_lead t answers
+    ++ (new_child t answers ++ rewritten_list ts (drop (length (tokens t)) answers))
+
+-- what the first of them leads with, and what comes behind that
+abbrev pub list_lead : List Term → List Rewrite → List Term
+list_lead [] answers = []
+list_lead (t ∷ ts) answers = child_lead t answers
+
+abbrev pub behind_list : List Term → List Rewrite → List Term
+behind_list [] answers = []
+behind_list (t ∷ ts) answers =
+    new_child t answers ++ rewritten_list ts (drop (length (tokens t)) answers)
+
+-- what the node leads with, and what comes into it, where the child whose turn it is leads with
+-- this: of the first child the node leads with it, too
+abbrev pub lead_with : Draft → List Term → List Term
+lead_with d new = if nat_eq d.next 0 then new else d.lead.items
+
+abbrev pub inside_with : Draft → List Term → List Term
+inside_with d new = if nat_eq d.next 0 then [] else new
+
+-- what a node leads with, and the node
+abbrev pub Led : Type 0
+Led = List Term × NodeTerm
+
+-- the node, with these in place of the child whose turn it is, which leads with `new`, and of those
+-- behind it
+abbrev pub led : Draft → List Term → List Term → Led
+led d new ts =
+    (lead_with d new, node_of (node_kind d.node.now) (done d ++ (inside_with d new ++ ts)))
 
 -- the node, once the answers have come
-abbrev pub completed : Draft → List Rewrite → NodeTerm
-completed d answers = node_of (node_kind d.node.now) (done d ++ rewritten_list (to_do d) answers)
+abbrev pub completed : Draft → List Rewrite → Led
+completed d answers = led d (list_lead (to_do d) answers) (behind_list (to_do d) answers)
 
 -- ---- the nodes above
 
@@ -76,10 +109,11 @@ abbrev pub way : List Draft → Path
 way ds = map (λ d. d.next) ds
 
 -- the tree round a node, which the answers for the tokens inside it make
-abbrev pub whole : List Draft → (List Rewrite → NodeTerm) → List TokenTerm → List Rewrite → NodeTerm
+abbrev pub whole : List Draft → (List Rewrite → Led) → List TokenTerm → List Rewrite → Led
 whole [] inner inside answers = inner answers
-whole (d ∷ ds) inner inside answers = node_of (node_kind d.node.now)
-    (done d ++ Node (whole ds inner inside answers)
+whole (d ∷ ds) inner inside answers =
+    let child = whole ds inner inside answers in
+    led d child.0 (Node child.1
     ∷ rewritten_list (behind d) (drop (length (tokens_behind ds inside)) answers))
 
 -- the first of these nodes, or else the one below them
@@ -99,8 +133,12 @@ work_behind (d ∷ ds) = terms_size (behind d) + 1 + work_behind ds
 
 -- ---- the pass
 
+-- a node leads with nothing before its first child has had its turn
+abbrev pub LeadsLater : Draft → Type 0
+LeadsLater d = d.next ≡ 0 → d.lead.items ≡ []
+
 abbrev pub IsPass : Pass → Type 0
-IsPass p = AreOpen p.above.items p.inner.node.now
+IsPass p = AreOpen p.above.items p.inner.node.now × LeadsLater p.inner
 
 abbrev pub child_of : Pass → Option Term
 child_of p = slice_get (node_children p.inner.node.now) p.inner.next
@@ -119,7 +157,9 @@ left_of p = leaves_behind p.above.items (leaves_at p.inner.next (to_do p.inner))
 
 -- the tree, once the answers for them have come
 abbrev pub tree_of : Pass → List Rewrite → NodeTerm
-tree_of p answers = whole p.above.items (completed p.inner) (tokens_in (to_do p.inner)) answers
+tree_of p answers =
+    let all = whole p.above.items (completed p.inner) (tokens_in (to_do p.inner)) answers in
+    with_front all.0 all.1
 
 abbrev pub work_left : Pass → ℕ
 work_left p = work_behind p.above.items + (terms_size (to_do p.inner) + 1)

@@ -29,4 +29,5 @@ pub mod TextWith
 pub mod TokenAts
 pub mod TreeCursor
 pub mod TreeCursorMoves
+pub mod Trivia
 pub mod Zipper

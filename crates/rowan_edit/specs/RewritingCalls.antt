@@ -11,6 +11,7 @@ use Rattle.rowan_edit.specs.declared.rewriting.Rewritten.{Rewritten}
 use Rattle.rowan_edit.specs.declared.rewriting.token_at.TokenAt.{TokenAt}
 use Rattle.rowan_edit.specs.Rewriting.{rewritten, rewritten_text, rewrite_changes, HasNodePast}
 use Rattle.rowan_edit.specs.Rewriting.{Keeps}
+use Rattle.rowan_edit.specs.Trivia.{Formats}
 use Rattle.rowan_edit.specs.TokenAts.{token_in, parent_in, index_in, start_in}
 
 -- the view shows this leaf of a tree: its token, the node above it, its index there, and where its
@@ -47,10 +48,18 @@ module _ {F : Type 0} (g : Mut F (TokenAt × Unit {0}) (Result Rewrite Fault)) w
     pub text : node_text new.green ≡ rewritten_text (tokens (Node old)) answers
     pub changes : new.changes ≡ rewrite_changes 0 (tokens (Node old)) answers
 
-  -- whatever f answers where it is shown a leaf of this tree, the tokens that pass a test are kept
+  -- this holds of each leaf of a tree and of what f answers, in whatever state, where it is shown it
+  abbrev pub Always : (TokenTerm → Rewrite → Type 0) → NodeTerm → Type 0
+  Always Holds root = (f : F) (leaf : LeafAt) (answer : Rewrite) (next : F)
+      → CalledAtLeaf root f leaf (Ok answer) next → Holds leaf.1 answer
+
+  -- f keeps the tokens that pass a test
   abbrev pub AlwaysKeeps : (TokenTerm → Bool) → NodeTerm → Type 0
-  AlwaysKeeps test root = (f : F) (leaf : LeafAt) (answer : Rewrite) (next : F)
-      → CalledAtLeaf root f leaf (Ok answer) next → Keeps test leaf.1 answer
+  AlwaysKeeps test root = Always (Keeps test) root
+
+  -- f formats with the tokens that pass a test
+  abbrev pub AlwaysFormats : (TokenTerm → Bool) → NodeTerm → Type 0
+  AlwaysFormats test root = Always (Formats test) root
 
   -- the calls at the first tokens of a tree, and their answers
   pub record Began (f : F) (old : NodeTerm) (behind : List LeafAt) (last : F) : Type 0 where

@@ -19,9 +19,10 @@ ghost use Rattle.rowan_edit.specs.Plan.{Plan, EndInTurn, AreInOrder, with_edit};
 ghost use Rattle.rowan_edit.specs.declared.rewriting.Rewrite.{Rewrite};
 ghost use Rattle.rowan_edit.specs.declared.rewriting.Rewritten.{Rewritten};
 ghost use Rattle.rowan_edit.specs.Rewriting.{rewritten, rewritten_tokens, AllKeep};
-ghost use Rattle.rowan_edit.specs.RewritingCalls.{IsRewritten, AlwaysKeeps};
+ghost use Rattle.rowan_edit.specs.RewritingCalls.{IsRewritten, AlwaysKeeps, AlwaysFormats};
 ghost use Rattle.rowan_edit.specs.Sites.{sites_of, is_taken_at, moved_over, ArePutAt};
 ghost use Rattle.rowan_edit.specs.TextWith.{text_with};
+ghost use Rattle.rowan_edit.specs.Trivia.{StandOutside, AllFormat};
 
 use crate::rewriting::{Rewrite, TokenAt};
 use rowan_green::fault::Fault;
@@ -138,4 +139,20 @@ pub fn closures_keep_tokens<F: FnMut(TokenAt<'_>) -> Result<Rewrite, Fault>>()
     ensures { (test : TokenTerm → Bool) (f : F) (last : F) (old : NodeTerm) (new : Rewritten)
         → AlwaysKeeps F.FnMut test old → IsRewritten F.FnMut f last old new
         → filter test (tokens (Node new.green)) ≡ filter test (tokens (Node old)) }
+{}
+
+/// Where no node below the root begins with a token that passes a test, as white space, none does
+/// in a tree that is formatted: with answers that put in nothing but tokens, and let the others stay
+/// or begin what comes in their place.
+pub fn trivia_stay_outside()
+    ensures { (old : NodeTerm) (answers : List Rewrite) (test : TokenTerm → Bool)
+        → StandOutside test old → AllFormat test (tokens (Node old)) answers
+        → StandOutside test (rewritten old answers) }
+{}
+
+/// So it is by `rewrite_tokens`, with a closure that answers so, whatever token it is shown.
+pub fn formatters_keep_trivia_outside<F: FnMut(TokenAt<'_>) -> Result<Rewrite, Fault>>()
+    ensures { (test : TokenTerm → Bool) (f : F) (last : F) (old : NodeTerm) (new : Rewritten)
+        → AlwaysFormats F.FnMut test old → StandOutside test old
+        → IsRewritten F.FnMut f last old new → StandOutside test new.green }
 {}

@@ -24,6 +24,11 @@ pub use token_at::TokenAt;
 pub enum Rewrite {
     /// It stays.
     Keep,
+    /// It stays, and these nodes and tokens come before it, in this order: in front of the outermost
+    /// node below the root that begins with it. A node begins with a token if that is its first
+    /// child, or if its first child is a node that begins with it. Before the first token of the
+    /// root they come into the root. None keep it as it is.
+    KeepBehind(Vec<GreenElement>),
     /// It is taken away.
     Remove,
     /// These nodes and tokens come in its place, in this order. None take it away.
@@ -35,7 +40,8 @@ pub enum Rewrite {
 pub struct Rewritten {
     /// The root of the new tree.
     pub green: GreenNode,
-    /// One change for each token that was not kept, in the order of the text.
+    /// One change for each token that was not kept, in the order of the text, and one for the
+    /// elements before a token: an insertion where the token's text starts.
     pub changes: Changes,
 }
 
@@ -43,7 +49,7 @@ pub struct Rewritten {
 /// their kinds. The closure is called once at each token, in the order of the text, and is shown
 /// the token where it stands in the old tree. It is not called at what it puts there, and not again
 /// after the last token. The old tree stays as it is, and the new one shares each node in which all
-/// tokens were kept.
+/// tokens were kept, also where elements come before the node.
 ///
 /// Errors: the first refusal that the closure answers, and it is not called again. A node whose
 /// tokens are all rewritten is made before the next token is looked at, and refused as
@@ -66,7 +72,7 @@ pub fn rewrite_tokens<F: FnMut(TokenAt<'_>) -> Result<Rewrite, Fault>>(
     loop {
         match pass.child() {
             Some(child) => match child {
-                NodeOrToken::Node(node) => pass = pass.enter(node)?,
+                NodeOrToken::Node(node) => pass = pass.enter(alloc, node)?,
                 NodeOrToken::Token(token) => {
                     let range = TextRange::at(at, token.text_len());
                     match rewrite(pass.token_at(token, at)) {
@@ -94,10 +100,17 @@ fn note(changes: &mut Vec<Change>, range: TextRange, answer: &Rewrite) -> Result
         → changes.new.items ≡ changes.old.items ++ change_of range answer.now) }
     ensures err { IfErr result (λ e. e ≡ Fault.Memory) }
 {
-    let new_len = match answer {
+    let (range, new_len) = match answer {
         Rewrite::Keep => return Ok(()),
-        Rewrite::Remove => TextSize::from(0),
-        Rewrite::Replace(elements) => len_of(elements),
+        Rewrite::KeepBehind(elements) if elements.is_empty() => return Ok(()),
+        Rewrite::KeepBehind(elements) => {
+            (
+                TextRange::new(range.start(), range.start()),
+                len_of(elements),
+            )
+        },
+        Rewrite::Remove => (range, TextSize::from(0)),
+        Rewrite::Replace(elements) => (range, len_of(elements)),
     };
     changes.push(Change { range, new_len })?;
     Ok(())

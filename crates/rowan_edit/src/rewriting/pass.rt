@@ -12,7 +12,7 @@ ghost use Rattle.rowan_edit.specs.Drafts.{Ends, Leaves, root_of};
 ghost use Rattle.rowan_edit.specs.Rewriting.{rewritten, HasNodePast};
 
 use super::Rewrite;
-use super::draft::{Draft, closed_or_shared};
+use super::draft::Draft;
 use super::token_at::TokenAt;
 use rowan_green::fault::Fault;
 use rowan_green::green::{GreenElementRef, GreenNode, GreenToken};
@@ -45,7 +45,7 @@ impl<'tree> Pass<'tree> {
     {
         Pass {
             above: Vec::new(alloc),
-            inner: Draft::new(root),
+            inner: Draft::new(alloc, root),
         }
     }
 
@@ -70,7 +70,7 @@ impl<'tree> Pass<'tree> {
     }
 
     /// Goes into the child, a node.
-    pub(crate) fn enter(self, node: &'tree GreenNode) -> Result<Pass<'tree>, Fault>
+    pub(crate) fn enter(self, alloc: Global, node: &'tree GreenNode) -> Result<Pass<'tree>, Fault>
         requires pass { IsPass self }
         requires child { child_of self ≡ Some (Node node.now) }
         ensures ok { IfOk result (Continues self.entry) }
@@ -80,7 +80,7 @@ impl<'tree> Pass<'tree> {
         above.push(inner)?;
         Ok(Pass {
             above,
-            inner: Draft::new(node),
+            inner: Draft::new(alloc, node),
         })
     }
 
@@ -97,6 +97,10 @@ impl<'tree> Pass<'tree> {
             Rewrite::Keep => Ok(Pass {
                 above,
                 inner: inner.keep()?,
+            }),
+            Rewrite::KeepBehind(elements) => Ok(Pass {
+                above,
+                inner: inner.put_before(alloc, elements)?.keep()?,
             }),
             Rewrite::Remove => Ok(Pass {
                 above,
@@ -118,14 +122,15 @@ impl<'tree> Pass<'tree> {
             → HasNodePast (tree_of self.entry []) e) }
     {
         let Pass { mut above, inner } = self;
-        let node = inner.node;
-        let new = inner.close(alloc)?;
         match above.pop() {
-            Some(parent) => Ok(Left::ToParent(Pass {
-                above,
-                inner: parent.put_closed(alloc, new)?,
-            })),
-            None => Ok(Left::Tree(closed_or_shared(node, new)?)),
+            Some(parent) => {
+                let new = inner.close(alloc)?;
+                Ok(Left::ToParent(Pass {
+                    above,
+                    inner: parent.put_closed(alloc, new)?,
+                }))
+            }
+            None => Ok(Left::Tree(inner.close_root(alloc)?)),
         }
     }
 }

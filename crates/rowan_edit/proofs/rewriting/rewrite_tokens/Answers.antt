@@ -7,10 +7,10 @@ use Rattle.rowan_green.specs.Lent.{pointee}
 use Rattle.rowan_green.specs.Span.{Span}
 use Rattle.rowan_green.specs.Term.{token_len}
 use Rattle.rowan_green.proofs.Terms.{Fits-len}
-use Rattle.rowan_edit.specs.Drafts.{child_of, place_of, Leaves}
+use Rattle.rowan_edit.specs.Drafts.{child_of, Leaves}
 use Rattle.rowan_edit.specs.Rewriting.{change_of}
-use Rattle.rowan_edit.proofs.RewritingCallLemmas.{at_first, goes_on, takes_one, shows-next}
-use Rattle.rowan_edit.proofs.RewritingCallLemmas.{called-at, place-limit, changes-end, at_end}
+use Rattle.rowan_edit.proofs.RewritingCallLemmas.{at_first, goes_on, takes_one, called-next}
+use Rattle.rowan_edit.proofs.RewritingCallLemmas.{place-limit, changes-end, at_end}
 use Rattle.rowan_edit.proofs.RewritingCallLemmas.{refused, stops, stops_at}
 use Rattle.rowan_edit.proofs.rewriting.rewrite_tokens.Goals as goal
 
@@ -62,13 +62,12 @@ returns-in-Err-clause-err g c =
     let here : child_of p ≡ Some (Token t) =
     c.in-Some.ensures ∙ ap (λ e. Some (pointee e)) c.in-Token.is in
     let seen = c.token_at.ensures in
-    let shows = shows-next g.F.FnMut c.args.rewrite.now c.loop-child.rewrite c.args.root.now
-    c.loop-child.at c.loop-child.changes.items p t c.token_at.result c.loop-child.invariant.1 here
-    seen.token seen.parent seen.index seen.start in
+    let call = called-next g.F.FnMut c.args.rewrite.now c.loop-child.rewrite _ c.args.root.now
+    c.loop-child.at c.loop-child.changes.items p t c.token_at.result c.rewrite.result
+    (Err c.in-Err.refusal) c.loop-child.invariant.1 here seen.token seen.parent seen.index
+    seen.start c.rewrite.ensures c.in-Err.is in
     refused g.F.FnMut c.args.rewrite.now c.loop-child.rewrite _ c.args.root.now c.loop-child.at
-    c.loop-child.changes.items p t c.in-Err.refusal c.loop-child.invariant.1 here
-    (called-at g.F.FnMut c.args.root.now c.loop-child.rewrite _ (place_of p, t) c.token_at.result
-    c.rewrite.result (Err c.in-Err.refusal) shows c.rewrite.ensures c.in-Err.is)
+    c.loop-child.changes.items p t c.in-Err.refusal c.loop-child.invariant.1 here call
 
 pub loop-child-preserved-in-Token : goal.loop-child-preserved-in-Token
 loop-child-preserved-in-Token g c =
@@ -77,11 +76,10 @@ loop-child-preserved-in-Token g c =
     let here : child_of p ≡ Some (Token t) =
     c.in-Some.ensures ∙ ap (λ e. Some (pointee e)) c.in-Token.is in
     let seen = c.token_at.ensures in
-    let shows = shows-next g.F.FnMut c.args.rewrite.now c.loop-child.rewrite c.args.root.now
-    c.loop-child.at c.loop-child.changes.items p t c.token_at.result c.loop-child.invariant.1 here
-    seen.token seen.parent seen.index seen.start in
-    let call = called-at g.F.FnMut c.args.root.now c.loop-child.rewrite _ (place_of p, t)
-    c.token_at.result c.rewrite.result (Ok c.in-Ok.answer) shows c.rewrite.ensures c.in-Ok.is in
+    let call = called-next g.F.FnMut c.args.rewrite.now c.loop-child.rewrite _ c.args.root.now
+    c.loop-child.at c.loop-child.changes.items p t c.token_at.result c.rewrite.result
+    (Ok c.in-Ok.answer) c.loop-child.invariant.1 here seen.token seen.parent seen.index seen.start
+    c.rewrite.ensures c.in-Ok.is in
     let lies : c.at-range.result ≡ record {
       start = c.loop-child.at;
       end = c.loop-child.at + token_len t;
@@ -114,11 +112,10 @@ returns-in_err-note-in-Ok-clause-err g c =
     let here : child_of p ≡ Some (Token t) =
     c.in-Some.ensures ∙ ap (λ e. Some (pointee e)) c.in-Token.is in
     let seen = c.token_at.ensures in
-    let shows = shows-next g.F.FnMut c.args.rewrite.now c.loop-child.rewrite c.args.root.now
-    c.loop-child.at c.loop-child.changes.items p t c.token_at.result c.loop-child.invariant.1 here
-    seen.token seen.parent seen.index seen.start in
-    let call = called-at g.F.FnMut c.args.root.now c.loop-child.rewrite _ (place_of p, t)
-    c.token_at.result c.rewrite.result (Ok c.in-Ok.answer) shows c.rewrite.ensures c.in-Ok.is in
+    let call = called-next g.F.FnMut c.args.rewrite.now c.loop-child.rewrite _ c.args.root.now
+    c.loop-child.at c.loop-child.changes.items p t c.token_at.result c.rewrite.result
+    (Ok c.in-Ok.answer) c.loop-child.invariant.1 here seen.token seen.parent seen.index seen.start
+    c.rewrite.ensures c.in-Ok.is in
     let fault = c.in_err-note-in-Ok.field-0.0 in
     let residual = c.from_residual-in_err-note-in-Ok in
     let given = err_from_is_err_and residual.result residual.ensures.1 in
@@ -133,11 +130,10 @@ returns-in_err-pass-in-Ok-clause-err g c =
     let here : child_of p ≡ Some (Token t) =
     c.in-Some.ensures ∙ ap (λ e. Some (pointee e)) c.in-Token.is in
     let seen = c.token_at.ensures in
-    let shows = shows-next g.F.FnMut c.args.rewrite.now c.loop-child.rewrite c.args.root.now
-    c.loop-child.at c.loop-child.changes.items p t c.token_at.result c.loop-child.invariant.1 here
-    seen.token seen.parent seen.index seen.start in
-    let call = called-at g.F.FnMut c.args.root.now c.loop-child.rewrite _ (place_of p, t)
-    c.token_at.result c.rewrite.result (Ok c.in-Ok.answer) shows c.rewrite.ensures c.in-Ok.is in
+    let call = called-next g.F.FnMut c.args.rewrite.now c.loop-child.rewrite _ c.args.root.now
+    c.loop-child.at c.loop-child.changes.items p t c.token_at.result c.rewrite.result
+    (Ok c.in-Ok.answer) c.loop-child.invariant.1 here seen.token seen.parent seen.index seen.start
+    c.rewrite.ensures c.in-Ok.is in
     let fault = c.in_err-pass-in-Ok.field-0.0 in
     let residual = c.from_residual-in_err-pass-in-Ok in
     let given = err_from_is_err_and residual.result residual.ensures.1 in

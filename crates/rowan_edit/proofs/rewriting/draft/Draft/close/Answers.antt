@@ -5,8 +5,8 @@ use Rattle.rowan_green.proofs.EditLemmas.{node_of-children}
 use Rattle.rowan_edit.specs.Drafts.{items_or}
 use Rattle.rowan_edit.proofs.rewriting.draft.Draft.close.Goals as goal
 
-pub returns-in-None-clause-ok : goal.returns-in-None-clause-ok
-returns-in-None-clause-ok c =
+pub returns-in-None-clause-node : goal.returns-in-None-clause-node
+returns-in-None-clause-node c =
     let s = c.args.self in
     let n = s.node.now in
     let kept = take s.next (node_children n) in

@@ -6,6 +6,11 @@ returns-clause-ok c =
     let d = c.new.result in
     let made = c.new.ensures in
     let h : IsNew c.args.node.now d =
-    record { node = made.node; next = made.next; done = made.done } in
+    record {
+      node = made.node;
+      next = made.next;
+      lead = made.lead;
+      done = made.done;
+    } in
     enters c.args.self (record { above = c.push.new.self; inner = d }) c.args.node.now
     c.requires.pass c.requires.child c.in_ok-push.ensures.items h
