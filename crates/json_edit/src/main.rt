@@ -3,10 +3,12 @@
 //! `set:NAME:VALUE`, `delete:NAME`, `wrap`, `sort` or `format`. Names have their quotes.
 #![tactic(auto)]
 
+mod format;
+
 use anyhow::{Result, bail};
 use itertools::Itertools;
 use json_syntax::{Json, Kind};
-use rowan::{Direction, NodeOrToken, SyntaxNode, SyntaxNodeRef, TypedElementRefCalls};
+use rowan::{Direction, SyntaxNode, SyntaxNodeRef, TypedElementRefCalls};
 use rowan_edit::{EditError, Refusal, SyntaxEditor};
 use std::{env, io};
 
@@ -22,6 +24,10 @@ fn main(rt: HostRuntime) -> Result<()> {
         Err(errors) => bail!("{}", rowan_parser::render(alloc, &errors, &text, "input")?),
     };
     for word in env::args(&rt)?.skip(1) {
+        if word.as_str() == "format" {
+            tree = format::formatted(alloc, &tree)?;
+            continue;
+        }
         let root: SyntaxNode<Json> = SyntaxNode::new_root(alloc, tree)?;
         let mut editor = SyntaxEditor::new(alloc, root.as_ref())?;
         let mut words = word.splitn(3, ':');
@@ -31,7 +37,6 @@ fn main(rt: HostRuntime) -> Result<()> {
             (Some("delete"), Some(name), None) => delete(&mut editor, root.as_ref(), name),
             (Some("wrap"), None, None) => wrap(&mut editor, root.as_ref()),
             (Some("sort"), None, None) => sort(&mut editor, root.as_ref()),
-            (Some("format"), None, None) => format(&mut editor, root.as_ref()),
             _ => bail!("no such edit"),
         }?;
         tree = editor.finish()?.green;
@@ -97,24 +102,4 @@ fn sort(editor: &mut Editor, root: Node<'_>) -> Result<(), EditError> {
     let sorted = members.sorted_by_key(editor.allocator(), |member| name_of(*member))?;
     let mut pairs = object.children().zip(sorted);
     pairs.try_for_each(|(old, new)| editor.replace(old, new))
-}
-
-/// Gives each line two spaces a level.
-fn format(editor: &mut Editor, root: Node<'_>) -> Result<(), EditError> {
-    let mut depth = 0usize;
-    let elements = root.descendants_with_tokens();
-    for token in elements.filter_map(NodeOrToken::into_token) {
-        if matches!(token.kind(), Kind::RBrace | Kind::RBracket) {
-            depth = depth.saturating_sub(2);
-        }
-        let before = token.prev_token();
-        if let Some(space) = before.filter(|space| space.text().starts_with('\n')) {
-            let line = format!(in editor.allocator(); "\n{:1$}", "", depth)?;
-            editor.set_text(space, line.as_str())?;
-        }
-        if matches!(token.kind(), Kind::LBrace | Kind::LBracket) {
-            depth = depth.saturating_add(2);
-        }
-    }
-    Ok(())
 }
