@@ -1,16 +1,24 @@
 //! Callers of the editors, and of the tree cursor.
-ghost use Rattle.std.specs.Prelude.{◌≡◌, [], ◌∷◌, IfOk, IfSome};
+ghost use Rattle.std.specs.Prelude.{◌≡◌, ◌==◌, not, Bool, [], ◌∷◌, IfOk, IfSome};
+ghost use Rattle.std.specs.List.{filter};
 ghost use Rattle.rowan_green.specs.declared.utility_types.NodeOrToken.TheVariants.{Node};
-ghost use Rattle.rowan_green.specs.Path.{Path};
+ghost use Rattle.rowan_green.specs.Path.{Path, tokens};
+ghost use Rattle.rowan_green.specs.Term.{TokenTerm};
 ghost use Rattle.rowan_cursor.specs.Cursor.{Cursor};
 ghost use Rattle.rowan_cursor.specs.Moves.{child_count};
 ghost use Rattle.rowan_cursor.specs.Replacement.{with_replacement};
 ghost use Rattle.rowan_cursor.specs.Search.{IsLeafOver};
 ghost use Rattle.rowan_api.specs.Refs.{node_place};
 ghost use Rattle.rowan_edit.specs.Edit.{Edit, edited};
+ghost use Rattle.rowan_edit.specs.Rewriting.{Keeps};
+ghost use Rattle.rowan_edit.specs.RewritingCalls.{AlwaysKeeps};
+ghost use Rattle.rowan_edit.specs.TokenAts.{token_in};
 
-use rowan::{Fault, GreenElement, GreenNode, Language, SyntaxNodeRef, TextSize};
-use rowan_edit::{EditError, GreenEditor, Position, SyntaxEditor, TreeCursor};
+use rowan::{Fault, GreenElement, GreenNode, GreenToken, Language, SyntaxNodeRef, TextSize};
+use rowan_edit::{
+    EditError, GreenEditor, Position, Rewrite, SyntaxEditor, TokenAt, TreeCursor, laws,
+    rewrite_tokens,
+};
 use std::alloc::Global;
 
 /// The tree with one more element before the first child of the root. Refused where the tree would
@@ -64,4 +72,36 @@ pub fn with_token_over(
         return Ok(None);
     }
     Ok(Some(cursor.replace(new)?))
+}
+
+/// The tree that a formatter makes. A formatter that keeps the tokens that pass a test, whatever
+/// token it is shown, keeps those of the tree.
+pub fn format<F: FnMut(TokenAt<'_>) -> Result<Rewrite, Fault>>(
+    alloc: Global,
+    root: &GreenNode,
+    formatter: &mut F,
+) -> Result<GreenNode, Fault>
+    requires { F.IsAlwaysCallable formatter.old }
+    ensures { (test : TokenTerm → Bool) → AlwaysKeeps F.FnMut test root.now
+        → IfOk result (λ n. filter test (tokens (Node n)) ≡ filter test (tokens (Node root.now))) }
+{
+    let new = rewrite_tokens(alloc, root, formatter)?;
+    laws::closures_keep_tokens::<F>();
+    Ok(new.green)
+}
+
+/// The tree with a token of white space before each other token, in place of all of its kind.
+pub fn spaced(alloc: Global, root: &GreenNode, space: &GreenToken) -> Result<GreenNode, Fault> {
+    format(alloc, root, &mut |at| space_before(alloc, space, at))
+}
+
+/// What becomes of a token: it is kept, unless it is white space.
+fn space_before(alloc: Global, space: &GreenToken, at: TokenAt<'_>) -> Result<Rewrite, Fault>
+    ensures { let is_other : TokenTerm → Bool = λ t. not (t.kind == space.now.kind) in
+        IfOk result (Keeps is_other (token_in at.entry)) }
+{
+    if at.kind() == space.kind() {
+        return Ok(Rewrite::Remove);
+    }
+    Ok(Rewrite::KeepBehind(vec![in alloc; GreenElement::from(space.clone()?)]?))
 }

@@ -9,6 +9,8 @@ mod editor;
 #[cfg(test)]
 mod fixture;
 #[cfg(test)]
+mod formatting;
+#[cfg(test)]
 mod green_editor;
 #[cfg(test)]
 mod json;

@@ -2,7 +2,7 @@
 ghost use Rattle.std.specs.Prelude.{◌<◌};
 
 use crate::trees::{self, TEXT, Tree};
-use rowan::{Fault, TextSize};
+use rowan::{Fault, GreenElement, GreenNode, TextSize};
 use rowan_edit::{GreenEditor, Rewrite, TreeCursor, rewrite_tokens};
 use rowan_parser::{LineIndex, render_up_to};
 use rowan_tool::sexp;
@@ -20,6 +20,7 @@ pub fn make(call: &str, tree: &Tree) -> Result<Option<u64>, Fault> {
         "edits" => edits(tree, 1),
         "edits_mixed" => edits(tree, 7),
         "rewrite_tokens" => rewrite(tree),
+        "rewrite_behind" => rewrite_behind(tree),
         "tree_cursor" => walk(tree),
         "tree_cursor_offsets" => goto_offsets(tree),
         "grammar" => grammar(tree, "\n"),
@@ -127,6 +128,27 @@ fn edits(tree: &Tree, step: usize) -> Result<u64, Fault>
 fn rewrite(tree: &Tree) -> Result<u64, Fault> {
     let new = rewrite_tokens(tree.alloc, &tree.green, &mut |_at| Ok(Rewrite::Keep))?;
     Ok(u64::from(new.green == tree.green))
+}
+
+/// Keeps each token behind another one, in the tree below a chain of as many nodes, and the first
+/// behind as many tokens.
+fn rewrite_behind(tree: &Tree) -> Result<u64, Fault> {
+    let mut chain = tree.green.clone()?;
+    for _ in 0..tree.size {
+        let children = vec![in tree.alloc; GreenElement::from(chain)]?;
+        chain = GreenNode::new(tree.alloc, trees::ROOT, children)?;
+    }
+    let mut count = tree.size;
+    let new = rewrite_tokens(
+        tree.alloc,
+        &chain,
+        &mut |_at| {
+            let new = trees::words(tree.alloc, count)?;
+            count = 1;
+            Ok(Rewrite::KeepBehind(new))
+        },
+    )?;
+    Ok(new.changes.as_slice().len() as u64)
 }
 
 /// From place to place, in the order of the text.

@@ -104,17 +104,17 @@ fn by_cursors(subject: &Subject) -> Result<Edited, Fault> {
     editor.finish()
 }
 
-/// Another token comes in place of each that is one byte long.
+/// Another token comes in place of each that is one byte long, and before each other one.
 fn rewritten(subject: &Subject) -> Result<Rewritten, Fault> {
     rewrite_tokens(
         subject.alloc,
         &subject.tree,
         &mut |at| {
+            let new = vec![in subject.alloc; leaf(&subject.token)?]?;
             if at.text().len() == 1 {
-                let new = vec![in subject.alloc; leaf(&subject.token)?]?;
                 return Ok(Rewrite::Replace(new));
             }
-            Ok(Rewrite::Keep)
+            Ok(Rewrite::KeepBehind(new))
         },
     )
 }
