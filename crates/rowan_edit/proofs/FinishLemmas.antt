@@ -24,7 +24,7 @@ pub record AreWhole (plan : Plan) (cs : List Change) : Type 0 where
   pub follow : Follow 0 cs
   pub fits : last_end 0 cs + new_bytes cs ≤ byte_limit + old_bytes cs
 
-whole-inside : (root : NodeTerm) (ss : List Splice) (cs : List Change) (n : NodeTerm)
+pub whole-inside : (root : NodeTerm) (ss : List Splice) (cs : List Change) (n : NodeTerm)
     → AreListed root ss → ArePairs ss cs → Node n ≡ edited (Node root) (edits_of ss) → FitsNode n
     → AreWhole (record { root = root; edits = edits_of ss }) cs
 whole-inside root ss cs n h pairs same fits =

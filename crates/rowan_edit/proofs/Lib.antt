@@ -1,10 +1,15 @@
+pub mod ArrangeLemmas
+pub mod ArrangedLaw
+pub mod ArrangedPlanLemmas
 pub mod ChangeLemmas
 pub mod EdgeLemmas
 pub mod EditedLemmas
 pub mod EditorLemmas
 pub mod ElementLemmas
+pub mod ExcludeLemmas
 pub mod FinishLemmas
 pub mod FromTextLemmas
+pub mod HalvesLemmas
 pub mod KeptLemmas
 pub mod KeptTokens
 pub mod LeafOffsets
@@ -14,6 +19,7 @@ pub mod OverlapLemmas
 pub mod PassLemmas
 pub mod PassSteps
 pub mod PlaceLemmas
+pub mod PlaceRankLemmas
 pub mod PlacedLaw
 pub mod Places
 pub mod PlanLemmas

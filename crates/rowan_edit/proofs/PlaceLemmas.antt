@@ -32,6 +32,18 @@ same-edit p q s t e f new path start end =
     ap (λ x. edit_at x s e new) path ∙ ap (λ x. edit_at q x e new) start
     ∙ ap (λ x. edit_at q t x new) end
 
+-- children of a node that starts there lie in the range of an edit of them
+pub range-at : (root : NodeTerm) (p : Path) (n : NodeTerm) (at start end : ℕ) (new : List Term)
+    → subterm (Node root) p ≡ Some (Node n) → at ≡ offset (Node root) p
+    → lie_at at (node_children n) start end ≡ range_of (Node root) (edit_at p start end new)
+range-at root p n at start end new stands starts =
+    let t : Term = Node root in
+    let cs = node_children n in
+    let there : (k : ℕ) → at + child_start cs k ≡ offset t (p ++ k ∷ []) =
+    λ k. omega (arith, starts, offset-node_child t p k n stands) in
+    both-starts (at + child_start cs start) (at + child_start cs end) (offset t (p ++ start ∷ []))
+    (offset t (p ++ end ∷ [])) (there start) (there end)
+
 pub is-edit : (root : NodeTerm) (x : Rank × Body) (p : Path) (start end count : ℕ) (n : NodeTerm)
     (at : ℕ) → x.0.place.items ≡ p ++ start ∷ [] → x.0.end ≡ end → x.0.count ≡ count
     → subterm (Node root) p ≡ Some (Node n) → at ≡ offset (Node root) p → start ≤ end

@@ -83,6 +83,19 @@ is-next root es e x h edit =
       order = own.order;
     }
 
+-- where there is room for a rank, no edit conflicts with one of it
+pub room-apart : (root : NodeTerm) (es : List (Rank × Body)) (x : Rank × Body) → AreKept root es
+    → IsRanked x → HasRoom es x.0
+    → AllByRecursion (λ f. conflicts f (edit_in x) ≡ false) (edits_in es)
+room-apart root es x h long room =
+    let front = room.cut.front in
+    let behind = room.cut.behind in
+    let ranked = all-both IsRanked front behind (subst (AllByRecursion IsRanked) room.cut.is h.ranked) in
+    subst (AllByRecursion (λ f. conflicts f (edit_in x) ≡ false))
+    (sym (ap edits_in room.cut.is ∙ map-append edit_in front behind))
+    (all-apart (edits_in front) (edits_in behind) (edit_in x) (each-before x front long room.before)
+    (before-each x behind ranked.1 room.after))
+
 -- the edits after one more is kept
 pub record IsPut (root : NodeTerm) (es new : List (Rank × Body)) (e : Edit) : Type 0 where
   pub kept : AreKept root new

@@ -117,7 +117,7 @@ behind-inside (k ∷ p) r n (j ∷ q) s e b order h = elim b [
   ]
 ]
 
-stays-inside : (p r : Path) (n : ℕ) (es : List Edit)
+pub stays-inside : (p r : Path) (n : ℕ) (es : List Edit)
     → AllByRecursion (λ f. Before (p ++ r) n (place f)) es → EndInTurn es
     → moved_over (sites_of es) p ≡ p
 stays-inside p r n [] a turn = refl

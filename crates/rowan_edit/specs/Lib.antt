@@ -1,3 +1,9 @@
+pub mod ArrangedCode
+pub mod ArrangedCursors
+pub mod ArrangedLimits
+pub mod ArrangedTree
+pub mod Arrangements
+pub mod ArrangementsKept
 pub mod Changes
 pub mod ChangesCode
 pub mod ChangesKept
@@ -14,6 +20,7 @@ pub mod Limits
 pub mod Moved
 pub mod OpenNode
 pub mod Orders
+pub mod Pieces
 pub mod Plan
 pub mod PlanCode
 pub mod Pointers

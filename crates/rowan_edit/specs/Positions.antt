@@ -9,9 +9,10 @@ use Rattle.rowan_edit.specs.declared.position.Position.{Position}
 use Rattle.rowan_edit.specs.declared.position.Position.TheVariants.{BeforeElement, AfterElement}
 use Rattle.rowan_edit.specs.declared.position.Position.TheVariants.{FirstChild, LastChild}
 use Rattle.rowan_edit.specs.declared.refusal.Refusal.{Refusal}
-use Rattle.rowan_edit.specs.Cursors.{AtChild, WhyNotTaken, WhyNotTakenAt}
+use Rattle.rowan_edit.specs.ArrangedCursors.{WhyNotTaken, WhyNotTakenAt}
+use Rattle.rowan_edit.specs.Arrangements.{ArrangedPlan}
+use Rattle.rowan_edit.specs.Cursors.{AtChild}
 use Rattle.rowan_edit.specs.Edit.{Edit}
-use Rattle.rowan_edit.specs.Plan.{Plan}
 
 -- terms in the place of the child at an index, and in the gap before it
 abbrev pub in_place : List Term → Path → ℕ → Edit
@@ -39,7 +40,7 @@ cursor_of (FirstChild n) = node_place n
 cursor_of (LastChild n) = node_place n
 
 -- why terms are not put at a position
-abbrev pub WhyNotInserted : {L : Type 0} → Plan → Position L → List Term → Refusal → Type 0
+abbrev pub WhyNotInserted : {L : Type 0} → ArrangedPlan → Position L → List Term → Refusal → Type 0
 WhyNotInserted plan (BeforeElement e) new =
     WhyNotTakenAt plan (place_of (element_place e)) (in_gap new)
 WhyNotInserted plan (AfterElement e) new =

@@ -1,6 +1,6 @@
 -- The edits that an editor keeps, in the order of their places.
-use Rattle.std.specs.Prelude.{◌≡◌, ℕ, ◌<◌, ◌≤◌, Bool, true, false, List, [], ◌∷◌, ◌++◌, length, map}
-use Rattle.std.specs.List.{AllByRecursion}
+use Rattle.std.specs.Prelude.{◌≡◌, ◌≢◌, ℕ, ◌<◌, ◌≤◌, Bool, true, false, List, [], ◌∷◌, ◌++◌, length, map}
+use Rattle.std.specs.List.{AllByRecursion, Contains}
 use Rattle.std.specs.Cmp.Lexicographic.{slice_cmp}
 use Rattle.std.specs.Ordering.{nat_cmp, on, then_cmp}
 use Rattle.std.specs.declared.cmp.Ordering.{Ordering}
@@ -48,6 +48,13 @@ ends_first r s = lies_before (without_last r.place.items) r.end s.place.items
 -- a rank has a place
 abbrev pub IsRanked : Rank × Body → Type 0
 IsRanked e = 0 < length e.0.place.items
+
+-- an edit begins at a place, and none does
+abbrev pub HasEditAt : List (Rank × Body) → Path → Type 0
+HasEditAt es z = (e : Rank × Body) × Contains es e × (e.0.place.items ≡ z)
+
+abbrev pub HasNoEditAt : List (Rank × Body) → Path → Type 0
+HasNoEditAt es z = AllByRecursion (λ e. e.0.place.items ≢ z) es
 
 -- a rank for one more edit, to which more edits were added before than to any of these
 pub record IsNext (es : List (Rank × Body)) (r : Rank) : Type 0 where

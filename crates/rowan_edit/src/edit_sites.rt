@@ -317,7 +317,7 @@ fn index_sum(index: usize, more: usize) -> Result<usize, Fault>
 }
 
 /// How many indexes two paths share, up to where they part or one of them ends.
-fn shared_len(path: &[usize], other: &[usize]) -> usize
+pub(crate) fn shared_len(path: &[usize], other: &[usize]) -> usize
     ensures { Fork path.now other.now result }
 {
     for (depth, index) in path.iter().enumerate() {

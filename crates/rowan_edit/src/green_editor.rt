@@ -7,10 +7,13 @@ ghost use Rattle.rowan_green.specs.Fits.{FitsNode, byte_limit};
 ghost use Rattle.rowan_green.specs.Path.{subterm, offset};
 ghost use Rattle.rowan_green.specs.Search.{child_start};
 ghost use Rattle.rowan_green.specs.Term.{NodeTerm, node_children, node_len};
+ghost use Rattle.rowan_edit.specs.Arrangements.{AreFree};
+ghost use Rattle.rowan_edit.specs.Arrangements.{HasExcluding};
+ghost use Rattle.rowan_edit.specs.ArrangementsKept.{HasChildren};
 ghost use Rattle.rowan_edit.specs.Changes.{changes_of};
 ghost use Rattle.rowan_edit.specs.Edit.{Edit, edited, conflicts};
 ghost use Rattle.rowan_edit.specs.Plan.{with_edit, IsOf, WhyRefused, AreInOrder};
-ghost use Rattle.rowan_edit.specs.GreenEditor.{edits_of};
+ghost use Rattle.rowan_edit.specs.GreenEditor.{edits_of, AreListed};
 ghost use Rattle.rowan_edit.specs.Ranked.{IsEditIn};
 ghost use Rattle.rowan_edit.specs.Limits.{WhyNotEdited};
 ghost use Rattle.rowan_edit.specs.TextEdits.{IsEdited};
@@ -18,7 +21,7 @@ ghost use Rattle.rowan_edit.specs.TextEdits.{IsEdited};
 use crate::changes::{Changes, Edited};
 use crate::edit::{Splice, changes_of};
 use crate::edit_sites::EditSites;
-use crate::ranked::{Body, Rank, RankedEdits, has_room, in_order};
+use crate::ranked::{Body, Rank, RankedEdits, has_edit_of, has_room, in_order};
 use crate::refusal::Refusal;
 use crate::zipper::Zipper;
 use rowan_green::fault::Fault;
@@ -134,22 +137,83 @@ impl GreenEditor {
         ensures fits { IfOk result (λ e. FitsNode e.green) }
         ensures err { IfErr result (WhyNotEdited (edited (Node self.root) self.edits)) }
     {
+        let alloc = self.alloc;
+        let (root, edits) = self.into_splices()?;
+        edited_tree(alloc, &root, edits)
+    }
+
+    /// The tree, and its edits in the order of their places. Refused only for want of memory.
+    pub(crate) fn into_splices(self) -> Result<(GreenNode, Vec<Splice>), Fault>
+        ensures root { IfOk result (λ p. p.0 ≡ self.root) }
+        ensures edits { IfOk result (λ p. edits_of p.1.items ≡ self.edits) }
+        ensures listed { IfOk result (λ p. AreListed p.0 p.1.items) }
+        ensures err { IfErr result (λ e. e ≡ Fault.Memory) }
+    {
         let GreenEditor { alloc, root, edits } = self;
         let edits = in_order(alloc, edits)?;
-        let list = changes_of(alloc, &edits)?;
-        let sites = EditSites::new(alloc, &root, &edits)?;
-        let green = new_root(alloc, &root, edits)?;
-        let changes = Changes::new(alloc, list)?;
-        Ok(Edited {
-            green,
-            changes,
-            sites,
-        })
+        Ok((root, edits))
+    }
+
+    /// How many children the node at a path has, if one stands there.
+    pub(crate) fn child_count(&self, path: &[usize]) -> Option<usize>
+        ensures some { IfSome result (λ n. HasChildren self.now.root path.now n) }
+        ensures none { IsNone result → (n : NodeTerm)
+            → subterm (Node self.now.root) path.now ≢ Some (Node n) }
+    {
+        match place_at(&self.root, path) {
+            Some(place) => Some(place.node.children().len()),
+            None => None,
+        }
+    }
+
+    /// Whether an edit is one of the children of the node at a path, of which there are so many, or
+    /// takes away the node, or something around it. Refused only for want of memory.
+    pub(crate) fn has_excluding(&self, path: &[usize], count: usize) -> Result<bool, Refusal>
+        requires { HasChildren self.now.root path.now count }
+        ensures some { IfOk result (λ found. found ≡ true → HasExcluding self.now.edits path.now) }
+        ensures none { IfOk result (λ found. found ≡ false → AreFree self.now.edits path.now) }
+        ensures err { IfErr result (λ e. e ≡ Refusal.Memory) }
+    {
+        let edits = &self.edits;
+        let nothing = Vec::new(self.alloc);
+        let gap = edit_in(self.alloc, &self.root, path, 0..0, nothing, edits.len())?;
+        if !has_room(edits, &gap.0) {
+            return Ok(true);
+        }
+        let own = has_edit_of(self.alloc, edits, path, count)?;
+        Ok(own)
     }
 }
 
+/// A tree with edits made, and what they change. Refused with `TextTooLong` or `TooManyChildren`
+/// where a node of that tree would pass a limit, and else only for want of memory.
+pub(crate) fn edited_tree(
+    alloc: Global,
+    root: &GreenNode,
+    edits: Vec<Splice>,
+) -> Result<Edited, Fault>
+    requires { AreListed root.now edits.items }
+    ensures whole { IfOk result (IsEdited root.now (edits_of edits.items)) }
+    ensures fits { IfOk result (λ e. FitsNode e.green) }
+    ensures err { IfErr result (WhyNotEdited (edited (Node root.now) (edits_of edits.items))) }
+{
+    let list = changes_of(alloc, &edits)?;
+    let sites = EditSites::new(alloc, root, &edits)?;
+    let green = new_root(alloc, root, edits)?;
+    let changes = Changes::new(alloc, list)?;
+    Ok(Edited {
+        green,
+        changes,
+        sites,
+    })
+}
+
 /// The root of a tree with edits made.
-fn new_root(alloc: Global, root: &GreenNode, edits: Vec<Splice>) -> Result<GreenNode, Fault>
+pub(crate) fn new_root(
+    alloc: Global,
+    root: &GreenNode,
+    edits: Vec<Splice>,
+) -> Result<GreenNode, Fault>
     requires { AreInOrder root.now (edits_of edits.items) }
     ensures ok { IfOk result (λ n. Node n ≡ edited (Node root.now) (edits_of edits.items)) }
     ensures fits { IfOk result FitsNode }
@@ -207,14 +271,14 @@ fn edit_in(
 
 /// A node of a tree, and where its text starts in that of the root.
 #[derive(Clone, Copy)]
-struct Place<'tree> {
-    node: &'tree GreenNode,
+pub(crate) struct Place<'tree> {
+    pub(crate) node: &'tree GreenNode,
     start: TextSize,
 }
 
 impl Place<'_> {
     /// Where the children from one index to another lie in the text of the root.
-    fn range_of(&self, children: Range<usize>) -> TextRange
+    pub(crate) fn range_of(&self, children: Range<usize>) -> TextRange
         requires order { children.start ≤ children.end }
         requires fits { self.now.start + node_len self.now.node.now ≤ byte_limit }
         ensures { let all = node_children self.now.node.now in result ≡ record {
@@ -242,7 +306,7 @@ fn start_of_child(node: &GreenNode, index: usize) -> TextSize
 }
 
 /// The node at a path.
-fn place_at<'tree>(root: &'tree GreenNode, path: &[usize]) -> Option<Place<'tree>>
+pub(crate) fn place_at<'tree>(root: &'tree GreenNode, path: &[usize]) -> Option<Place<'tree>>
     ensures some { IfSome result (λ p. subterm (Node root.now) path.now ≡ Some (Node p.node.now)) }
     ensures start { IfSome result (λ p. p.start ≡ offset (Node root.now) path.now) }
     ensures fits { IfSome result (λ p. p.start + node_len p.node.now ≤ byte_limit) }

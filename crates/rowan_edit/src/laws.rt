@@ -8,6 +8,8 @@ ghost use Rattle.rowan_green.specs.Path.{Path, subterm, tokens, put, range, shif
 ghost use Rattle.rowan_green.specs.Replacements.{Replacement, Makes};
 ghost use Rattle.rowan_green.specs.Term.{NodeTerm, Term, term_text, term_len, node_children};
 ghost use Rattle.rowan_green.specs.Term.{node_kind, TokenTerm};
+ghost use Rattle.rowan_edit.specs.ArrangedTree.{all_made, IsPlanned};
+ghost use Rattle.rowan_edit.specs.Arrangements.{ArrangedPlan, plain_edits};
 ghost use Rattle.rowan_edit.specs.Changes.{changes_of, edits_before, old_bytes, new_bytes};
 ghost use Rattle.rowan_edit.specs.Changes.{moved_through};
 ghost use Rattle.rowan_edit.specs.Edit.{Edit, edited, edited_once, ends_before};
@@ -116,6 +118,14 @@ pub fn replacements_may_come_in_any_order()
 /// other takes away.
 pub fn conflicts_are_overlaps()
     ensures { (e : Edit) (f : Edit) → (conflicts e f ≡ true) ↔ EditsOverlap e f }
+{}
+
+/// The tree of the edits that edits and arrangements come to is the one with the edits and the
+/// arrangements made, one after the other, from the last place to the first.
+pub fn arrangements_are_edits()
+    ensures { (plan : ArrangedPlan) → IsPlanned plan
+        → edited (Node plan.root) (plain_edits plan)
+        ≡ all_made (Node plan.root) plan.edits plan.arrangements }
 {}
 
 /// The tokens of a rewritten tree are those of what comes in the place of each token.

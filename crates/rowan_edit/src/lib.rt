@@ -1,6 +1,7 @@
 //! Edits of syntax trees, and a cursor that costs no table.
 #![tactic(auto)]
 
+mod arranging_editor;
 pub mod as_element;
 pub mod changes;
 mod edit;
@@ -13,6 +14,8 @@ pub mod into_elements;
 pub mod laws;
 pub mod make;
 mod open_node;
+pub mod pieces;
+mod plain_edits;
 mod pointers;
 pub mod position;
 mod ranked;
@@ -31,6 +34,7 @@ pub use editor::Editor;
 pub use green_editor::GreenEditor;
 pub use into_elements::IntoElements;
 pub use make::Make;
+pub use pieces::Piece;
 pub use position::Position;
 pub use refusal::Refusal;
 pub use rewriting::{Rewrite, Rewritten, TokenAt, rewrite_tokens};

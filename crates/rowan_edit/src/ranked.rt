@@ -1,9 +1,10 @@
 //! Edits in the order of their places, as an editor keeps them.
-ghost use Rattle.std.specs.Prelude.{◌≡◌, ◌<◌, true, false, [], ◌∷◌, ◌++◌, length, IfOk, IfErr};
+ghost use Rattle.std.specs.Prelude.{◌≡◌, ◌<◌, ◌≤◌, ℕ, true, false, [], ◌∷◌, ◌++◌, length, IfOk, IfErr};
 ghost use Rattle.std.specs.List.{AllByRecursion};
 ghost use Rattle.rowan_edit.specs.Plan.{HasConflict};
 ghost use Rattle.rowan_edit.specs.Ranked.{edit_in, edits_in, ends_first, IsRanked, IsNext, Cut};
-ghost use Rattle.rowan_edit.specs.Ranked.{HasRoom, IsSpliceOf, AreSplicesOf};
+ghost use Rattle.rowan_edit.specs.Ranked.{HasRoom, HasEditAt, HasNoEditAt};
+ghost use Rattle.rowan_edit.specs.Ranked.{IsSpliceOf, AreSplicesOf};
 
 use crate::edit::{Splice, lies_before};
 use rowan_green::fault::Fault;
@@ -113,6 +114,42 @@ pub(crate) fn has_room(edits: &RankedEdits, rank: &Rank) -> bool
         return false;
     }
     is_before(edits, rank)
+}
+
+/// Whether an edit begins at the place of a rank, which is the least of those at its place.
+fn has_edit_at(edits: &RankedEdits, rank: &Rank) -> bool
+    requires end { rank.now.end ≡ 0 }
+    requires count { rank.now.count ≡ 0 }
+    ensures some { result ≡ true → HasEditAt edits.now.entries rank.now.place.items }
+    ensures none { result ≡ false → HasNoEditAt edits.now.entries rank.now.place.items }
+{
+    match edits.range(rank..).next() {
+        Some((next, _)) => next.place == rank.place,
+        None => false,
+    }
+}
+
+/// Whether an edit begins at one of the children of the node at a path, of which there are so many,
+/// or behind the last one.
+pub(crate) fn has_edit_of(
+    alloc: Global,
+    edits: &RankedEdits,
+    path: &[usize],
+    count: usize,
+) -> Result<bool, AllocError>
+    ensures some { IfOk result (λ found. found ≡ true → (k : ℕ)
+        × HasEditAt edits.now.entries (path.now ++ k ∷ [])) }
+    ensures none { IfOk result (λ found. found ≡ false → (k : ℕ) → k ≤ count
+        → HasNoEditAt edits.now.entries (path.now ++ k ∷ [])) }
+{
+    let mut rank = Rank::new(alloc, path, 0..0, 0)?;
+    for index in 0..count {
+        if has_edit_at(edits, &rank) {
+            return Ok(true);
+        }
+        rank.place[path.len()] = index + 1;
+    }
+    Ok(has_edit_at(edits, &rank))
 }
 
 /// An edit out of its rank and the rest of it.

@@ -9,7 +9,9 @@ use thiserror::Error;
 #[derive(Clone, Copy, PartialEq, Eq, Debug, Error)]
 pub enum Refusal {
     /// An edit that was taken before takes away an element that this one would take away, too, or
-    /// one of the two edits lies inside of what the other takes away.
+    /// one of the two edits lies inside of what the other takes away; or one of the two gives a node
+    /// other children, and the other is an edit of these children, gives the node others, too, or
+    /// takes away the node or something around it.
     #[error("an edit that was taken before takes away the same element, or one around it or in it")]
     Conflict,
     /// The tree has no such node, or the node has no such children.

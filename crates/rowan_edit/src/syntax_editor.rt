@@ -12,23 +12,27 @@ ghost use Rattle.rowan_cursor.specs.Moves.{place_of, parent};
 ghost use Rattle.rowan_api.specs.Refs.{node_place, token_place, element_place};
 ghost use Rattle.rowan_edit.specs.declared.edit_error.EditError.TheVariants.{Failed};
 ghost use Rattle.rowan_edit.specs.Changes.{changes_of};
-ghost use Rattle.rowan_edit.specs.Cursors.{AtChild, WhyNotTaken, WhyNotTakenAt};
+ghost use Rattle.rowan_edit.specs.ArrangedCursors.{WhyNotTaken, WhyNotTakenAt, WhyNotReplaced};
+ghost use Rattle.rowan_edit.specs.ArrangedLimits.{WhyNotMade};
+ghost use Rattle.rowan_edit.specs.ArrangedTree.{IsPlanned};
+ghost use Rattle.rowan_edit.specs.Arrangements.{with_edit, with_arrangement, plain_edits};
+ghost use Rattle.rowan_edit.specs.Arrangements.{WhyRefused, WhyNotArranged};
+ghost use Rattle.rowan_edit.specs.Cursors.{AtChild};
 ghost use Rattle.rowan_edit.specs.Edges.{at_edge, range_edit, IsAtEdge};
 ghost use Rattle.rowan_edit.specs.Edit.{Edit, edited};
 ghost use Rattle.rowan_edit.specs.EditErrors.{IsRefused, IsRefusedFor, IsFailure};
 ghost use Rattle.rowan_edit.specs.Elements.{with_text, with_kind};
 ghost use Rattle.rowan_edit.specs.FromText.{IsFirstOfText, WhyNoneOfText};
-ghost use Rattle.rowan_edit.specs.Limits.{WhyNotEdited};
-ghost use Rattle.rowan_edit.specs.Plan.{with_edit, WhyRefused};
 ghost use Rattle.rowan_edit.specs.TextEdits.{IsEdited};
 ghost use Rattle.rowan_edit.specs.Positions.{in_place, in_gap, AtGap, cursor_of, WhyNotInserted};
 
+use crate::arranging_editor::ArrangingEditor;
 use crate::as_element::AsElement;
 use crate::changes::Edited;
 use crate::edit_error::EditError;
-use crate::green_editor::GreenEditor;
 use crate::into_elements::IntoElements;
 use crate::make::Make;
+use crate::pieces::Piece;
 use crate::position::Position;
 use crate::refusal::Refusal;
 use rowan::{Language, SyntaxElementRef, SyntaxNodeRef, SyntaxTokenRef, TypedElementRefCalls};
@@ -44,19 +48,19 @@ use std::ops::Range;
 #[derive(Drop)]
 pub struct SyntaxEditor<L> {
     alloc: Global,
-    green: GreenEditor,
+    edits: ArrangingEditor,
     make: Make<L>,
 }
 
 impl<L> Model for SyntaxEditor<L> {
-    ghost use Rattle.rowan_edit.specs.Plan.{Plan};
-    ghost use Rattle.rowan_edit.specs.PlanCode.{coded_plan};
+    ghost use Rattle.rowan_edit.specs.Arrangements.{ArrangedPlan};
+    ghost use Rattle.rowan_edit.specs.ArrangedCode.{coded_arranged_plan};
 
-    ghost Value = { Plan };
+    ghost Value = { ArrangedPlan };
 
-    ghost coded = { coded_plan };
+    ghost coded = { coded_arranged_plan };
 
-    ghost view = { λ e. e.green };
+    ghost view = { λ e. e.edits };
 }
 
 /// What an edit at an element takes away: nothing, before or behind it, or all of it.
@@ -81,12 +85,12 @@ impl<L: Language> SyntaxEditor<L> {
     /// Errors: `Failed(Memory)` if an allocation failed.
     pub fn new(alloc: Global, node: SyntaxNodeRef<'_, L>) -> Result<SyntaxEditor<L>, EditError>
         ensures ok { IfOk result (λ e.
-            e ≡ record { root = (node_place node.entry).root; edits = [] }) }
+            e ≡ record { root = (node_place node.entry).root; edits = []; arrangements = [] }) }
         ensures err { IfErr result (IsFailure (λ f. f ≡ Fault.Memory)) }
     {
         Ok(SyntaxEditor {
             alloc,
-            green: GreenEditor::new(alloc, node.tree_top().green())?,
+            edits: ArrangingEditor::new(alloc, node.tree_top().green())?,
             make: Make::new(alloc),
         })
     }
@@ -211,18 +215,50 @@ impl<L: Language> SyntaxEditor<L> {
         self.replace(token, new)
     }
 
-    /// The tree with all edits made, and the change that each of them makes in the text.
+    /// Gives a node other children, in the order of the pieces: new elements, and children that it
+    /// has, with all edits inside of them. A child that no piece names is taken away, with the edits
+    /// inside of it, and one that two pieces name stands there twice. The edits inside of a child
+    /// may come before this call or after it.
+    ///
+    /// Errors: `Refused` with `OtherTree` if the node is in another tree, and else with `NotFound`
+    /// if it has no child at an index, and with `Conflict` if its children are replaced already, if
+    /// an edit puts elements between its own children or takes one of them away, or if one takes
+    /// away the node or something around it; `Memory` if an allocation failed.
+    pub fn replace_children(
+        &mut self,
+        parent: SyntaxNodeRef<'_, L>,
+        pieces: Vec<Piece>,
+    ) -> Result<(), EditError>
+        ensures ok { OnOk result (self.new ≡ with_arrangement self.old
+            (record { path = (node_place parent.entry).path; pieces = pieces.items })) }
+        ensures tree { OnOk result ((node_place parent.entry).root ≡ self.old.root) }
+        ensures err { let c = node_place parent.entry in IfErr result (IsRefusedFor
+            (WhyNotReplaced self.old c (record { path = c.path; pieces = pieces.items }))) }
+        ensures unchanged { OnErr result (self.new ≡ self.old) }
+    {
+        if !self.is_of_tree(NodeOrToken::Node(parent)) {
+            return Err(EditError::Refused(Refusal::OtherTree));
+        }
+        Ok(self.arrange(parent, pieces)?)
+    }
+
+    /// The tree with all edits made, and the change that each of them makes in the text. Of a node
+    /// whose children were replaced it is one change, of the range of all its children.
     ///
     /// Errors: `Failed` with `TextTooLong` or `TooManyChildren` where a node of that tree would
-    /// pass a limit, and with `Memory` if an allocation failed.
+    /// pass a limit, or a node whose children are replaced, once the edits inside of it are made
+    /// and before its children are replaced; with `Memory` if an allocation failed.
     pub fn finish(self) -> Result<Edited, EditError>
-        ensures green { IfOk result (λ e. Node e.green ≡ edited (Node self.root) self.edits) }
-        ensures changes { IfOk result (λ e. e.changes ≡ changes_of (Node self.root) self.edits) }
-        ensures whole { IfOk result (IsEdited self.root self.edits) }
+        ensures green { IfOk result (λ e.
+            Node e.green ≡ edited (Node self.root) (plain_edits self)) }
+        ensures changes { IfOk result (λ e.
+            e.changes ≡ changes_of (Node self.root) (plain_edits self)) }
+        ensures whole { IfOk result (IsEdited self.root (plain_edits self)) }
+        ensures planned { OnOk result (IsPlanned self) }
         ensures fits { IfOk result (λ e. FitsNode e.green) }
-        ensures err { IfErr result (IsFailure (WhyNotEdited (edited (Node self.root) self.edits))) }
+        ensures err { IfErr result (IsFailure (WhyNotMade self)) }
     {
-        Ok(self.green.finish()?)
+        Ok(self.edits.finish()?)
     }
 
     /// Where new lists and texts get their memory.
@@ -282,7 +318,19 @@ impl<L: Language> SyntaxEditor<L> {
         ensures unchanged { OnErr result (self.new ≡ self.old) }
     {
         let path = path_to(self.alloc, parent)?;
-        self.green.splice(&path, children, new)
+        self.edits.splice(&path, children, new)
+    }
+
+    // Gives a node of this tree other children.
+    fn arrange(&mut self, parent: SyntaxNodeRef<'_, L>, pieces: Vec<Piece>) -> Result<(), Refusal>
+        ensures ok { OnOk result (self.new ≡ with_arrangement self.old
+            (record { path = (node_place parent.entry).path; pieces = pieces.items })) }
+        ensures err { IfErr result (WhyNotArranged self.old
+            (record { path = (node_place parent.entry).path; pieces = pieces.items })) }
+        ensures unchanged { OnErr result (self.new ≡ self.old) }
+    {
+        let path = path_to(self.alloc, parent)?;
+        self.edits.replace_children(path, pieces)
     }
 
     // Whether an element is one of this tree.
@@ -292,7 +340,7 @@ impl<L: Language> SyntaxEditor<L> {
         ensures other { result ≡ false
             → (place_of (element_place element.entry)).root ≢ self.now.root }
     {
-        self.green.has_root(element.tree_top().green())
+        self.edits.has_root(element.tree_top().green())
     }
 
     // The children that an edit at an element takes away.

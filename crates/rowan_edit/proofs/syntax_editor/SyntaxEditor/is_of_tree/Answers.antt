@@ -1,7 +1,7 @@
 use Rattle.std.proofs.Common.{sym, ◌∙◌, ap}
 use Rattle.rowan_cursor.specs.Moves.{place_of}
 use Rattle.rowan_api.specs.Refs.{node_place, element_place}
-use Rattle.rowan_edit.specs.Plan.{Plan}
+use Rattle.rowan_edit.specs.Arrangements.{ArrangedPlan}
 use Rattle.rowan_edit.proofs.EdgeLemmas.{top-root}
 use Rattle.rowan_edit.proofs.syntax_editor.SyntaxEditor.is_of_tree.Goals as goal
 
@@ -10,7 +10,7 @@ returns-clause-same g c = λ same.
     top-root (place_of (element_place c.args.element)) (node_place c.tree_top.result)
     c.green.result.now c.tree_top.ensures c.green.ensures
     ∙ c.has_root.ensures.same same
-    ∙ ap (λ (p : Plan). p.root) c.self.view_is
+    ∙ ap (λ (p : ArrangedPlan). p.root) c.self.view_is
 
 pub returns-clause-other : goal.returns-clause-other
 returns-clause-other g c = λ other is.
@@ -18,4 +18,4 @@ returns-clause-other g c = λ other is.
     (sym (top-root (place_of (element_place c.args.element)) (node_place c.tree_top.result)
     c.green.result.now c.tree_top.ensures c.green.ensures)
     ∙ is
-    ∙ sym (ap (λ (p : Plan). p.root) c.self.view_is))
+    ∙ sym (ap (λ (p : ArrangedPlan). p.root) c.self.view_is))
