@@ -1,6 +1,5 @@
-//! Edits of JSON with comments, read from standard input; a text with errors is refused. Each word
-//! behind the program's name is an edit of what the edit before it made: `rename:OLD:NEW`,
-//! `set:NAME:VALUE`, `delete:NAME`, `wrap`, `sort` or `format`. Names have their quotes.
+//! Edits JSON with comments from standard input. Each argument edits what the one before it made:
+//! `rename:OLD:NEW`, `set:NAME:VALUE`, `delete:NAME`, `wrap`, `sort`, `format`; names have quotes.
 #![tactic(auto)]
 
 mod format;
@@ -9,7 +8,7 @@ use anyhow::{Result, bail};
 use itertools::Itertools;
 use json_syntax::{Json, Kind};
 use rowan::{Direction, SyntaxNode, SyntaxNodeRef, TypedElementRefCalls};
-use rowan_edit::{EditError, Refusal, SyntaxEditor};
+use rowan_edit::{EditError, Piece, Refusal, SyntaxEditor};
 use std::{env, io};
 
 type Node<'tree> = SyntaxNodeRef<'tree, Json>;
@@ -41,8 +40,7 @@ fn main(rt: HostRuntime) -> Result<()> {
         }?;
         tree = editor.finish()?.green;
     }
-    print!(rt; "{tree}")?;
-    Ok(())
+    Ok(print!(rt; "{tree}")?)
 }
 
 fn name_of(member: Node<'_>) -> &str {
@@ -57,8 +55,7 @@ fn member_of<'tree>(root: Node<'tree>, name: &str) -> Result<Node<'tree>, EditEr
 
 fn rename(editor: &mut Editor, root: Node<'_>, old: &str, new: &str) -> Result<(), EditError> {
     let members = root.descendants().by_kind(Kind::Member);
-    let names = members.filter_map(|member| member.first_token());
-    let mut found = names.filter(|name| name.text() == old);
+    let mut found = members.filter_map(|at| at.first_token().filter(|name| name.text() == old));
     found.try_for_each(|name| editor.set_text(name, new))
 }
 
@@ -88,18 +85,24 @@ fn delete(editor: &mut Editor, root: Node<'_>, name: &str) -> Result<(), EditErr
 /// Puts each number into an array of its own.
 fn wrap(editor: &mut Editor, root: Node<'_>) -> Result<(), EditError> {
     let is_number = |literal: &Node<'_>| literal.first_token_of_kind(Kind::Number).is_some();
-    for literal in root.descendants().by_kind(Kind::Literal).filter(is_number) {
+    let mut numbers = root.descendants().by_kind(Kind::Literal).filter(is_number);
+    numbers.try_for_each(|literal| {
         let array = format!(in editor.allocator(); "[{literal}]")?;
-        put(editor, literal, array.as_str())?;
-    }
-    Ok(())
+        put(editor, literal, array.as_str())
+    })
 }
 
-/// Sorts the members of the outermost object by their names.
+/// Sorts the members of each object by their names. What stands between them stays there.
 fn sort(editor: &mut Editor, root: Node<'_>) -> Result<(), EditError> {
-    let object = root.first_child().unwrap_or(root);
-    let members = object.children();
-    let sorted = members.sorted_by_key(editor.allocator(), |member| name_of(*member))?;
-    let mut pairs = object.children().zip(sorted);
-    pairs.try_for_each(|(old, new)| editor.replace(old, new))
+    for object in root.descendants().by_kind(Kind::Object) {
+        let members = object.children();
+        let mut sorted = members.sorted_by_key(editor.allocator(), |member| name_of(*member))?;
+        let mut pieces = Vec::new(editor.allocator());
+        for old in object.children_with_tokens() {
+            let new = old.into_node().and_then(|_| sorted.next());
+            pieces.push(Piece::Old(new.map_or(old.index(), |member| member.index())))?;
+        }
+        editor.replace_children(object, pieces)?;
+    }
+    Ok(())
 }
