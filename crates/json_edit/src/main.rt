@@ -2,8 +2,6 @@
 //! `rename:OLD:NEW`, `set:NAME:VALUE`, `delete:NAME`, `wrap`, `sort`, `format`; names have quotes.
 #![tactic(auto)]
 
-mod format;
-
 use anyhow::{Result, bail};
 use itertools::Itertools;
 use json_syntax::{Json, Kind};
@@ -24,7 +22,7 @@ fn main(rt: HostRuntime) -> Result<()> {
     };
     for word in env::args(&rt)?.skip(1) {
         if word.as_str() == "format" {
-            tree = format::formatted(alloc, &tree)?;
+            tree = json_format::formatted(alloc, &tree)?;
             continue;
         }
         let root: SyntaxNode<Json> = SyntaxNode::new_root(alloc, tree)?;

@@ -1,4 +1,6 @@
 //! White space of JSON: each element of an array and each member of an object has its own line.
+#![tactic(auto)]
+
 use json_syntax::{Json, Kind};
 use rowan::{Fault, GreenElement, GreenNode, GreenToken, Language};
 use rowan_edit::{Rewrite, TokenAt, rewrite_tokens};
