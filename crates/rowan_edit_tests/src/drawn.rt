@@ -12,10 +12,10 @@ const TEXT: &str = "abcdefgabcde";
 const TEXT_LEN: u32 = 12;
 
 /// The nodes of the tree.
-const PATHS: [&[usize]; 7] = [&[], &[0], &[0, 1], &[0, 1, 1], &[2], &[2, 1], &[2, 1, 1]];
+pub const PATHS: [&[usize]; 7] = [&[], &[0], &[0, 1], &[0, 1, 1], &[2], &[2, 1], &[2, 1, 1]];
 
 /// The offsets of the borders between the children of each node, and of both its ends.
-const BORDERS: [&[u32]; 7] = [
+pub const BORDERS: [&[u32]; 7] = [
     &[0, 5, 7, 12],
     &[0, 1, 4, 4, 5],
     &[1, 2, 2, 4],
@@ -30,12 +30,12 @@ const WORDS: [&[&str]; 6] = [&[], &[""], &["x"], &["", "yz"], &["v", "w"], &["12
 
 /// Numbers that look random, the same ones in each run.
 #[derive(Drop)]
-struct Draws {
-    state: u64,
+pub struct Draws {
+    pub state: u64,
 }
 
 impl Draws {
-    fn below(&mut self, bound: usize) -> usize {
+    pub fn below(&mut self, bound: usize) -> usize {
         self.state = self
             .state
             .wrapping_mul(6_364_136_223_846_793_005)
@@ -53,21 +53,21 @@ pub struct Accepted {
     pub path: &'static [usize],
     pub first: usize,
     pub last: usize,
-    place: usize,
+    pub place: usize,
     start: u32,
     end: u32,
     pub words: &'static [&'static str],
 }
 
 /// `LIST[tree "fg" tree]`
-fn list(alloc: Global) -> Result<GreenNode, Fault> {
+pub fn list(alloc: Global) -> Result<GreenNode, Fault> {
     let middle = NodeOrToken::Token(GreenToken::new(alloc, WORD, "fg")?);
     let first = NodeOrToken::Node(tree(alloc)?);
     let last = NodeOrToken::Node(tree(alloc)?);
     GreenNode::new(alloc, LIST, vec![in alloc; first, middle, last]?)
 }
 
-fn tokens(alloc: Global, texts: &[&str]) -> Result<Vec<GreenElement>, Fault> {
+pub fn tokens(alloc: Global, texts: &[&str]) -> Result<Vec<GreenElement>, Fault> {
     let mut all = Vec::new(alloc);
     for text in texts {
         all.push(NodeOrToken::Token(GreenToken::new(alloc, WORD, text)?))?;
@@ -77,7 +77,7 @@ fn tokens(alloc: Global, texts: &[&str]) -> Result<Vec<GreenElement>, Fault> {
 
 /// The indexes on the way to an edit, where it starts and where it ends, as the digits of a number:
 /// edits in the order of these numbers are in that of their places.
-fn place(path: &[usize], start: usize, end: usize) -> usize {
+pub fn place(path: &[usize], start: usize, end: usize) -> usize {
     let mut number: usize = 0;
     for depth in 0..5 {
         let digit = match path.get(depth) {
@@ -90,32 +90,27 @@ fn place(path: &[usize], start: usize, end: usize) -> usize {
     number.wrapping_mul(8).wrapping_add(end)
 }
 
-/// Draws an edit, and keeps it where the editor takes it.
-fn draw(
-    alloc: Global,
-    draws: &mut Draws,
-    editor: &mut GreenEditor,
-    kept: &mut Vec<Accepted>,
-) -> Result<(), Fault> {
+/// Draws an edit of the children of a node.
+pub fn draw_edit(draws: &mut Draws) -> Option<Accepted> {
     let node = draws.below(PATHS.len());
     let Some(path) = PATHS.get(node) else {
-        return Ok(());
+        return None;
     };
     let Some(borders) = BORDERS.get(node) else {
-        return Ok(());
+        return None;
     };
     let first = draws.below(borders.len());
     let last = first.wrapping_add(draws.below(borders.len().wrapping_sub(first)));
     let Some(start) = borders.get(first) else {
-        return Ok(());
+        return None;
     };
     let Some(end) = borders.get(last) else {
-        return Ok(());
+        return None;
     };
     let Some(words) = WORDS.get(draws.below(WORDS.len())) else {
-        return Ok(());
+        return None;
     };
-    let accepted = Accepted {
+    Some(Accepted {
         path: *path,
         first,
         last,
@@ -123,9 +118,21 @@ fn draw(
         start: *start,
         end: *end,
         words: *words,
+    })
+}
+
+/// Draws an edit, and keeps it where the editor takes it.
+fn draw(
+    alloc: Global,
+    draws: &mut Draws,
+    editor: &mut GreenEditor,
+    kept: &mut Vec<Accepted>,
+) -> Result<(), Fault> {
+    let Some(edit) = draw_edit(draws) else {
+        return Ok(());
     };
-    match editor.splice(path, first..last, tokens(alloc, words)?) {
-        Ok(()) => keep(kept, accepted),
+    match editor.splice(edit.path, edit.first..edit.last, tokens(alloc, edit.words)?) {
+        Ok(()) => keep(kept, edit),
         Err(Refusal::Conflict) => Ok(()),
         Err(_) => Err(Fault::NotFound),
     }

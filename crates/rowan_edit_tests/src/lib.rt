@@ -1,9 +1,13 @@
 //! Tests of the editor, of the tree cursor and of rewritten tokens.
 #![tactic(auto)]
 
+#[cfg(test)]
+mod arranging;
 pub mod calling;
 #[cfg(test)]
 mod drawn;
+#[cfg(test)]
+mod drawn_arranging;
 #[cfg(test)]
 mod editor;
 #[cfg(test)]

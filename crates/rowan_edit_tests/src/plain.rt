@@ -5,11 +5,13 @@ use rowan::{Fault, GreenNode, NodeOrToken, SyntaxKind};
 use rowan_edit::{Edited, TreeCursor};
 use std::alloc::Global;
 
-/// Where an element comes from: which element of the old tree it is, or which edit put it in.
+/// Where an element comes from: which element of the old tree it is, or which edit put it in, or
+/// that it was put into another order or is in something that was.
 #[derive(Clone, Copy, PartialEq, Eq)]
 enum Origin {
     Old(usize),
     New(usize),
+    Moved,
 }
 
 /// An element: how many nodes stand above it, its kind, and its text if it is a token.
@@ -71,7 +73,33 @@ impl Plain {
         Ok(plain)
     }
 
-    fn spliced(self, alloc: Global, edit: Accepted, number: usize) -> Result<Plain, Fault> {
+    /// The tree with the children of a node that stand at these indexes, in this order.
+    pub fn arranged(
+        self,
+        alloc: Global,
+        path: &[usize],
+        indexes: &[usize],
+    ) -> Result<Plain, Fault> {
+        let node = self.find(path);
+        let mut items = Vec::new(alloc);
+        for item in self.items.iter().take(node.wrapping_add(1)) {
+            items.push(*item)?;
+        }
+        for index in indexes {
+            let from = self.child(node, *index);
+            let to = self.child(node, index.wrapping_add(1));
+            for item in self.items.iter().take(to).skip(from) {
+                let origin = Origin::Moved;
+                items.push(Item { origin, ..*item })?;
+            }
+        }
+        for item in self.items.iter().skip(self.child(node, OLD.len())) {
+            items.push(*item)?;
+        }
+        Ok(Plain { items })
+    }
+
+    pub fn spliced(self, alloc: Global, edit: Accepted, number: usize) -> Result<Plain, Fault> {
         let node = self.find(edit.path);
         let from = self.child(node, edit.first);
         let to = self.child(node, edit.last);
