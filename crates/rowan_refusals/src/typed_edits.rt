@@ -5,7 +5,7 @@ use crate::shape::Shape;
 use crate::transcript::{Phase, Stop, Transcript};
 use json_syntax::{Json, Kind};
 use rowan::{Fault, GreenElement, GreenNode, SyntaxNode, SyntaxNodeRef};
-use rowan_edit::{EditError, Edited, Make, Position, Refusal, SyntaxEditor};
+use rowan_edit::{EditError, Edited, Make, Piece, Position, Refusal, SyntaxEditor};
 use std::alloc::Global;
 
 /// What is edited.
@@ -26,6 +26,12 @@ pub fn run_typed_edits(log: &Transcript<'_>) -> Result<(), Stop> {
     )?;
     log.tell("tree", &Shape(&edited.green))?;
     log.tell("changes", &edited.changes.as_slice())?;
+    let arranged = ask(
+        log,
+        "SyntaxEditor::replace_children, with drops",
+        || fault_of(arranged(&subject)),
+    )?;
+    log.tell("arranged", &Shape(&arranged.green))?;
     let made = ask(log, "Make, with drops", || fault_of(made(&subject)))?;
     log.tell("made", &made.text_len())?;
     log.phase(Phase::Dropping)
@@ -60,6 +66,25 @@ fn edited(subject: &Subject) -> Result<Edited, EditError> {
     let comma = editor.token(Kind::Comma, ",")?;
     editor.insert(Position::before(number), comma)?;
     editor.delete(number)?;
+    editor.finish()
+}
+
+/// The two elements change places, with edits inside of the second one.
+fn arranged(subject: &Subject) -> Result<Edited, EditError> {
+    let alloc = subject.alloc;
+    let mut editor = SyntaxEditor::new(alloc, subject.root.as_ref())?;
+    let name = first(subject, Kind::Member)?.first_token();
+    editor.set_text(name.ok_or(Fault::NotFound)?, "\"b\"")?;
+    let object = first(subject, Kind::Object)?;
+    let whole = vec![in alloc; Piece::Old(0), Piece::Old(1), Piece::Old(2)]?;
+    editor.replace_children(object, whole)?;
+    let array = first(subject, Kind::Array)?;
+    let comma = editor.token(Kind::Comma, ",")?;
+    let mut pieces = vec![in alloc; Piece::Old(0), Piece::Old(object.index())]?;
+    pieces.push(Piece::New(comma))?;
+    pieces.push(Piece::Old(1))?;
+    pieces.push(Piece::Old(object.index().saturating_add(1)))?;
+    editor.replace_children(array, pieces)?;
     editor.finish()
 }
 
