@@ -2,94 +2,87 @@
 -- Wrappers of the nodes of Sample: the kinds that cast to each of them.
 use Rattle.std.specs.Prelude.{◌≡◌, Bool, true, false, ◌||◌}
 use Rattle.grammar_sample.specs.declared.kinds.Kind.{Kind}
-use Rattle.grammar_sample.specs.declared.kinds.Kind.TheVariants.{Document, Table, ArrayTable}
-use Rattle.grammar_sample.specs.declared.kinds.Kind.TheVariants.{Header, ArrayHeader, Entry, Key}
-use Rattle.grammar_sample.specs.declared.kinds.Kind.TheVariants.{BareKey, QuotedKey, Note}
-use Rattle.grammar_sample.specs.declared.kinds.Kind.TheVariants.{TextLiteral, IntegerLiteral}
-use Rattle.grammar_sample.specs.declared.kinds.Kind.TheVariants.{FloatLiteral, BooleanLiteral}
-use Rattle.grammar_sample.specs.declared.kinds.Kind.TheVariants.{MomentLiteral, Array, InlineTable}
-use Rattle.grammar_sample.specs.declared.kinds.Kind.TheVariants.{Reference, Call, Arguments}
 use Rattle.grammar_sample.specs.contracts.kinds.Kind.{the_type}
 use denote.Enum.Bare.{same_true, sameb}
 
 abbrev pub is_document : Kind → Bool
-is_document Document = true
+is_document Kind.Document = true
 is_document _ = false
 
 abbrev pub is_table : Kind → Bool
-is_table Table = true
+is_table Kind.Table = true
 is_table _ = false
 
 abbrev pub is_array_table : Kind → Bool
-is_array_table ArrayTable = true
+is_array_table Kind.ArrayTable = true
 is_array_table _ = false
 
 abbrev pub is_header : Kind → Bool
-is_header Header = true
+is_header Kind.Header = true
 is_header _ = false
 
 abbrev pub is_array_header : Kind → Bool
-is_array_header ArrayHeader = true
+is_array_header Kind.ArrayHeader = true
 is_array_header _ = false
 
 abbrev pub is_entry : Kind → Bool
-is_entry Entry = true
+is_entry Kind.Entry = true
 is_entry _ = false
 
 abbrev pub is_key : Kind → Bool
-is_key Key = true
+is_key Kind.Key = true
 is_key _ = false
 
 abbrev pub is_bare_key : Kind → Bool
-is_bare_key BareKey = true
+is_bare_key Kind.BareKey = true
 is_bare_key _ = false
 
 abbrev pub is_quoted_key : Kind → Bool
-is_quoted_key QuotedKey = true
+is_quoted_key Kind.QuotedKey = true
 is_quoted_key _ = false
 
 abbrev pub is_note : Kind → Bool
-is_note Note = true
+is_note Kind.Note = true
 is_note _ = false
 
 abbrev pub is_text_literal : Kind → Bool
-is_text_literal TextLiteral = true
+is_text_literal Kind.TextLiteral = true
 is_text_literal _ = false
 
 abbrev pub is_integer_literal : Kind → Bool
-is_integer_literal IntegerLiteral = true
+is_integer_literal Kind.IntegerLiteral = true
 is_integer_literal _ = false
 
 abbrev pub is_float_literal : Kind → Bool
-is_float_literal FloatLiteral = true
+is_float_literal Kind.FloatLiteral = true
 is_float_literal _ = false
 
 abbrev pub is_boolean_literal : Kind → Bool
-is_boolean_literal BooleanLiteral = true
+is_boolean_literal Kind.BooleanLiteral = true
 is_boolean_literal _ = false
 
 abbrev pub is_moment_literal : Kind → Bool
-is_moment_literal MomentLiteral = true
+is_moment_literal Kind.MomentLiteral = true
 is_moment_literal _ = false
 
 abbrev pub is_array : Kind → Bool
-is_array Array = true
+is_array Kind.Array = true
 is_array _ = false
 
 abbrev pub is_inline_table : Kind → Bool
-is_inline_table InlineTable = true
+is_inline_table Kind.InlineTable = true
 is_inline_table _ = false
 
 abbrev pub is_reference : Kind → Bool
-is_reference Reference = true
+is_reference Kind.Reference = true
 is_reference _ = false
 
 abbrev pub is_call : Kind → Bool
-is_call Call = true
+is_call Kind.Call = true
 is_call _ = false
 
 abbrev pub is_arguments : Kind → Bool
-is_arguments Arguments = true
+is_arguments Kind.Arguments = true
 is_arguments _ = false
 
 abbrev pub is_section : Kind → Bool

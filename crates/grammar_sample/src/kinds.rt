@@ -255,3 +255,56 @@ fn kind_in_block_1(raw: u16) -> Kind
         _ => Kind::Error,
     }
 }
+
+impl Kind {
+    ghost use Rattle.std.specs.Prelude.{◌≡◌};
+    ghost use Rattle.grammar_sample.specs.Kinds.{is_keyword, is_punct, keyword_of};
+
+    /// Whether its tokens are always one word.
+    pub fn is_keyword(self) -> bool
+        ensures { result ≡ is_keyword self }
+    {
+        match self {
+            _ => false,
+        }
+    }
+
+    /// Whether its tokens always have one text that is no word.
+    pub fn is_punct(self) -> bool
+        ensures { result ≡ is_punct self }
+    {
+        match self {
+            Kind::Equals => true,
+            Kind::Dot => true,
+            Kind::Comma => true,
+            Kind::LeftBracket => true,
+            Kind::RightBracket => true,
+            Kind::LeftBrace => true,
+            Kind::RightBrace => true,
+            Kind::LeftParen => true,
+            Kind::RightParen => true,
+            _ => false,
+        }
+    }
+
+    /// The kind of the tokens that are always this word.
+    pub fn from_keyword(text: &str) -> Option<Kind>
+        ensures { result ≡ keyword_of text.now }
+    {
+        None
+    }
+}
+
+/// The kind of a token by the text that it always has.
+#[macro_export]
+macro_rules! T {
+    [=] => { $crate::kinds::Kind::Equals };
+    [.] => { $crate::kinds::Kind::Dot };
+    [,] => { $crate::kinds::Kind::Comma };
+    ['['] => { $crate::kinds::Kind::LeftBracket };
+    [']'] => { $crate::kinds::Kind::RightBracket };
+    ['{'] => { $crate::kinds::Kind::LeftBrace };
+    ['}'] => { $crate::kinds::Kind::RightBrace };
+    ['('] => { $crate::kinds::Kind::LeftParen };
+    [')'] => { $crate::kinds::Kind::RightParen };
+}

@@ -5,10 +5,11 @@
 mod tests {
     use grammar_sample::kinds::{ROOT, TRIVIA};
     use grammar_sample::nodes::{
-        Array, Composed, Document, Entry, IntegerLiteral, KeyPart, Literal, Value,
+        Array, ArrayRef, Composed, ComposedRef, Document, Entry, EntryRef, IntegerLiteral, KeyPart,
+        Literal, Value, ValueRef,
     };
     use grammar_sample::{Kind, Sample};
-    use rowan::ast::AstNode;
+    use rowan::ast::{AstNode, AstNodeRef};
     use rowan::builder::CacheHome;
     use rowan::{Fault, GreenNode, GreenNodeBuilder, Language, SyntaxKind, SyntaxNode};
     use std::alloc::Global;
@@ -146,6 +147,39 @@ mod tests {
             texts.push(';')?;
         }
         assert!(rt; texts.as_str() == "1;20;");
+        Ok(())
+    }
+
+    fn array_in<'tree>(entry: EntryRef<'tree>) -> Option<ArrayRef<'tree>> {
+        match entry.value() {
+            Some(ValueRef::Composed(ComposedRef::Array(array))) => Some(array),
+            _ => None,
+        }
+    }
+
+    #[test]
+    fn borrowed_parts(rt: HostRuntime) -> Result<(), Fail> {
+        let alloc = rt.alloc();
+        let entry = entry(alloc)?;
+        let borrowed = entry.as_ref();
+        assert!(rt; borrowed.equals_token().is_some());
+        assert!(rt; borrowed.note().is_none());
+        let key = borrowed.key().ok_or(Fault::NotFound)?;
+        let mut texts = format!(in alloc; "{};", key.syntax())?;
+        let array = array_in(borrowed).ok_or(Fault::NotFound)?;
+        for value in array.values() {
+            write!(texts, "{};", value.syntax())?;
+        }
+        assert!(rt; texts.as_str() == "key;1;20;");
+        assert!(rt; array.to_owned()?.as_ref() == array);
+        Ok(())
+    }
+
+    #[test]
+    fn choices_of_their_parts(rt: HostRuntime) -> Result<(), Fail> {
+        let value = Value::from(Composed::from(array(rt.alloc())?));
+        assert!(rt; matches!(&value, Value::Composed(Composed::Array(_))));
+        assert!(rt; value.clone()? == value);
         Ok(())
     }
 

@@ -1,9 +1,9 @@
 //! What can be wrong with a grammar whose items were read.
-use crate::calls::{Call, calls_of};
-use crate::grammar::{Grammar, Item, Part, Sort, kinds_of};
-use crate::names::{is_call, why_no_crate, why_no_type};
+use crate::calls::{Call, Calls, Clash, calls_of};
+use crate::grammar::{Grammar, Item, Sort, kinds_of};
+use crate::names::{is_call_name, why_no_crate, why_no_language, why_no_type};
 use crate::place::{Problem, part_of, text_at, top};
-use crate::reach::{Reach, count_arms, doubtful_choices, leads_to, set, steps_from};
+use crate::reach::{Looker, count_arms, doubtful_choices, leads_to, set};
 use crate::rings::{Ring, Want, rings};
 use rowan::TextRange;
 use rowan_parser::Severity;
@@ -15,9 +15,6 @@ const MAX_KINDS: usize = 65536;
 
 /// How many kinds a `TokenSet` takes.
 const MAX_TOKENS: usize = 128;
-
-/// How many alternatives may be looked at where choices and parts are compared.
-const MAX_LOOKS: usize = 4_000_000;
 
 /// To how many nodes all choices together may lead.
 const MAX_ARMS: usize = 1_000_000;
@@ -31,8 +28,9 @@ pub struct Checker<'t> {
     pub alloc: Global,
     pub text: &'t str,
     pub problems: Vec<Problem>,
-    /// How many alternatives were looked at so far.
-    pub looks: usize,
+    pub looker: Looker,
+    /// The calls of each item; none of those that are not nodes.
+    pub calls: Vec<Calls>,
 }
 
 impl Checker<'_> {
@@ -54,16 +52,12 @@ impl Checker<'_> {
         self.add(Severity::Error, range, message)
     }
 
-    /// Looks at all of it, and says of each part what it stands for.
-    pub fn check(&mut self, grammar: &mut Grammar) -> Result<(), AllocError> {
+    /// Looks at all of it, and makes the calls of its nodes.
+    pub fn check(&mut self, grammar: &Grammar) -> Result<(), AllocError> {
         self.check_head(grammar)?;
-        let names = self.check_names(grammar)?;
-        let literals = self.check_literals(grammar)?;
-        for item in grammar.items.iter_mut() {
-            self.resolve(item, &names, &literals)?;
-        }
-        demote_choices(self.alloc, grammar)?;
-        self.check_root(grammar, &names)?;
+        self.check_names(grammar)?;
+        self.check_literals(grammar)?;
+        self.check_root(grammar)?;
         self.check_kinds(grammar)?;
         self.check_choices(grammar)?;
         self.check_ends(grammar)?;
@@ -76,7 +70,7 @@ impl Checker<'_> {
     fn check_head(&mut self, grammar: &Grammar) -> Result<(), AllocError> {
         let language = part_of(self.text, grammar.language);
         let crate_name = part_of(self.text, grammar.crate_name);
-        self.check_line(grammar.language, "language", why_no_type(language))?;
+        self.check_line(grammar.language, "language", why_no_language(language))?;
         self.check_line(grammar.crate_name, "crate", why_no_crate(crate_name))?;
         self.check_line(grammar.root, "root", None)?;
         let errors = grammar.items.iter().filter(|item| item.sort == Sort::Error);
@@ -119,9 +113,8 @@ impl Checker<'_> {
         }
     }
 
-    /// The numbers of the items by their names, of which no two may differ in case alone.
-    fn check_names(&mut self, grammar: &Grammar) -> Result<HashMap<String, usize>, AllocError> {
-        let mut names: HashMap<String, usize> = HashMap::new(self.alloc);
+    /// No two names may differ in case alone, and each has to be spelled as a type's.
+    fn check_names(&mut self, grammar: &Grammar) -> Result<(), AllocError> {
         let mut folded: HashMap<String, usize> = HashMap::new(self.alloc);
         let language = part_of(self.text, grammar.language);
         for (index, item) in grammar.items.iter().enumerate() {
@@ -143,13 +136,36 @@ impl Checker<'_> {
             } else {
                 folded.insert(key, index)?;
             }
-            names.insert(item.name.clone()?, index)?;
         }
-        Ok(names)
+        self.check_borrowed(grammar, &folded)
     }
 
-    /// The numbers of the tokens by the texts that they always have.
-    fn check_literals(&mut self, grammar: &Grammar) -> Result<HashMap<String, usize>, AllocError> {
+    /// No name may be that of a borrowed wrapper. The numbers of the items are by their names in small
+    /// letters.
+    fn check_borrowed(
+        &mut self,
+        grammar: &Grammar,
+        folded: &HashMap<String, usize>,
+    ) -> Result<(), AllocError> {
+        for item in grammar.items.iter() {
+            let mut key = format!(in self.alloc; "{}Ref", item.name)?;
+            key.make_ascii_lowercase();
+            if !item.is_wrapped() {
+                continue;
+            }
+            if let Some(other) = folded.get(key.as_str()) {
+                let whole = item.name.as_str();
+                let message = format!(in self.alloc;
+                    "the borrowed wrapper of `{whole}` has this name"
+                )?;
+                self.error(grammar.range(*other), message)?;
+            }
+        }
+        Ok(())
+    }
+
+    /// No two tokens may always have one text.
+    fn check_literals(&mut self, grammar: &Grammar) -> Result<(), AllocError> {
         let mut literals: HashMap<String, usize> = HashMap::new(self.alloc);
         for (index, item) in grammar.items.iter().enumerate() {
             let Some(range) = item.literal else {
@@ -163,48 +179,16 @@ impl Checker<'_> {
                 literals.insert(String::from_str(self.alloc, literal)?, index)?;
             }
         }
-        Ok(literals)
-    }
-
-    /// Says of each part of an item what it stands for.
-    fn resolve(
-        &mut self,
-        item: &mut Item,
-        names: &HashMap<String, usize>,
-        literals: &HashMap<String, usize>,
-    ) -> Result<(), AllocError> {
-        for part in item.parts.iter_mut() {
-            let name = text_at(self.text, part.range);
-            let found = match part.is_literal {
-                true => literals.get(name),
-                false => names.get(name),
-            };
-            part.target = found.copied();
-            if part.target.is_none() {
-                let message = match part.is_literal {
-                    true => format!(in self.alloc; "no token has the text {name}")?,
-                    false => format!(in self.alloc; "no rule or token is called `{name}`")?,
-                };
-                self.error(part.range, message)?;
-            }
-        }
         Ok(())
     }
 
-    fn check_root(
-        &mut self,
-        grammar: &Grammar,
-        names: &HashMap<String, usize>,
-    ) -> Result<(), AllocError> {
+    fn check_root(&mut self, grammar: &Grammar) -> Result<(), AllocError> {
         let Some(range) = grammar.root else {
             return Ok(());
         };
         let name = text_at(self.text, range);
-        let sort = match names.get(name) {
-            Some(index) => grammar.sort(*index),
-            None => Sort::Error,
-        };
-        if sort != Sort::Node {
+        let is_node = |item: &Item| item.sort == Sort::Node && item.name.as_str() == name;
+        if !grammar.items.iter().any(is_node) {
             let message = format!(in self.alloc; "no node is called `{name}`")?;
             self.error(range, message)?;
         }
@@ -265,7 +249,7 @@ impl Checker<'_> {
                 set(&mut is_told, *index);
                 continue;
             }
-            let Some(twice) = self.reach(grammar, *index)?.twice else {
+            let Some(twice) = self.looker.reach(self.alloc, grammar, *index)?.twice else {
                 continue;
             };
             is_well = false;
@@ -276,19 +260,6 @@ impl Checker<'_> {
             self.error(grammar.range(*index), message)?;
         }
         Ok(is_well)
-    }
-
-    /// To what an item leads; to nothing where that has taken too many steps.
-    fn reach(&mut self, grammar: &Grammar, start: usize) -> Result<Reach, AllocError> {
-        if self.looks > MAX_LOOKS {
-            return Ok(Reach::nothing(self.alloc));
-        }
-        let reached = steps_from(self.alloc, grammar, start)?;
-        self.looks = self.looks.saturating_add(reached.looks);
-        if self.looks > MAX_LOOKS {
-            self.too_many()?;
-        }
-        Ok(reached)
     }
 
     /// A node may not need a node that needs itself, for then it has no end.
@@ -307,22 +278,28 @@ impl Checker<'_> {
     /// No two calls of a node may have one name, and no child may be two of its parts.
     fn check_calls(&mut self, grammar: &Grammar) -> Result<(), AllocError> {
         for item in grammar.items.iter() {
-            if item.sort != Sort::Node {
-                continue;
+            let calls = calls_of(self.alloc, self.text, grammar, &mut self.looker, item)?;
+            self.check_call_names(item, calls.calls.as_slice())?;
+            for clash in calls.clashes.iter() {
+                self.tell(grammar, calls.calls.as_slice(), clash)?;
             }
-            let calls = calls_of(self.alloc, self.text, grammar, item)?;
-            self.check_call_names(item, calls.as_slice())?;
-            self.check_parts(grammar, calls.as_slice())?;
+            for label in calls.idle.iter() {
+                self.tell_idle(*label)?;
+            }
+            self.calls.push(calls)?;
         }
-        Ok(())
+        match self.looker.is_over() {
+            true => self.too_many(),
+            false => Ok(()),
+        }
     }
 
     fn check_call_names(&mut self, item: &Item, calls: &[Call]) -> Result<(), AllocError> {
         let mut seen: HashMap<String, usize> = HashMap::new(self.alloc);
         for (index, call) in calls.iter().enumerate() {
             let name = call.name.as_str();
-            if !is_call(name) {
-                let message = format!(in self.alloc; "no call can be named `{name}`: label this")?;
+            if !is_call_name(name) {
+                let message = format!(in self.alloc; "`{name}` is not spelled as `inline_table`")?;
                 self.error(call.range, message)?;
             }
             if seen.contains_key(name) {
@@ -337,65 +314,37 @@ impl Checker<'_> {
         Ok(())
     }
 
-    /// Tells the parts that may be what is another part already.
-    fn check_parts(&mut self, grammar: &Grammar, calls: &[Call]) -> Result<(), AllocError> {
-        let mut owners: HashMap<usize, usize> = HashMap::new(self.alloc);
-        let is_alone = calls.iter().filter(|call| !call.is_token).count() < 2;
-        for (index, call) in calls.iter().enumerate() {
-            if self.tell_owner(grammar, calls, &owners, call, call.target)? || is_alone {
-                owners.insert(call.target, index)?;
-                continue;
-            }
-            let reached = self.reach(grammar, call.target)?;
-            for step in reached.steps.iter() {
-                if self.tell_owner(grammar, calls, &owners, call, step.item)? {
-                    break;
-                }
-            }
-            for step in reached.steps.iter() {
-                owners.insert(step.item, index)?;
-            }
-        }
-        Ok(())
+    /// Tells a child or a token that may be two parts. Of two calls of one name that is told
+    /// already.
+    fn tell(&mut self, grammar: &Grammar, calls: &[Call], clash: &Clash) -> Result<(), AllocError> {
+        let kind = grammar.name(clash.item);
+        let one = name_at(calls, clash.one);
+        let other = name_at(calls, clash.other);
+        let message = match (one, other) {
+            (Some(one), Some(other)) if one == other => return Ok(()),
+            (Some(one), Some(other)) => format!(in self.alloc;
+                "a `{kind}` here may be `{one}` or `{other}`"
+            )?,
+            (None, Some(name)) | (Some(name), None) => format!(in self.alloc;
+                "a `{kind}` here may be `{name}` or what no call gives"
+            )?,
+            (None, None) => return Ok(()),
+        };
+        self.error(clash.range, message)
     }
 
-    /// Says whether an item is what another call gives, and tells it if that has another name.
-    fn tell_owner(
-        &mut self,
-        grammar: &Grammar,
-        calls: &[Call],
-        owners: &HashMap<usize, usize>,
-        call: &Call,
-        item: usize,
-    ) -> Result<bool, AllocError> {
-        let Some(owner) = owners.get(&item) else {
-            return Ok(false);
-        };
-        let Some(owner) = calls.get(*owner) else {
-            return Ok(false);
-        };
-        let kind = grammar.name(item);
-        let one = owner.name.as_str();
-        let other = call.name.as_str();
-        if one != other {
-            let message = format!(in self.alloc; "a `{kind}` here may be `{one}` or `{other}`")?;
-            self.error(call.range, message)?;
-        }
-        Ok(true)
+    fn tell_idle(&mut self, label: TextRange) -> Result<(), AllocError> {
+        let name = text_at(self.text, label);
+        let message = format!(in self.alloc;
+            "`{name}` names no call: a label stands for nodes, or for a token that comes once"
+        )?;
+        self.error(label, message)
     }
 
     /// A token with a text of its own that stands in no rule is worth a warning.
     fn check_uses(&mut self, grammar: &Grammar) -> Result<(), AllocError> {
-        let mut used: Vec<bool> = vec![in self.alloc; false; grammar.items.len()]?;
         for item in grammar.items.iter() {
-            for part in item.parts.iter() {
-                if let Some(target) = part.target {
-                    set(&mut used, target);
-                }
-            }
-        }
-        for (item, is_used) in grammar.items.iter().zip(used.iter()) {
-            if item.sort == Sort::Token && item.literal.is_some() && !*is_used {
+            if item.sort == Sort::Token && item.literal.is_some() && !item.is_used {
                 let name = item.name.as_str();
                 let message = format!(in self.alloc; "no rule has the token `{name}`")?;
                 self.add(Severity::Warning, item.range, message)?;
@@ -403,6 +352,11 @@ impl Checker<'_> {
         }
         Ok(())
     }
+}
+
+fn name_at(calls: &[Call], number: Option<usize>) -> Option<&str> {
+    let call = calls.get(number?)?;
+    Some(call.name.as_str())
 }
 
 /// What the first of a ring leads to, and so on up to itself: `needs B, which needs A`. Of a long
@@ -425,33 +379,4 @@ fn way_around(
     let name = grammar.name(ring.first);
     write!(out, "{verb} `{name}`")?;
     Ok(out)
-}
-
-/// A rule with tokens among its alternatives is a node that has one of them.
-fn demote_choices(alloc: Global, grammar: &mut Grammar) -> Result<(), AllocError> {
-    let mut sorts: Vec<Sort> = Vec::new(alloc);
-    for item in grammar.items.iter() {
-        sorts.push(item.sort)?;
-    }
-    for item in grammar.items.iter_mut() {
-        if item.sort == Sort::Choice
-            && item
-                .parts
-                .iter()
-                .any(|part| is_leaf(part, sorts.as_slice()))
-        {
-            item.sort = Sort::Node;
-        }
-    }
-    Ok(())
-}
-
-fn is_leaf(part: &Part, sorts: &[Sort]) -> bool {
-    let Some(target) = part.target else {
-        return false;
-    };
-    match sorts.get(target) {
-        Some(sort) => !sort.is_wrapped(),
-        None => false,
-    }
 }

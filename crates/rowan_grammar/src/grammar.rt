@@ -1,4 +1,5 @@
 //! What a grammar says.
+use crate::names::is_taken;
 use crate::place::top;
 use rowan::TextRange;
 use std::alloc::{AllocError, Global};
@@ -16,8 +17,33 @@ pub enum Sort {
     Choice,
 }
 
+/// A name or a text of a token in a rule, and the number of the item that it stands for.
+#[derive(Clone, Copy, PartialEq, Eq, Debug)]
+pub struct Use {
+    pub range: TextRange,
+    pub item: usize,
+}
+
+/// What may stand in a node.
+#[derive(Drop)]
+pub enum Part {
+    Token(Use),
+    /// A node, or one of those of a choice.
+    Node(Use),
+    /// Parts one behind the other.
+    Group(Vec<Part>),
+    /// One of these parts.
+    Choice(Vec<Part>),
+    /// None or more.
+    Repeated(Box<Part>),
+    /// One or none.
+    Optional(Box<Part>),
+    /// A part whose call has this name.
+    Labelled(TextRange, Box<Part>),
+}
+
 /// A token or a rule.
-#[derive(Debug, Drop)]
+#[derive(Drop)]
 pub struct Item {
     pub sort: Sort,
     pub name: String,
@@ -30,27 +56,36 @@ pub struct Item {
     pub docs: String,
     /// The rule in one line.
     pub rule: String,
-    pub parts: Vec<Part>,
+    /// Of a choice what it is one of.
+    pub alternatives: Vec<Use>,
+    /// Of a node what may stand in it.
+    pub body: Part,
+    /// Whether a rule names it.
+    pub is_used: bool,
+    /// Whether the text of the token means something, so that it has a wrapper.
+    pub has_content: bool,
 }
 
-/// A part of a rule.
-#[derive(Clone, Copy, PartialEq, Eq, Debug)]
-pub struct Part {
-    pub label: Option<TextRange>,
+impl Item {
+    pub fn is_wrapped(&self) -> bool {
+        self.sort == Sort::Node || self.sort == Sort::Choice || self.has_content
+    }
+}
+
+/// A name of a token whose text means something.
+#[derive(Drop)]
+pub struct Content {
     pub range: TextRange,
-    pub is_literal: bool,
-    pub is_many: bool,
-    pub is_optional: bool,
-    /// The number of the item that it stands for, where there is one.
-    pub target: Option<usize>,
+    pub name: String,
 }
 
 /// A whole grammar.
-#[derive(Debug, Drop)]
+#[derive(Drop)]
 pub struct Grammar {
     pub language: Option<TextRange>,
     pub crate_name: Option<TextRange>,
     pub root: Option<TextRange>,
+    pub contents: Vec<Content>,
     pub items: Vec<Item>,
 }
 
@@ -60,8 +95,20 @@ impl Grammar {
             language: None,
             crate_name: None,
             root: None,
+            contents: Vec::new(alloc),
             items: Vec::new(alloc),
         }
+    }
+
+    /// Puts an underscore behind each name that a word of the language is in the way of.
+    pub fn rename(&mut self) -> Result<(), AllocError> {
+        for item in self.items.iter_mut() {
+            if is_taken(item.name.as_str()) {
+                item.name.push('_')?;
+                item.snake.push('_')?;
+            }
+        }
+        Ok(())
     }
 
     pub fn name(&self, index: usize) -> &str {
@@ -99,9 +146,10 @@ impl Grammar {
         }
     }
 
-    pub fn parts(&self, index: usize) -> &[Part] {
+    /// What a choice is one of; nothing where the item is none.
+    pub fn alternatives(&self, index: usize) -> &[Use] {
         match self.items.get(index) {
-            Some(item) => item.parts.as_slice(),
+            Some(item) => item.alternatives.as_slice(),
             None => &[],
         }
     }
@@ -115,6 +163,17 @@ pub fn kinds_of(alloc: Global, grammar: &Grammar) -> Result<Vec<usize>, AllocErr
     add_numbers(&mut kinds, grammar, &[Sort::Error])?;
     add_numbers(&mut kinds, grammar, &[Sort::Node])?;
     Ok(kinds)
+}
+
+/// The numbers of the tokens that have a wrapper.
+pub fn contents_of(alloc: Global, grammar: &Grammar) -> Result<Vec<usize>, AllocError> {
+    let mut contents = Vec::new(alloc);
+    for (index, item) in grammar.items.iter().enumerate() {
+        if item.has_content {
+            contents.push(index)?;
+        }
+    }
+    Ok(contents)
 }
 
 /// Adds the numbers of the items of these sorts.

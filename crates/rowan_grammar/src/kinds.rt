@@ -1,6 +1,7 @@
 //! The files of the kinds: `src/kinds.rt` and `specs/Kinds.antt`.
 use crate::grammar::Sort;
 use crate::names::upper;
+use crate::texts::{add_text_specs, add_texts};
 use crate::writer::{ARGUMENTS, Imports, Scope, add_arm, add_docs, fill};
 use std::alloc::AllocError;
 
@@ -70,6 +71,7 @@ pub fn kinds_code(scope: &Scope<'_>) -> Result<String, AllocError> {
             add_block(&mut out, scope, block)?;
         }
     }
+    add_texts(&mut out, scope)?;
     Ok(out)
 }
 
@@ -189,22 +191,19 @@ pub const ROOT: Kind = Kind::$1;
 
 const SPECS: &str = "\
 -- The kinds of $1.
-use Rattle.std.specs.Prelude.{ℕ, ◌==◌, $2List, codes, if◌then◌else◌}
+use Rattle.std.specs.Prelude.{ℕ, ◌==◌, $2List, codes, if◌then◌else◌, Bool, true, false}
+use Rattle.std.specs.Prelude.{Option, Some, None}
+use Rattle.std.specs.Str.{bytes_eq}
 use Rattle.$0.specs.declared.kinds.Kind.{Kind}
-$3
+
 ";
 
-/// The text of `specs/Kinds.antt`.
+/// The text of `specs/Kinds.antt`. Kinds are named by their type, since a kind may have any name.
 pub fn kinds_specs(scope: &Scope<'_>) -> Result<String, AllocError> {
     let mut out = String::new(scope.alloc);
     let blocks = block_count(scope);
-    let variants = scope.variants(scope.kinds)?;
     let less = if blocks > 1 { "nat_lt, " } else { "" };
-    fill(
-        &mut out,
-        SPECS,
-        &[scope.crate_name, scope.language, less, variants.as_str()],
-    )?;
+    fill(&mut out, SPECS, &[scope.crate_name, scope.language, less])?;
     if blocks > 1 {
         for block in 0..blocks {
             let name = format!(in scope.alloc; "block_kind_{block}")?;
@@ -227,7 +226,7 @@ pub fn kinds_specs(scope: &Scope<'_>) -> Result<String, AllocError> {
     out.push_str("-- the raw kind of a kind\nabbrev pub number_of : Kind → ℕ\n")?;
     for (number, index) in scope.kinds.iter().enumerate() {
         let name = scope.grammar.name(*index);
-        writeln!(out, "number_of {name} = {number}")?;
+        writeln!(out, "number_of Kind.{name} = {number}")?;
     }
     out.push_str("\n-- how the kinds are called\nabbrev pub name_of : Kind → List ℕ\n")?;
     for index in scope.kinds.iter() {
@@ -235,10 +234,11 @@ pub fn kinds_specs(scope: &Scope<'_>) -> Result<String, AllocError> {
         let shown = upper(scope.alloc, scope.grammar.snake(*index))?;
         fill(
             &mut out,
-            "name_of $0 = codes \"$1\"\n",
+            "name_of Kind.$0 = codes \"$1\"\n",
             &[name, shown.as_str()],
         )?;
     }
+    add_text_specs(&mut out, scope)?;
     Ok(out)
 }
 
@@ -250,13 +250,17 @@ fn add_chain(out: &mut String, scope: &Scope<'_>, block: usize) -> Result<(), Al
         let name = scope.grammar.name(*index);
         if name != scope.error {
             out.push_str(if count == 0 { "    " } else { "    else (" })?;
-            writeln!(out, "if n == {number} then {name}")?;
+            writeln!(out, "if n == {number} then Kind.{name}")?;
             count = count.saturating_add(1);
         }
     }
     fill(
         out,
-        if count == 0 { "    $0" } else { "    else $0" },
+        if count == 0 {
+            "    Kind.$0"
+        } else {
+            "    else Kind.$0"
+        },
         &[scope.error],
     )?;
     close(out, count)

@@ -2,8 +2,11 @@
 #![tactic(auto)]
 
 mod accessors;
+mod alike;
 mod calls;
 mod checks;
+mod choices;
+mod forms;
 mod grammar;
 mod kinds;
 mod lexer;
@@ -11,11 +14,17 @@ mod names;
 mod nodes;
 mod parser;
 mod place;
+mod places;
 mod reach;
 mod reader;
 mod rings;
+mod roles;
+mod rules;
 mod specs;
+mod structs;
 mod syntax;
+mod texts;
+mod tokens;
 mod writer;
 mod written;
 

@@ -4,33 +4,37 @@ use std::alloc::{AllocError, Global};
 /// How many letters a name may have. Longer ones could not be laid out as `rt fmt` does.
 const MAX_LETTERS: usize = 50;
 
-/// Names that what is written needs, or that stand for something in every file of Rattle.
+/// Names that neither a kind nor a wrapper can have, since the language makes them, or what is
+/// written needs them: what is written has an underscore behind them.
 const TAKEN: &str = "\
-    AstChildren AstNode Below Bool Box Clone Copy Cursor Debug Default Drop Eq Err Fault Fn FnMut \
-    FnOnce From Hash IfErr IfOk Into Iterator Kind Language List Memory Model Node None Ok \
-    Option Ord PartialEq PartialOrd Result Self Send Sized Some String Sync SyntaxKind \
-    SyntaxNode SyntaxToken TheBound TheConstants TheDeep TheImpl TheInside TheLaw TheLaws TheLinks \
-    TheOpen TheOwn TheVariants Token TokenOf Type Vec";
+    Below Cursor Fault IfErr IfOk Kind Lib M Memory Prim Self Syntax TheBound TheConstants TheData \
+    TheDeep TheImpl TheInside TheLaw TheLaws TheLinks TheOpen TheOwn TheVariants Token TokenOf";
 
-/// Words that neither a call nor a crate may be named by.
+/// Names from elsewhere that `src/kinds.rt` has.
+const OF_KINDS: &str = "Language SyntaxKind";
+
+/// Words of the language, and names of calls that each wrapper has, that a clause gives a meaning, or
+/// that the language makes: a call that is named so has an underscore behind its name.
 const WORDS: &str = "\
-    abstract as async await become box break const continue crate data deriving do dyn else \
-    ensures enum extern false final fn for gen ghost if impl in let loop macro match mod move mut \
-    open override priv pub record ref requires return ruleset self static struct super trait true \
+    abstract as as_ref async await become box break can_cast cast clone_subtree const continue crate \
+    data deriving do drop dyn else ensures enum extern false final fn for gen ghost if impl in let \
+    loop macro match mod move mut open override priv pub record ref requires result return ruleset \
+    self static struct super syntax the_data the_own the_row the_size the_type to_owned trait true \
     try type typeof unsafe unsized use virtual where while yield";
-
-/// Names of calls that each wrapper has, that a clause gives a meaning, or that the language makes.
-const CALLS: &str = "\
-    can_cast cast clone_subtree drop result syntax the_data the_own the_row the_size the_type";
 
 /// Crates that what is written names.
 const CRATES: &str = "core rowan std";
 
-/// Why neither the language nor a kind or a wrapper can have a name.
-pub fn why_no_type(name: &str) -> Option<&'static str> {
-    if is_in(TAKEN, name) {
+/// Why the language cannot have a name.
+pub fn why_no_language(name: &str) -> Option<&'static str> {
+    if is_in(TAKEN, name) || is_in(OF_KINDS, name) || is_outside(name) {
         return Some("is a name that the written files need");
     }
+    why_no_type(name)
+}
+
+/// Why neither a kind nor a wrapper can have a name.
+pub fn why_no_type(name: &str) -> Option<&'static str> {
     if !is_type_name(name) {
         return Some("is not spelled as `InlineTable`");
     }
@@ -51,9 +55,14 @@ pub fn why_no_crate(name: &str) -> Option<&'static str> {
     None
 }
 
-/// Whether a call can have this name.
-pub fn is_call(name: &str) -> bool {
-    is_call_name(name) && !is_in(WORDS, name) && !is_in(CALLS, name)
+/// Whether what is written has an underscore behind the name of a kind.
+pub fn is_taken(name: &str) -> bool {
+    is_in(TAKEN, name)
+}
+
+/// Whether what is written has an underscore behind the name of a call.
+pub fn is_word(name: &str) -> bool {
+    is_in(WORDS, name)
 }
 
 fn is_in(words: &str, name: &str) -> bool {
@@ -66,7 +75,7 @@ fn is_type_name(name: &str) -> bool {
 }
 
 /// Whether a name has the form of a call's, as `inline_table`.
-fn is_call_name(name: &str) -> bool {
+pub fn is_call_name(name: &str) -> bool {
     name.starts_with(|first: char| first.is_ascii_lowercase())
         && !name.contains(|character: char| character.is_ascii_uppercase())
 }
@@ -85,10 +94,53 @@ pub fn snake(alloc: Global, name: &str) -> Result<String, AllocError> {
     Ok(out)
 }
 
-/// `INLINE_TABLE` of `inline_table`.
+/// `inline_table` as `InlineTable`.
+pub fn camel(alloc: Global, name: &str) -> Result<String, AllocError> {
+    let mut out = String::new(alloc);
+    let mut is_first = true;
+    for character in name.chars() {
+        if character != '_' {
+            out.push(if is_first {
+                character.to_ascii_uppercase()
+            } else {
+                character
+            })?;
+        }
+        is_first = character == '_';
+    }
+    Ok(out)
+}
+
+/// Whether `src/nodes.rt` has a name from elsewhere: where a wrapper is named so, it has its path.
+pub fn is_outside(name: &str) -> bool {
+    path_of(name).is_some()
+}
+
+/// The path of a name from elsewhere that `src/nodes.rt` has.
+pub fn path_of(name: &str) -> Option<&'static str> {
+    match name {
+        "AstChildren" => Some("rowan::ast::AstChildren"),
+        "AstNode" => Some("rowan::ast::AstNode"),
+        "AstNodeRef" => Some("rowan::ast::AstNodeRef"),
+        "AstNodesRef" => Some("rowan::ast::AstNodesRef"),
+        "AstToken" => Some("rowan::ast::AstToken"),
+        "AstTokenRef" => Some("rowan::ast::AstTokenRef"),
+        "From" => Some("std::convert::From"),
+        "Model" => Some("std::marker::Model"),
+        "Option" => Some("std::option::Option"),
+        "Result" => Some("std::result::Result"),
+        "SyntaxNode" => Some("rowan::SyntaxNode"),
+        "SyntaxNodeRef" => Some("rowan::SyntaxNodeRef"),
+        "SyntaxToken" => Some("rowan::SyntaxToken"),
+        "SyntaxTokenRef" => Some("rowan::SyntaxTokenRef"),
+        _ => None,
+    }
+}
+
+/// `INLINE_TABLE` of `inline_table`, without an underscore at the end.
 pub fn upper(alloc: Global, snake: &str) -> Result<String, AllocError> {
     let mut out = String::new(alloc);
-    for character in snake.chars() {
+    for character in snake.strip_suffix('_').unwrap_or(snake).chars() {
         out.push(character.to_ascii_uppercase())?;
     }
     Ok(out)

@@ -110,7 +110,7 @@ fn begins_item(p: &Parser<Grammars>) -> bool {
 fn is_head(word: &str) -> bool {
     matches!(
         word,
-        "language" | "crate" | "root" | "error" | "trivia" | "token"
+        "language" | "crate" | "root" | "error" | "trivia" | "token" | "content"
     )
 }
 

@@ -22,13 +22,42 @@ pub struct Reach {
     pub looks: usize,
 }
 
-impl Reach {
-    pub fn nothing(alloc: Global) -> Reach {
-        Reach {
-            steps: Vec::new(alloc),
-            twice: None,
-            looks: 0,
+/// How many alternatives may be looked at where choices and parts are compared.
+const MAX_LOOKS: usize = 4_000_000;
+
+/// Looks at what items lead to, until it has looked at too many alternatives.
+#[derive(Clone, Copy)]
+pub struct Looker {
+    looks: usize,
+}
+
+impl Looker {
+    pub fn new() -> Looker {
+        Looker { looks: 0 }
+    }
+
+    /// Whether it has looked at too many.
+    pub fn is_over(&self) -> bool {
+        self.looks > MAX_LOOKS
+    }
+
+    /// To what an item leads; to nothing where too many were looked at before.
+    pub fn reach(
+        &mut self,
+        alloc: Global,
+        grammar: &Grammar,
+        start: usize,
+    ) -> Result<Reach, AllocError> {
+        if self.is_over() {
+            return Ok(Reach {
+                steps: Vec::new(alloc),
+                twice: None,
+                looks: 0,
+            });
         }
+        let reached = steps_from(alloc, grammar, start)?;
+        self.looks = self.looks.saturating_add(reached.looks);
+        Ok(reached)
     }
 }
 
@@ -56,14 +85,13 @@ pub fn steps_from(alloc: Global, grammar: &Grammar, start: usize) -> Result<Reac
         steps.push(step)?;
         looks = looks.saturating_add(1);
         if grammar.sort(step.item) == Sort::Choice {
-            let parts = grammar.parts(step.item);
-            looks = looks.saturating_add(parts.len());
-            for part in parts.iter().rev() {
-                if let Some(item) = part.target {
-                    let from = number;
-                    let top = if number == 0 { item } else { step.top };
-                    open.push(Step { item, from, top })?;
-                }
+            let alternatives = grammar.alternatives(step.item);
+            looks = looks.saturating_add(alternatives.len());
+            for used in alternatives.iter().rev() {
+                let item = used.item;
+                let from = number;
+                let top = if number == 0 { item } else { step.top };
+                open.push(Step { item, from, top })?;
             }
         }
     }
@@ -113,10 +141,8 @@ fn add_choices(
         } else if grammar.sort(item) == Sort::Choice && set(is_known, item) {
             let is_done = true;
             open.push(Visit { item, is_done })?;
-            for part in grammar.parts(item).iter() {
-                if let Some(item) = part.target {
-                    open.push(to_visit(item))?;
-                }
+            for used in grammar.alternatives(item).iter() {
+                open.push(to_visit(used.item))?;
             }
         }
     }
@@ -162,10 +188,8 @@ pub fn count_arms(alloc: Global, grammar: &Grammar) -> Result<usize, AllocError>
 /// The count of a choice, from those of its alternatives.
 fn sum_of(grammar: &Grammar, choice: usize, counts: &[usize]) -> usize {
     let mut sum = 0usize;
-    for part in grammar.parts(choice).iter() {
-        if let Some(target) = part.target {
-            sum = sum.saturating_add(counts.get(target).copied().unwrap_or(0));
-        }
+    for used in grammar.alternatives(choice).iter() {
+        sum = sum.saturating_add(counts.get(used.item).copied().unwrap_or(0));
     }
     sum
 }
@@ -175,14 +199,9 @@ fn shared_items(alloc: Global, grammar: &Grammar) -> Result<Vec<bool>, AllocErro
     let mut is_used: Vec<bool> = vec![in alloc; false; grammar.items.len()]?;
     let mut is_shared: Vec<bool> = vec![in alloc; false; grammar.items.len()]?;
     for item in grammar.items.iter() {
-        if item.sort == Sort::Choice {
-            for part in item.parts.iter() {
-                let Some(target) = part.target else {
-                    continue;
-                };
-                if !set(&mut is_used, target) {
-                    set(&mut is_shared, target);
-                }
+        for used in item.alternatives.iter() {
+            if !set(&mut is_used, used.item) {
+                set(&mut is_shared, used.item);
             }
         }
     }
@@ -191,14 +210,10 @@ fn shared_items(alloc: Global, grammar: &Grammar) -> Result<Vec<bool>, AllocErro
 
 /// Whether one of the alternatives of a choice is marked.
 pub fn leads_to(grammar: &Grammar, choice: usize, marks: &[bool]) -> bool {
-    for part in grammar.parts(choice).iter() {
-        if let Some(target) = part.target {
-            if marks.get(target).copied().unwrap_or(false) {
-                return true;
-            }
-        }
-    }
-    false
+    grammar
+        .alternatives(choice)
+        .iter()
+        .any(|used| marks.get(used.item).copied().unwrap_or(false))
 }
 
 /// Sets a mark. Says whether it was not set before; of what has no mark that it was.

@@ -1,11 +1,12 @@
 //! From the tree of a grammar to its items.
-use crate::grammar::{Grammar, Item, Part, Sort};
+use crate::grammar::{Content, Grammar, Item, Part, Sort};
 use crate::names::snake;
 use crate::place::Problem;
 use crate::syntax::{Grammars, Kind};
-use rowan::{NodeOrToken, SyntaxNodeRef, SyntaxTokenRef, TextRange, WalkEvent};
+use rowan::{NodeOrToken, SyntaxNodeRef, SyntaxTokenRef, TextRange};
 use rowan_parser::Severity;
 use std::alloc::{AllocError, Global};
+use std::collections::HashMap;
 use std::mem;
 
 /// A grammar that is being read, and what is wrong with it.
@@ -14,41 +15,92 @@ pub struct Reader {
     pub alloc: Global,
     pub grammar: Grammar,
     pub problems: Vec<Problem>,
+    /// The numbers of the items by their names.
+    pub names: HashMap<String, usize>,
+    /// The numbers of the tokens by the texts that they always have.
+    pub literals: HashMap<String, usize>,
+    /// The numbers of the choices by what they are one of.
+    pub choices: HashMap<String, usize>,
 }
 
-/// What the parts of a node have from it and from the nodes around it.
-#[derive(Drop)]
-struct Around {
-    label: Option<TextRange>,
-    is_many: bool,
-    is_optional: bool,
+/// A rule, and the number of its item.
+#[derive(Clone, Copy)]
+pub struct Rule<'tree> {
+    pub choice: SyntaxNodeRef<'tree, Grammars>,
+    pub item: usize,
 }
 
 impl Reader {
-    /// Reads the items of a tree.
+    pub fn new(alloc: Global, problems: Vec<Problem>) -> Reader {
+        Reader {
+            alloc,
+            grammar: Grammar::new(alloc),
+            problems,
+            names: HashMap::new(alloc),
+            literals: HashMap::new(alloc),
+            choices: HashMap::new(alloc),
+        }
+    }
+
+    /// Reads the items of a tree: first their names, so that a rule may name a later one.
     pub fn read(&mut self, root: SyntaxNodeRef<'_, Grammars>) -> Result<(), AllocError> {
-        for item in root.children() {
-            let Some(name) = item.first_token_of_kind(Kind::Word) else {
+        let mut rules: Vec<Rule<'_>> = Vec::new(self.alloc);
+        for node in root.children() {
+            let Some(name) = node.first_token_of_kind(Kind::Word) else {
                 continue;
             };
-            match item.kind() {
-                Kind::Head => self.head(item, name)?,
-                Kind::Rule => self.rule(item, name)?,
-                _ => {}
+            if node.kind() == Kind::Head {
+                self.head(node, name)?;
+            } else if let Some(choice) = node.first_child_by_kind(Kind::Choice) {
+                let item = self.add_item(node, name, Sort::Node)?;
+                rules.push(Rule { choice, item })?;
+                self.check_end(node, name)?;
+            }
+        }
+        self.read_contents()?;
+        self.read_rules(rules.as_slice())
+    }
+
+    /// Marks the tokens whose text means something.
+    fn read_contents(&mut self) -> Result<(), AllocError> {
+        let contents = mem::replace(&mut self.grammar.contents, Vec::new(self.alloc));
+        for content in contents.iter() {
+            let name = content.name.as_str();
+            match self.names.get(name).copied() {
+                Some(number) if self.grammar.sort(number).is_token() => {
+                    if self.mark(number) {
+                        self.problem(content.range, "a line of the head says this already")?;
+                    }
+                }
+                _ => {
+                    let message = format!(in self.alloc; "no token is called `{name}`")?;
+                    self.error(content.range, message)?;
+                }
             }
         }
         Ok(())
     }
 
-    fn problem(&mut self, range: TextRange, message: &str) -> Result<(), AllocError> {
-        let message = String::from_str(self.alloc, message)?;
-        let severity = Severity::Error;
+    /// Says that the text of a token means something. Says whether that was said before.
+    fn mark(&mut self, number: usize) -> bool {
+        match self.grammar.items.get_mut(number) {
+            Some(item) => mem::replace(&mut item.has_content, true),
+            None => false,
+        }
+    }
+
+    pub fn error(&mut self, range: TextRange, message: String) -> Result<(), AllocError> {
         self.problems.push(Problem {
-            severity,
+            severity: Severity::Error,
             range,
             message,
         })?;
         Ok(())
+    }
+
+    pub fn problem(&mut self, range: TextRange, message: &str) -> Result<(), AllocError> {
+        let message = String::from_str(self.alloc, message)?;
+        self.error(range, message)
     }
 
     /// A line of the head.
@@ -58,13 +110,27 @@ impl Reader {
         name: SyntaxTokenRef<'_, Grammars>,
     ) -> Result<(), AllocError> {
         let range = name.text_range();
-        let old = match first_text(head, Kind::Keyword) {
+        let sort = match first_text(head, Kind::Keyword) {
+            "error" => Sort::Error,
+            "trivia" => Sort::Trivia,
+            "token" => Sort::Token,
+            "content" => {
+                let name = String::from_str(self.alloc, name.text())?;
+                self.grammar.contents.push(Content { range, name })?;
+                return Ok(());
+            }
+            word => return self.line(word, range),
+        };
+        self.add_item(head, name, sort)?;
+        Ok(())
+    }
+
+    /// A line of the head that names no kind.
+    fn line(&mut self, word: &str, range: TextRange) -> Result<(), AllocError> {
+        let old = match word {
             "language" => mem::replace(&mut self.grammar.language, Some(range)),
             "crate" => mem::replace(&mut self.grammar.crate_name, Some(range)),
-            "root" => mem::replace(&mut self.grammar.root, Some(range)),
-            "error" => return self.add_item(head, name, Sort::Error, Vec::new(self.alloc)),
-            "trivia" => return self.add_item(head, name, Sort::Trivia, Vec::new(self.alloc)),
-            _ => return self.add_item(head, name, Sort::Token, Vec::new(self.alloc)),
+            _ => mem::replace(&mut self.grammar.root, Some(range)),
         };
         match old {
             Some(_) => self.problem(range, "a line of the head says this already"),
@@ -72,66 +138,36 @@ impl Reader {
         }
     }
 
-    fn rule(
+    fn check_end(
         &mut self,
         rule: SyntaxNodeRef<'_, Grammars>,
         name: SyntaxTokenRef<'_, Grammars>,
     ) -> Result<(), AllocError> {
         if ends_early(rule) {
             let message = "this rule ends where a part is wanted";
-            self.problem(name.text_range(), message)?;
+            return self.problem(name.text_range(), message);
         }
-        let Some(choice) = rule.first_child_by_kind(Kind::Choice) else {
-            return Ok(());
-        };
-        let sort = match is_of_names(choice) {
-            true => Sort::Choice,
-            false => Sort::Node,
-        };
-        let parts = self.parts(choice)?;
-        self.add_item(rule, name, sort, parts)
+        Ok(())
     }
 
-    /// The parts of a rule, in the order of the text.
-    fn parts(&mut self, choice: SyntaxNodeRef<'_, Grammars>) -> Result<Vec<Part>, AllocError> {
-        let mut parts = Vec::new(self.alloc);
-        let mut open: Vec<Around> = Vec::new(self.alloc);
-        for event in choice.preorder() {
-            match event {
-                WalkEvent::Enter(node) => {
-                    let around = within(node, open.last());
-                    if node.kind() == Kind::Part {
-                        add_part(&mut parts, node, &around)?;
-                    }
-                    open.push(around)?;
-                    self.check_closed(node)?;
-                }
-                WalkEvent::Leave(_) => {
-                    open.pop();
-                }
-            }
-        }
-        Ok(parts)
-    }
-
-    fn check_closed(&mut self, node: SyntaxNodeRef<'_, Grammars>) -> Result<(), AllocError> {
-        if node.kind() != Kind::Group || node.first_token_of_kind(Kind::Close).is_some() {
-            return Ok(());
-        }
-        match node.first_token_of_kind(Kind::Open) {
-            Some(open) => self.problem(open.text_range(), "this parenthesis is not closed"),
-            None => Ok(()),
-        }
-    }
-
+    /// Adds what a rule or a line of the head names, and says its number. A token is known by its
+    /// text, too.
     fn add_item(
         &mut self,
         node: SyntaxNodeRef<'_, Grammars>,
         name: SyntaxTokenRef<'_, Grammars>,
         sort: Sort,
-        parts: Vec<Part>,
-    ) -> Result<(), AllocError> {
+    ) -> Result<usize, AllocError> {
+        let number = self.grammar.items.len();
         let literal = node.first_token_of_kind(Kind::Literal);
+        self.names
+            .insert(String::from_str(self.alloc, name.text())?, number)?;
+        if let Some(literal) = literal {
+            if !self.literals.contains_key(literal.text()) {
+                let text = String::from_str(self.alloc, literal.text())?;
+                self.literals.insert(text, number)?;
+            }
+        }
         let item = Item {
             sort,
             name: String::from_str(self.alloc, name.text())?,
@@ -140,10 +176,13 @@ impl Reader {
             literal: literal.map(|token| token.text_range()),
             docs: docs(self.alloc, node)?,
             rule: rule_text(self.alloc, node)?,
-            parts,
+            alternatives: Vec::new(self.alloc),
+            body: Part::Group(Vec::new(self.alloc)),
+            is_used: false,
+            has_content: false,
         };
         self.grammar.items.push(item)?;
-        Ok(())
+        Ok(number)
     }
 }
 
@@ -152,82 +191,6 @@ fn first_text<'tree>(node: SyntaxNodeRef<'tree, Grammars>, kind: Kind) -> &'tree
     match node.first_token_of_kind(kind) {
         Some(token) => token.text(),
         None => "",
-    }
-}
-
-fn has(node: SyntaxNodeRef<'_, Grammars>, kind: Kind) -> bool {
-    node.first_token_of_kind(kind).is_some()
-}
-
-/// What the parts in a node have. One of alternatives may be missing, and a label is that of the
-/// innermost node that has one.
-fn within(node: SyntaxNodeRef<'_, Grammars>, outer: Option<&Around>) -> Around {
-    let is_many = has(node, Kind::Star);
-    let is_optional = is_many || has(node, Kind::Question) || has(node, Kind::Bar);
-    match outer {
-        Some(outer) => Around {
-            label: label_of(node).or(outer.label),
-            is_many: outer.is_many || is_many,
-            is_optional: outer.is_optional || is_optional,
-        },
-        None => Around {
-            label: None,
-            is_many,
-            is_optional,
-        },
-    }
-}
-
-/// The last label of a part.
-fn label_of(part: SyntaxNodeRef<'_, Grammars>) -> Option<TextRange> {
-    let mut label = None;
-    for child in part.children() {
-        if child.kind() == Kind::Label {
-            label = child
-                .first_token_of_kind(Kind::Word)
-                .map(|word| word.text_range());
-        }
-    }
-    label
-}
-
-/// Adds what a part names, if it is not in parentheses.
-fn add_part(
-    parts: &mut Vec<Part>,
-    node: SyntaxNodeRef<'_, Grammars>,
-    around: &Around,
-) -> Result<(), AllocError> {
-    let literal = node.first_token_of_kind(Kind::Literal);
-    let is_literal = literal.is_some();
-    let Some(token) = literal.or(node.first_token_of_kind(Kind::Word)) else {
-        return Ok(());
-    };
-    parts.push(Part {
-        label: around.label,
-        range: token.text_range(),
-        is_literal,
-        is_many: around.is_many,
-        is_optional: around.is_optional,
-        target: None,
-    })?;
-    Ok(())
-}
-
-/// Whether these are alternatives of which each is a name alone.
-fn is_of_names(choice: SyntaxNodeRef<'_, Grammars>) -> bool {
-    for sequence in choice.children() {
-        if !is_name(sequence) {
-            return false;
-        }
-    }
-    has(choice, Kind::Bar)
-}
-
-/// Whether an alternative is a name alone.
-fn is_name(sequence: SyntaxNodeRef<'_, Grammars>) -> bool {
-    match sequence.first_token() {
-        Some(token) => { token.kind() == Kind::Word && token.text_range() == sequence.text_range() }
-        None => false,
     }
 }
 

@@ -1,5 +1,5 @@
 //! Items that need themselves: nodes that have no end, and choices that lead to no node.
-use crate::grammar::{Grammar, Item, Part, Sort};
+use crate::grammar::{Grammar, Part, Sort};
 use std::alloc::{AllocError, Global};
 
 /// What items are asked for. Where one has it not, it needs another that has it not either.
@@ -11,20 +11,65 @@ pub enum Want {
     Nodes,
 }
 
+/// What each item needs for what is wanted. Of a choice that is to end each alternative does, of
+/// which one is enough.
+fn wants_of(alloc: Global, grammar: &Grammar, want: Want) -> Result<Vec<Vec<usize>>, AllocError> {
+    let mut wants: Vec<Vec<usize>> = Vec::new(alloc);
+    for item in grammar.items.iter() {
+        let mut needed: Vec<usize> = Vec::new(alloc);
+        for used in item.alternatives.iter() {
+            if want == Want::End || grammar.sort(used.item) == Sort::Choice {
+                needed.push(used.item)?;
+            }
+        }
+        if want == Want::End {
+            add_needed(&item.body, &mut needed)?;
+        }
+        wants.push(needed)?;
+    }
+    Ok(wants)
+}
+
+/// Adds the nodes that stand in each node of this body. Of alternatives none does.
+fn add_needed(body: &Part, needed: &mut Vec<usize>) -> Result<(), AllocError> {
+    match body {
+        Part::Node(used) => {
+            needed.push(used.item)?;
+            Ok(())
+        }
+        Part::Group(parts) => {
+            for part in parts.iter() {
+                add_needed(part, needed)?;
+            }
+            Ok(())
+        }
+        Part::Labelled(_, part) => add_needed(part, needed),
+        Part::Token(_) | Part::Choice(_) | Part::Repeated(_) | Part::Optional(_) => Ok(()),
+    }
+}
+
 /// How many parts each item still needs for what is wanted: none where it has it. Each part is
 /// looked at once.
-fn needs_left(alloc: Global, grammar: &Grammar, want: Want) -> Result<Vec<usize>, AllocError> {
-    let users = users_of(alloc, grammar, want)?;
+fn needs_left(
+    alloc: Global,
+    grammar: &Grammar,
+    want: Want,
+    wants: &[Vec<usize>],
+) -> Result<Vec<usize>, AllocError> {
+    let users = users_of(alloc, wants)?;
     let mut needs: Vec<usize> = Vec::new(alloc);
     let mut met: Vec<usize> = Vec::new(alloc);
-    for (index, item) in grammar.items.iter().enumerate() {
-        let count = count_needs(grammar, want, item);
+    for (index, needed) in wants.iter().enumerate() {
+        let count = match grammar.sort(index) {
+            Sort::Choice if want == Want::End => 1,
+            _ => needed.len(),
+        };
         needs.push(count)?;
         if count == 0 {
             met.push(index)?;
         }
     }
-    for _ in 0..grammar.items.len() {
+    for _ in 0..wants.len() {
         let Some(index) = met.pop() else {
             break;
         };
@@ -41,43 +86,19 @@ fn needs_left(alloc: Global, grammar: &Grammar, want: Want) -> Result<Vec<usize>
 }
 
 /// Of each item the numbers of those that need it, once for each part that does.
-fn users_of(alloc: Global, grammar: &Grammar, want: Want) -> Result<Vec<Vec<usize>>, AllocError> {
+fn users_of(alloc: Global, wants: &[Vec<usize>]) -> Result<Vec<Vec<usize>>, AllocError> {
     let mut users: Vec<Vec<usize>> = Vec::new(alloc);
-    for _ in 0..grammar.items.len() {
+    for _ in 0..wants.len() {
         users.push(Vec::new(alloc))?;
     }
-    for (index, item) in grammar.items.iter().enumerate() {
-        for part in item.parts.iter() {
-            let Some(target) = needed(grammar, want, item.sort, part) else {
-                continue;
-            };
-            if let Some(list) = users.get_mut(target) {
+    for (index, needed) in wants.iter().enumerate() {
+        for item in needed.iter() {
+            if let Some(list) = users.get_mut(*item) {
                 list.push(index)?;
             }
         }
     }
     Ok(users)
-}
-
-/// What a part stands for, if it counts. Of a choice that is to end each does, of which one is
-/// enough.
-fn needed(grammar: &Grammar, want: Want, sort: Sort, part: &Part) -> Option<usize> {
-    let target = part.target?;
-    let is_needed = match want {
-        Want::End => sort == Sort::Choice || !part.is_optional,
-        Want::Nodes => sort == Sort::Choice && grammar.sort(target) == Sort::Choice,
-    };
-    is_needed.then_some(target)
-}
-
-fn count_needs(grammar: &Grammar, want: Want, item: &Item) -> usize {
-    if want == Want::End && item.sort == Sort::Choice {
-        return 1;
-    }
-    item.parts
-        .iter()
-        .filter(|part| needed(grammar, want, item.sort, part).is_some())
-        .count()
 }
 
 /// Takes one off what an item needs. Says whether it needs no more now, and did before.
@@ -101,8 +122,9 @@ pub struct Ring {
 /// The rings of items that have not what is wanted. An item is in one ring at most, and what only
 /// leads to a ring is in none.
 pub fn rings(alloc: Global, grammar: &Grammar, want: Want) -> Result<Vec<Ring>, AllocError> {
-    let needs = needs_left(alloc, grammar, want)?;
-    let next = next_left(alloc, grammar, want, needs.as_slice())?;
+    let wants = wants_of(alloc, grammar, want)?;
+    let needs = needs_left(alloc, grammar, want, wants.as_slice())?;
+    let next = next_left(alloc, wants.as_slice(), needs.as_slice())?;
     let mut rings: Vec<Ring> = Vec::new(alloc);
     let mut walks: Vec<usize> = vec![in alloc; 0; next.len()]?;
     for start in 0..next.len() {
@@ -118,30 +140,25 @@ pub fn rings(alloc: Global, grammar: &Grammar, want: Want) -> Result<Vec<Ring>, 
 /// Of each item that has not what is wanted the first that it needs and that has it not either.
 fn next_left(
     alloc: Global,
-    grammar: &Grammar,
-    want: Want,
+    wants: &[Vec<usize>],
     needs: &[usize],
 ) -> Result<Vec<Option<usize>>, AllocError> {
     let mut next: Vec<Option<usize>> = Vec::new(alloc);
-    for (item, count) in grammar.items.iter().zip(needs.iter()) {
+    for (needed, count) in wants.iter().zip(needs.iter()) {
         let found = match *count {
             0 => None,
-            _ => first_left(grammar, want, item, needs),
+            _ => first_left(needed.as_slice(), needs),
         };
         next.push(found)?;
     }
     Ok(next)
 }
 
-fn first_left(grammar: &Grammar, want: Want, item: &Item, needs: &[usize]) -> Option<usize> {
-    for part in item.parts.iter() {
-        if let Some(target) = needed(grammar, want, item.sort, part) {
-            if needs.get(target).copied().unwrap_or(0) > 0 {
-                return Some(target);
-            }
-        }
-    }
-    None
+fn first_left(needed: &[usize], needs: &[usize]) -> Option<usize> {
+    needed
+        .iter()
+        .copied()
+        .find(|item| needs.get(*item).copied().unwrap_or(0) > 0)
 }
 
 /// Walks from an item to the next that is needed, and so on, up to where a walk came by: the item,

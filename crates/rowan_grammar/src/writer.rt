@@ -1,6 +1,10 @@
 //! Source text from templates.
-use crate::grammar::Grammar;
+use crate::calls::{Alike, Call, Calls};
+use crate::forms::Form;
+use crate::grammar::{Grammar, Sort};
+use crate::names::path_of;
 use std::alloc::{AllocError, Global};
+use std::collections::HashMap;
 
 /// What every written file is of.
 #[derive(Drop)]
@@ -8,6 +12,8 @@ pub struct Scope<'g> {
     pub alloc: Global,
     pub text: &'g str,
     pub grammar: &'g Grammar,
+    /// The calls of each item.
+    pub calls: &'g [Calls],
     pub crate_name: &'g str,
     pub language: &'g str,
     /// The names of the error kind and of the root.
@@ -17,24 +23,73 @@ pub struct Scope<'g> {
     pub kinds: &'g [usize],
     pub nodes: &'g [usize],
     pub choices: &'g [usize],
+    /// The numbers of the tokens that have a wrapper.
+    pub contents: &'g [usize],
+    /// The names from elsewhere that wrappers have.
+    pub taken: &'g HashMap<String, bool>,
 }
 
 impl Scope<'_> {
-    /// The lines that import these kinds.
-    pub fn variants(&self, kinds: &[usize]) -> Result<String, AllocError> {
-        let mut head = String::new(self.alloc);
-        let module = "specs.declared.kinds.Kind.TheVariants";
-        fill(&mut head, "use Rattle.$0.$1.{", &[self.crate_name, module])?;
-        let mut imports = Imports::new(self.alloc, head.as_str(), "")?;
-        for index in kinds.iter() {
-            imports.add(self.grammar.name(*index))?;
+    /// A name from elsewhere: its path where a wrapper has that name.
+    pub fn outside<'n>(&self, name: &'n str) -> &'n str {
+        match path_of(name) {
+            Some(path) if self.taken.contains_key(name) => path,
+            _ => name,
         }
-        String::from_str(self.alloc, imports.finish()?)
+    }
+
+    /// Adds a template as `fill` does. Behind an `@` it has names from elsewhere.
+    pub fn fill(
+        &self,
+        out: &mut String,
+        template: &str,
+        values: &[&str],
+    ) -> Result<(), AllocError> {
+        let mut named = String::new(self.alloc);
+        for (index, piece) in template.split('@').enumerate() {
+            let len = match index {
+                0 => 0,
+                _ => piece
+                    .find(|character: char| !character.is_ascii_alphanumeric())
+                    .unwrap_or(piece.len()),
+            };
+            named.push_str(self.outside(piece.get(..len).unwrap_or("")))?;
+            named.push_str(piece.get(len..).unwrap_or(""))?;
+        }
+        fill(out, named.as_str(), values)
+    }
+
+    /// The kinds of the parts of an item that are alike.
+    pub fn alike(&self, index: usize) -> &[Alike] {
+        match self.calls.get(index) {
+            Some(calls) => calls.alike.as_slice(),
+            None => &[],
+        }
+    }
+
+    /// The calls of an item.
+    pub fn calls(&self, index: usize) -> &[Call] {
+        match self.calls.get(index) {
+            Some(calls) => calls.calls.as_slice(),
+            None => &[],
+        }
+    }
+
+    /// The function from a wrapper to its node, as clauses have it.
+    pub fn node_of(&self, form: Form, item: usize) -> Result<String, AllocError> {
+        let snake = self.grammar.snake(item);
+        match form {
+            Form::Borrowed => format!(in self.alloc; "node_in_{snake}_ref"),
+            Form::Owned if self.grammar.sort(item) == Sort::Choice => format!(in self.alloc;
+                "node_in_{snake}"
+            ),
+            Form::Owned => String::from_str(self.alloc, "(λ node. node)"),
+        }
     }
 }
 
 /// The longest line of what is written, where it can be broken.
-const WIDTH: usize = 100;
+pub const WIDTH: usize = 100;
 
 /// How long arguments on one line may be, and the elements of a list.
 pub const ARGUMENTS: usize = 60;
@@ -78,18 +133,50 @@ pub fn signature(
     Ok(line)
 }
 
-/// Two arguments of a call in a function's body, each on a line of its own where they are long, with
-/// this end behind the second one.
-pub fn arguments(
-    alloc: Global,
-    first: &str,
-    second: &str,
-    end: &str,
-) -> Result<String, AllocError> {
-    let line = format!(in alloc; "{first}, {second}")?;
+/// The head of `cast` for a wrapper of the item with this name.
+pub fn cast_head(scope: &Scope<'_>, form: Form, name: &str) -> Result<String, AllocError> {
+    let language = scope.language;
+    let option = scope.outside("Option");
+    let (parameter, result) = match form {
+        Form::Owned => {
+            let node = scope.outside("SyntaxNode");
+            (
+                format!(in scope.alloc; "syntax: {node}<{language}>")?,
+                format!(in scope.alloc; "{option}<{name}>")?,
+            )
+        }
+        Form::Borrowed => {
+            let node = scope.outside("SyntaxNodeRef");
+            (
+                format!(in scope.alloc; "syntax: {node}<'tree, {language}>")?,
+                format!(in scope.alloc; "{option}<{name}Ref<'tree>>")?,
+            )
+        }
+    };
+    signature(
+        scope.alloc,
+        "    fn cast",
+        parameter.as_str(),
+        result.as_str(),
+    )
+}
+
+/// Arguments of a call in a function's body, which are given one a line: each on a line of its own
+/// where they are long, with this end behind the last one.
+pub fn arguments(alloc: Global, values: &str, end: &str) -> Result<String, AllocError> {
+    let mut line = String::new(alloc);
+    let mut lines = String::new(alloc);
+    for value in values.lines() {
+        line.push_str(if line.is_empty() { "" } else { ", " })?;
+        line.push_str(value)?;
+        lines.push_str(if lines.is_empty() { "" } else { "," })?;
+        lines.push_str("\n            ")?;
+        lines.push_str(value)?;
+    }
     if line.len() > ARGUMENTS {
-        let indent = "            ";
-        return format!(in alloc; "\n{indent}{first},\n{indent}{second}{end}\n        ");
+        lines.push_str(end)?;
+        lines.push_str("\n        ")?;
+        return Ok(lines);
     }
     Ok(line)
 }

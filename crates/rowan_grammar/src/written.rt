@@ -3,14 +3,16 @@ ghost use Rattle.std.specs.Prelude.{◌≡◌, ◌<◌, length, IfErr};
 ghost use Rattle.rowan.specs.Fits.{byte_limit};
 ghost use Rattle.rowan_parser.specs.Parsing.{WhyNoTree};
 
-use crate::calls::calls_of;
+use crate::calls::Calls;
 use crate::checks::Checker;
-use crate::grammar::{Grammar, Sort, add_numbers, kinds_of};
+use crate::forms::Form;
+use crate::grammar::{Grammar, Sort, add_numbers, contents_of, kinds_of};
 use crate::kinds::{kinds_code, kinds_specs};
+use crate::names::is_outside;
 use crate::nodes::nodes_code;
 use crate::parser::parse;
 use crate::place::{Problem, part_of, render};
-use crate::reach::choices_of;
+use crate::reach::{Looker, choices_of};
 use crate::reader::Reader;
 use crate::specs::{cast_lemmas, casts_specs, nodes_in};
 use crate::syntax::Grammars;
@@ -18,6 +20,7 @@ use crate::writer::Scope;
 use rowan::{Fault, SyntaxNode};
 use rowan_parser::{Severity, SyntaxError};
 use std::alloc::{AllocError, Global};
+use std::collections::HashMap;
 
 /// A file of the crate, by its path in the crate's folder.
 #[derive(Debug, Drop)]
@@ -76,11 +79,7 @@ fn made_of(alloc: Global, text: &str, name: &str, has_files: bool) -> Result<Wri
 {
     let parsed = parse(alloc, text)?;
     let root: SyntaxNode<Grammars> = parsed.syntax(alloc)?;
-    let mut reader = Reader {
-        alloc,
-        grammar: Grammar::new(alloc),
-        problems: problems_of(alloc, parsed.errors.as_slice())?,
-    };
+    let mut reader = Reader::new(alloc, problems_of(alloc, parsed.errors.as_slice())?);
     reader.read(root.as_ref())?;
     let Reader {
         mut grammar,
@@ -91,11 +90,12 @@ fn made_of(alloc: Global, text: &str, name: &str, has_files: bool) -> Result<Wri
         alloc,
         text,
         problems,
-        looks: 0,
+        looker: Looker::new(),
+        calls: Vec::new(alloc),
     };
-    checker.check(&mut grammar)?;
-    let Checker { mut problems, .. } = checker;
-    answer(alloc, text, name, &grammar, &mut problems, has_files)
+    checker.check(&grammar)?;
+    grammar.rename()?;
+    answer(text, name, &grammar, &mut checker, has_files)
 }
 
 /// The errors of a parse as problems.
@@ -113,22 +113,23 @@ fn problems_of(alloc: Global, errors: &[SyntaxError]) -> Result<Vec<Problem>, Al
 
 /// The messages, and the files if they are wanted and no problem is an error.
 fn answer(
-    alloc: Global,
     text: &str,
     name: &str,
     grammar: &Grammar,
-    problems: &mut Vec<Problem>,
+    checker: &mut Checker<'_>,
     has_files: bool,
 ) -> Result<Written, Fault>
     ensures { IfErr result (λ e. e ≡ Fault.Memory) }
 {
-    let has_errors = problems.iter().any(is_error);
-    let messages = render(alloc, problems, text, name)?;
+    let alloc = checker.alloc;
+    let has_errors = checker.problems.iter().any(is_error);
+    let messages = render(alloc, &mut checker.problems, text, name)?;
+    let calls = checker.calls.as_slice();
     let files = match has_files && !has_errors {
-        true => files_of(alloc, text, name, grammar)?,
+        true => files_of(alloc, text, name, grammar, calls)?,
         false => Vec::new(alloc),
     };
-    let summary = summary_of(alloc, text, grammar)?;
+    let summary = summary_of(grammar, calls);
     Ok(Written {
         messages,
         has_errors,
@@ -141,7 +142,7 @@ fn is_error(problem: &Problem) -> bool {
     problem.severity == Severity::Error
 }
 
-fn summary_of(alloc: Global, text: &str, grammar: &Grammar) -> Result<Summary, AllocError> {
+fn summary_of(grammar: &Grammar, calls: &[Calls]) -> Summary {
     let mut summary = Summary {
         kinds: 0,
         wrappers: 0,
@@ -151,15 +152,14 @@ fn summary_of(alloc: Global, text: &str, grammar: &Grammar) -> Result<Summary, A
         if item.sort.is_kind() {
             summary.kinds = summary.kinds.saturating_add(1);
         }
-        if item.sort.is_wrapped() {
+        if item.is_wrapped() {
             summary.wrappers = summary.wrappers.saturating_add(1);
         }
-        if item.sort == Sort::Node {
-            let calls = calls_of(alloc, text, grammar, item)?;
-            summary.calls = summary.calls.saturating_add(calls.len());
-        }
     }
-    Ok(summary)
+    for calls in calls.iter() {
+        summary.calls = summary.calls.saturating_add(calls.calls.len());
+    }
+    summary
 }
 
 fn files_of(
@@ -167,27 +167,32 @@ fn files_of(
     text: &str,
     name: &str,
     grammar: &Grammar,
+    calls: &[Calls],
 ) -> Result<Vec<File>, AllocError> {
     let kinds = kinds_of(alloc, grammar)?;
     let mut nodes = Vec::new(alloc);
     add_numbers(&mut nodes, grammar, &[Sort::Node])?;
     let choices = choices_of(alloc, grammar)?;
+    let contents = contents_of(alloc, grammar)?;
     let scope = Scope {
         alloc,
         text,
         grammar,
+        calls,
         crate_name: part_of(text, grammar.crate_name),
         language: part_of(text, grammar.language),
         error: error_name(grammar),
-        root: part_of(text, grammar.root),
+        root: root_name(grammar, part_of(text, grammar.root)),
         kinds: kinds.as_slice(),
         nodes: nodes.as_slice(),
         choices: choices.as_slice(),
+        contents: contents.as_slice(),
+        taken: &taken_names(alloc, grammar)?,
     };
     files_in(&scope, name)
 }
 
-/// The files of a grammar that is called by this name. Without choices two of them have no text.
+/// The files of a grammar that is called by this name. Without choices one of them has no text.
 fn files_in(scope: &Scope<'_>, name: &str) -> Result<Vec<File>, AllocError> {
     let mut files = Vec::new(scope.alloc);
     add_file(&mut files, "src/kinds.rt", name, Some(kinds_code(scope)?))?;
@@ -204,11 +209,16 @@ fn files_in(scope: &Scope<'_>, name: &str) -> Result<Vec<File>, AllocError> {
         name,
         Some(casts_specs(scope)?),
     )?;
-    let (nodes, lemmas) = match scope.choices.is_empty() {
-        true => (None, None),
-        false => (Some(nodes_in(scope)?), Some(cast_lemmas(scope)?)),
+    add_file(
+        &mut files,
+        "specs/NodeIn.antt",
+        name,
+        Some(nodes_in(scope)?),
+    )?;
+    let lemmas = match scope.choices.is_empty() {
+        true => None,
+        false => Some(cast_lemmas(scope)?),
     };
-    add_file(&mut files, "specs/NodeIn.antt", name, nodes)?;
     add_file(&mut files, "proofs/CastLemmas.antt", name, lemmas)?;
     Ok(files)
 }
@@ -248,6 +258,33 @@ fn mark_of(alloc: Global, path: &str, name: &str) -> Result<String, AllocError> 
     }
     mark.push_str(": change that, and not this file.\n")?;
     Ok(mark)
+}
+
+/// The name of the root as it is written, which may have an underscore behind it.
+fn root_name<'g>(grammar: &'g Grammar, root: &str) -> &'g str {
+    for item in grammar.items.iter() {
+        let name = item.name.as_str();
+        if item.sort == Sort::Node && name.strip_suffix('_').unwrap_or(name) == root {
+            return name;
+        }
+    }
+    ""
+}
+
+/// The names from elsewhere that wrappers have.
+fn taken_names(alloc: Global, grammar: &Grammar) -> Result<HashMap<String, bool>, AllocError> {
+    let mut taken = HashMap::new(alloc);
+    for item in grammar.items.iter() {
+        if item.is_wrapped() {
+            for form in [Form::Owned, Form::Borrowed] {
+                let name = format!(in alloc; "{}{}", item.name, form.suffix())?;
+                if is_outside(name.as_str()) {
+                    taken.insert(name, true)?;
+                }
+            }
+        }
+    }
+    Ok(taken)
 }
 
 fn error_name(grammar: &Grammar) -> &str {

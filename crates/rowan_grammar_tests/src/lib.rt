@@ -130,7 +130,7 @@ mod tests {
                 names.push(' ')?;
             }
         }
-        assert!(rt; names.as_str() == "specs/NodeIn.antt proofs/CastLemmas.antt ");
+        assert!(rt; names.as_str() == "proofs/CastLemmas.antt ");
         Ok(())
     }
 }
