@@ -1,4 +1,6 @@
 //! Elements before tokens: formatted trees are those that their texts parse to.
+ghost use Rattle.std.specs.Prelude.{◌≤◌};
+
 use crate::calling::spaced;
 use crate::fixture::{LIST, ROOT, WORD, nested, tree};
 use arithmetic_syntax::Kind as Arithmetic;
