@@ -1,12 +1,13 @@
 //! Edits by cursors of a language, and where elements and texts are afterwards.
 use crate::trees::{self, TEXT, Tree};
-use rowan::{Fault, SyntaxElementRef};
-use rowan_edit::{EditError, GreenEditor, Make, Position, SyntaxEditor};
+use rowan::{Fault, SyntaxElementRef, SyntaxNodeRef};
+use rowan_edit::{EditError, GreenEditor, Make, Piece, Position, SyntaxEditor};
 use rowan_tool::sexp::{Lang, SyntaxKind, parse};
 
 pub fn make(call: &str, tree: &Tree) -> Result<Option<u64>, Fault> {
     let number = match call {
         "typed_edits" => typed_edits(tree),
+        "replace_children" => arrange(tree),
         "moved_path" => moved_paths(tree),
         "from_text" => from_text(tree),
         _ => return Ok(None),
@@ -57,6 +58,30 @@ fn put_behind(
     }
     let new = editor.token(SyntaxKind::WORD, TEXT)?;
     editor.insert(Position::after(element), new)
+}
+
+/// The children of the root in the reverse order, and in it those of each of them.
+fn arrange(tree: &Tree) -> Result<u64, EditError> {
+    let root = tree.root.as_ref();
+    let mut editor = SyntaxEditor::new(tree.alloc, root)?;
+    reverse(&mut editor, root)?;
+    for node in root.children() {
+        reverse(&mut editor, node)?;
+    }
+    let edited = editor.finish()?;
+    Ok(edited.changes.as_slice().len() as u64)
+}
+
+fn reverse(
+    editor: &mut SyntaxEditor<Lang>,
+    node: SyntaxNodeRef<'_, Lang>,
+) -> Result<(), EditError> {
+    let count = node.green().children().len();
+    let mut pieces = Vec::new(editor.allocator());
+    for index in (0..count).rev() {
+        pieces.push(Piece::Old(index))?;
+    }
+    editor.replace_children(node, pieces)
 }
 
 /// Another token in place of each second child of the root; then the path of each child in the new
