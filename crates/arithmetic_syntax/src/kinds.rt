@@ -1,4 +1,5 @@
-//! The kinds of sums and products.
+// Written by rowan_grammar from arithmetic.ungram: change that, and not this file.
+//! The kinds of the tokens and nodes of Arithmetic.
 use rowan::{Language, SyntaxKind};
 
 /// The language of sums and products.
@@ -59,7 +60,20 @@ impl Language for Arithmetic {
     }
 
     fn kind_to_raw(kind: Kind) -> SyntaxKind {
-        SyntaxKind(kind as u16)
+        match kind {
+            Kind::Space => SyntaxKind(0),
+            Kind::Number => SyntaxKind(1),
+            Kind::Plus => SyntaxKind(2),
+            Kind::Star => SyntaxKind(3),
+            Kind::Open => SyntaxKind(4),
+            Kind::Close => SyntaxKind(5),
+            Kind::Error => SyntaxKind(6),
+            Kind::Literal => SyntaxKind(7),
+            Kind::Group => SyntaxKind(8),
+            Kind::Product => SyntaxKind(9),
+            Kind::Sum => SyntaxKind(10),
+            Kind::Root => SyntaxKind(11),
+        }
     }
 
     fn kind_name(kind: Kind) -> &'static str {
@@ -79,3 +93,9 @@ impl Language for Arithmetic {
         }
     }
 }
+
+/// The kinds of the tokens that may stand anywhere.
+pub const TRIVIA: &[Kind] = &[Kind::Space];
+
+/// The kind of the node of a whole text.
+pub const ROOT: Kind = Kind::Root;

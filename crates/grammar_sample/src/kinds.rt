@@ -196,7 +196,7 @@ impl Language for Sample {
 }
 
 /// The kinds of the tokens that may stand anywhere.
-pub const TRIVIA: &[SyntaxKind] = &[SyntaxKind(0), SyntaxKind(1), SyntaxKind(2)];
+pub const TRIVIA: &[Kind] = &[Kind::Whitespace, Kind::Newline, Kind::Comment];
 
 /// The kind of the node of a whole text.
 pub const ROOT: Kind = Kind::Document;

@@ -3,12 +3,7 @@
 ghost use Rattle.std.specs.Prelude.{◌≡◌, true};
 ghost use Rattle.rowan.specs.Ast.{casts_at};
 ghost use Rattle.rowan.specs.Refs.{node_place};
-ghost use Rattle.grammar_sample.specs.Casts.{is_document, is_table, is_array_table, is_header};
-ghost use Rattle.grammar_sample.specs.Casts.{is_array_header, is_entry, is_key, is_bare_key};
-ghost use Rattle.grammar_sample.specs.Casts.{is_quoted_key, is_note, is_text_literal};
-ghost use Rattle.grammar_sample.specs.Casts.{is_integer_literal, is_float_literal};
-ghost use Rattle.grammar_sample.specs.Casts.{is_boolean_literal, is_moment_literal, is_array};
-ghost use Rattle.grammar_sample.specs.Casts.{is_inline_table, is_reference, is_call, is_arguments};
+ghost use Rattle.grammar_sample.specs.Casts.{has_number};
 ghost use Rattle.grammar_sample.specs.Kinds.{kind_of};
 
 use crate::kinds::{Kind, Sample};
@@ -16,22 +11,18 @@ use rowan::ast::{AstChildren, AstNode, AstNodeRef, AstNodesRef, support};
 use rowan::{Fault, SyntaxNode, SyntaxNodeRef, SyntaxToken, SyntaxTokenRef};
 use std::marker::Model;
 
-/// The node of the whole text.
-///
-/// ```text
-/// Document = Entry* Section*
-/// ```
-#[derive(Clone, PartialEq, Eq, Hash, Debug, Drop)]
-pub struct Document {
+/// A node whose kind has this number.
+#[derive(Clone, PartialEq, Eq, Hash, Drop)]
+pub struct NodeOf<const KIND: u16> {
     syntax: SyntaxNode<Sample>,
 }
 
-impl Model for Document {
+impl<const KIND: u16> Model for NodeOf<KIND> {
     ghost use Rattle.std.specs.Prelude.{◌≡◌, true};
     ghost use Rattle.rowan.specs.Cursor.{Cursor};
     ghost use Rattle.rowan.specs.CursorCode.{coded_cursor};
     ghost use Rattle.rowan.specs.Ast.{casts_at};
-    ghost use Rattle.grammar_sample.specs.Casts.{is_document};
+    ghost use Rattle.grammar_sample.specs.Casts.{has_number};
     ghost use Rattle.grammar_sample.specs.Kinds.{kind_of};
 
     ghost Value = { Cursor };
@@ -42,33 +33,33 @@ impl Model for Document {
 
     ghost inverse = { λ node. record { syntax = node } };
 
-    ghost invariant = { λ wrapper. casts_at kind_of is_document wrapper.syntax ≡ true };
+    ghost invariant = { λ wrapper. casts_at kind_of (has_number KIND) wrapper.syntax ≡ true };
 }
 
-impl AstNode for Document {
+impl<const KIND: u16> AstNode for NodeOf<KIND> {
     type Language = Sample;
 
     ghost use Rattle.std.specs.Prelude.{◌≡◌};
     ghost use Rattle.std.specs.Option.{option_map};
     ghost use Rattle.rowan.specs.Ast.{casts_at, if_casts};
-    ghost use Rattle.grammar_sample.specs.Casts.{is_document, same_kind};
+    ghost use Rattle.grammar_sample.specs.Casts.{has_number, same_kind};
     ghost use Rattle.grammar_sample.specs.Kinds.{kind_of};
     ghost use Rattle.std.proofs.Common.{ap};
 
-    ghost casts = { is_document };
+    ghost casts = { has_number KIND };
 
     ghost node_of = { λ wrapper. wrapper };
 
     fn can_cast(kind: Kind) -> bool {
-        matches!(kind, Kind::Document)
+        <Sample as rowan::Language>::kind_to_raw(kind).0 == KIND
     }
 
-    fn cast(syntax: SyntaxNode<Sample>) -> Option<Document>
-        ensures { let casting = casts_at kind_of is_document in
+    fn cast(syntax: SyntaxNode<Sample>) -> Option<NodeOf<KIND>>
+        ensures { let casting = casts_at kind_of (has_number KIND) in
             option_map (λ wrapper. wrapper) result ≡ if_casts casting syntax }
     {
-        if Document::can_cast(syntax.kind()) {
-            Some(Document { syntax })
+        if Self::can_cast(syntax.kind()) {
+            Some(NodeOf { syntax })
         } else {
             None
         }
@@ -78,22 +69,109 @@ impl AstNode for Document {
         &self.syntax
     }
 
-    ghost equal_kinds = { λ a b same. ap is_document (same_kind a b same) };
+    ghost equal_kinds = { λ a b same. ap (has_number KIND) (same_kind a b same) };
 }
+
+impl<const KIND: u16> NodeOf<KIND> {
+    ghost use Rattle.std.specs.Prelude.{◌≡◌};
+    ghost use Rattle.grammar_sample.specs.NodeIn.{place_in};
+
+    /// The same node, borrowed from its tree.
+    pub fn as_ref(&self) -> NodeOfRef<'_, KIND>
+        ensures { place_in result ≡ self.now }
+    {
+        NodeOfRef {
+            syntax: self.syntax.as_ref(),
+        }
+    }
+}
+
+impl<const KIND: u16> std::fmt::Debug for NodeOf<KIND> {
+    fn fmt<W: std::fmt::Write>(&self, f: &mut std::fmt::Formatter<W>) -> std::fmt::Result {
+        self.syntax.fmt(f)
+    }
+}
+
+/// A node whose kind has this number, borrowed from its tree.
+#[derive(Clone, Copy, PartialEq, Eq, Hash)]
+pub struct NodeOfRef<'tree, const KIND: u16> {
+    syntax: SyntaxNodeRef<'tree, Sample>,
+    ghost casts: { casts_at kind_of (has_number KIND) (node_place syntax) ≡ true },
+}
+
+impl<'tree, const KIND: u16> AstNodeRef<'tree> for NodeOfRef<'tree, KIND> {
+    type Language = Sample;
+
+    ghost use Rattle.std.specs.Prelude.{◌≡◌, true};
+    ghost use Rattle.std.specs.Option.{option_map};
+    ghost use Rattle.rowan.specs.Ast.{casts_at, if_casts};
+    ghost use Rattle.rowan.specs.Refs.{node_place};
+    ghost use Rattle.grammar_sample.specs.Casts.{has_number};
+    ghost use Rattle.grammar_sample.specs.Kinds.{kind_of};
+    ghost use Rattle.grammar_sample.specs.NodeIn.{place_in};
+
+    ghost casts = { has_number KIND };
+
+    ghost node_of = { place_in };
+
+    fn can_cast(kind: Kind) -> bool
+        ensures { result ≡ has_number KIND kind }
+    {
+        <Sample as rowan::Language>::kind_to_raw(kind).0 == KIND
+    }
+
+    fn cast(syntax: SyntaxNodeRef<'tree, Sample>) -> Option<NodeOfRef<'tree, KIND>>
+        ensures { let casting = casts_at kind_of (has_number KIND) in
+            option_map place_in result ≡ if_casts casting (node_place syntax.entry) }
+    {
+        if Self::can_cast(syntax.kind()) {
+            Some(NodeOfRef { syntax })
+        } else {
+            None
+        }
+    }
+
+    fn syntax(&self) -> SyntaxNodeRef<'tree, Sample>
+        ensures node { node_place result ≡ place_in self.now }
+        ensures casts { casts_at kind_of (has_number KIND) (node_place result) ≡ true }
+    {
+        self.syntax
+    }
+}
+
+impl<'tree, const KIND: u16> NodeOfRef<'tree, KIND> {
+    ghost use Rattle.std.specs.Prelude.{◌≡◌, IfOk, IfErr};
+    ghost use Rattle.grammar_sample.specs.NodeIn.{place_in};
+
+    /// The same node in a wrapper that keeps the tree. Refused with `Memory` alone.
+    pub fn to_owned(&self) -> Result<NodeOf<KIND>, Fault>
+        ensures ok { IfOk result (λ owned. owned ≡ place_in self.now) }
+        ensures err { IfErr result (λ e. e ≡ Fault.Memory) }
+    {
+        let syntax = self.syntax.to_owned()?;
+        Ok(NodeOf { syntax })
+    }
+}
+
+impl<const KIND: u16> std::fmt::Debug for NodeOfRef<'_, KIND> {
+    fn fmt<W: std::fmt::Write>(&self, f: &mut std::fmt::Formatter<W>) -> std::fmt::Result {
+        self.syntax.fmt(f)
+    }
+}
+
+/// The node of the whole text.
+///
+/// ```text
+/// Document = Entry* Section*
+/// ```
+pub type Document = NodeOf<20>;
+
+/// [`Document`], borrowed from its tree.
+pub type DocumentRef<'tree> = NodeOfRef<'tree, 20>;
 
 impl Document {
     ghost use Rattle.std.specs.Prelude.{◌≡◌, IfOk, IfErr};
     ghost use Rattle.rowan.specs.Moves.{children};
-    ghost use Rattle.grammar_sample.specs.NodeIn.{node_in_document_ref};
-
-    /// The same node, borrowed from its tree.
-    pub fn as_ref(&self) -> DocumentRef<'_>
-        ensures { node_in_document_ref result ≡ self.now }
-    {
-        DocumentRef {
-            syntax: self.syntax.as_ref(),
-        }
-    }
 
     /// The children that are `Entry`, in order.
     pub fn entries(&self) -> AstChildren<Entry>
@@ -112,74 +190,18 @@ impl Document {
     }
 }
 
-/// [`Document`], borrowed from its tree.
-#[derive(Clone, Copy, PartialEq, Eq, Hash, Debug)]
-pub struct DocumentRef<'tree> {
-    syntax: SyntaxNodeRef<'tree, Sample>,
-    ghost casts: { casts_at kind_of is_document (node_place syntax) ≡ true },
-}
-
-impl<'tree> AstNodeRef<'tree> for DocumentRef<'tree> {
-    type Language = Sample;
-
-    ghost use Rattle.std.specs.Prelude.{◌≡◌, true};
-    ghost use Rattle.std.specs.Option.{option_map};
-    ghost use Rattle.rowan.specs.Ast.{casts_at, if_casts};
-    ghost use Rattle.rowan.specs.Refs.{node_place};
-    ghost use Rattle.grammar_sample.specs.Casts.{is_document};
-    ghost use Rattle.grammar_sample.specs.Kinds.{kind_of};
-    ghost use Rattle.grammar_sample.specs.NodeIn.{node_in_document_ref};
-
-    ghost casts = { is_document };
-
-    ghost node_of = { node_in_document_ref };
-
-    fn can_cast(kind: Kind) -> bool
-        ensures { result ≡ is_document kind }
-    {
-        matches!(kind, Kind::Document)
-    }
-
-    fn cast(syntax: SyntaxNodeRef<'tree, Sample>) -> Option<DocumentRef<'tree>>
-        ensures { let casting = casts_at kind_of is_document in
-            option_map node_in_document_ref result ≡ if_casts casting (node_place syntax.entry) }
-    {
-        if DocumentRef::can_cast(syntax.kind()) {
-            Some(DocumentRef { syntax })
-        } else {
-            None
-        }
-    }
-
-    fn syntax(&self) -> SyntaxNodeRef<'tree, Sample>
-        ensures node { node_place result ≡ node_in_document_ref self.now }
-        ensures casts { casts_at kind_of is_document (node_place result) ≡ true }
-    {
-        self.syntax
-    }
-}
-
 impl<'tree> DocumentRef<'tree> {
-    ghost use Rattle.std.specs.Prelude.{◌≡◌, filter, IfOk, IfErr};
+    ghost use Rattle.std.specs.Prelude.{◌≡◌, filter};
     ghost use Rattle.rowan.specs.Moves.{children};
     ghost use Rattle.rowan.specs.Ast.{casts_at, rest_that_casts};
     ghost use Rattle.grammar_sample.specs.Kinds.{kind_of};
     ghost use Rattle.grammar_sample.specs.Casts.{is_entry, is_section};
-    ghost use Rattle.grammar_sample.specs.NodeIn.{node_in_document_ref};
-
-    /// The same node in a wrapper that keeps the tree. Refused with `Memory` alone.
-    pub fn to_owned(&self) -> Result<Document, Fault>
-        ensures ok { IfOk result (λ owned. owned ≡ node_in_document_ref self.now) }
-        ensures err { IfErr result (λ e. e ≡ Fault.Memory) }
-    {
-        let syntax = self.syntax.to_owned()?;
-        Ok(Document { syntax })
-    }
+    ghost use Rattle.grammar_sample.specs.NodeIn.{place_in};
 
     /// The children that are `Entry`, in order.
     pub fn entries(&self) -> AstNodesRef<'tree, EntryRef<'tree>>
         ensures { let casts = casts_at kind_of is_entry in
-            rest_that_casts casts result ≡ filter casts (children (node_in_document_ref self.now)) }
+            rest_that_casts casts result ≡ filter casts (children (place_in self.now)) }
     {
         support::children_ref(self.syntax)
     }
@@ -187,7 +209,7 @@ impl<'tree> DocumentRef<'tree> {
     /// The children that are `Section`, in order.
     pub fn sections(&self) -> AstNodesRef<'tree, SectionRef<'tree>>
         ensures { let casts = casts_at kind_of is_section in
-            rest_that_casts casts result ≡ filter casts (children (node_in_document_ref self.now)) }
+            rest_that_casts casts result ≡ filter casts (children (place_in self.now)) }
     {
         support::children_ref(self.syntax)
     }
@@ -234,8 +256,8 @@ impl AstNode for Section {
             option_map node_in_section result ≡ if_casts casting syntax }
     {
         match syntax.kind() {
-            Kind::Table => Some(Section::Table(Table { syntax })),
-            Kind::ArrayTable => Some(Section::ArrayTable(ArrayTable { syntax })),
+            Kind::Table => Some(Section::Table(NodeOf { syntax })),
+            Kind::ArrayTable => Some(Section::ArrayTable(NodeOf { syntax })),
             _ => None,
         }
     }
@@ -253,11 +275,11 @@ impl AstNode for Section {
 
 impl Section {
     ghost use Rattle.std.specs.Prelude.{◌≡◌};
-    ghost use Rattle.grammar_sample.specs.NodeIn.{node_in_section, node_in_section_ref};
+    ghost use Rattle.grammar_sample.specs.NodeIn.{node_in_section, place_in_section};
 
     /// The same node, borrowed from its tree.
     pub fn as_ref(&self) -> SectionRef<'_>
-        ensures { node_in_section_ref result ≡ node_in_section self.now }
+        ensures { place_in_section result ≡ node_in_section self.now }
     {
         SectionRef::cast(self.syntax().as_ref()).unwrap()
     }
@@ -281,11 +303,11 @@ impl<'tree> AstNodeRef<'tree> for SectionRef<'tree> {
     ghost use Rattle.rowan.specs.Refs.{node_place};
     ghost use Rattle.grammar_sample.specs.Casts.{is_section};
     ghost use Rattle.grammar_sample.specs.Kinds.{kind_of};
-    ghost use Rattle.grammar_sample.specs.NodeIn.{node_in_section_ref};
+    ghost use Rattle.grammar_sample.specs.NodeIn.{place_in_section};
 
     ghost casts = { is_section };
 
-    ghost node_of = { node_in_section_ref };
+    ghost node_of = { place_in_section };
 
     fn can_cast(kind: Kind) -> bool
         ensures { result ≡ is_section kind }
@@ -295,18 +317,18 @@ impl<'tree> AstNodeRef<'tree> for SectionRef<'tree> {
 
     fn cast(syntax: SyntaxNodeRef<'tree, Sample>) -> Option<SectionRef<'tree>>
         ensures { let casting = casts_at kind_of is_section in
-            option_map node_in_section_ref result ≡ if_casts casting (node_place syntax.entry) }
+            option_map place_in_section result ≡ if_casts casting (node_place syntax.entry) }
     {
         match syntax.kind() {
-            Kind::Table => Some(SectionRef::Table(TableRef { syntax })),
-            Kind::ArrayTable => Some(SectionRef::ArrayTable(ArrayTableRef { syntax })),
+            Kind::Table => Some(SectionRef::Table(NodeOfRef { syntax })),
+            Kind::ArrayTable => Some(SectionRef::ArrayTable(NodeOfRef { syntax })),
             _ => None,
         }
     }
 
     #[tactic(auto, using(crate::proofs::CastLemmas::table_is_section_raw, crate::proofs::CastLemmas::array_table_is_section_raw))]
     fn syntax(&self) -> SyntaxNodeRef<'tree, Sample>
-        ensures node { node_place result ≡ node_in_section_ref self.now }
+        ensures node { node_place result ≡ place_in_section self.now }
         ensures casts { casts_at kind_of is_section (node_place result) ≡ true }
     {
         match self {
@@ -318,11 +340,11 @@ impl<'tree> AstNodeRef<'tree> for SectionRef<'tree> {
 
 impl<'tree> SectionRef<'tree> {
     ghost use Rattle.std.specs.Prelude.{◌≡◌, IfOk, IfErr};
-    ghost use Rattle.grammar_sample.specs.NodeIn.{node_in_section, node_in_section_ref};
+    ghost use Rattle.grammar_sample.specs.NodeIn.{node_in_section, place_in_section};
 
     /// The same node in a wrapper that keeps the tree. Refused with `Memory` alone.
     pub fn to_owned(&self) -> Result<Section, Fault>
-        ensures ok { IfOk result (λ owned. node_in_section owned ≡ node_in_section_ref self.now) }
+        ensures ok { IfOk result (λ owned. node_in_section owned ≡ place_in_section self.now) }
         ensures err { IfErr result (λ e. e ≡ Fault.Memory) }
     {
         let syntax = self.syntax().to_owned()?;
@@ -343,9 +365,9 @@ impl From<Table> for Section {
 
 impl<'tree> From<TableRef<'tree>> for SectionRef<'tree> {
     ghost use Rattle.std.specs.Prelude.{◌≡◌};
-    ghost use Rattle.grammar_sample.specs.NodeIn.{node_in_section_ref, node_in_table_ref};
+    ghost use Rattle.grammar_sample.specs.NodeIn.{place_in_section, place_in};
 
-    ghost from_gives = { λ node whole. node_in_section_ref whole ≡ node_in_table_ref node };
+    ghost from_gives = { λ node whole. place_in_section whole ≡ place_in node };
 
     fn from(node: TableRef<'tree>) -> SectionRef<'tree> {
         SectionRef::Table(node)
@@ -365,9 +387,9 @@ impl From<ArrayTable> for Section {
 
 impl<'tree> From<ArrayTableRef<'tree>> for SectionRef<'tree> {
     ghost use Rattle.std.specs.Prelude.{◌≡◌};
-    ghost use Rattle.grammar_sample.specs.NodeIn.{node_in_section_ref, node_in_array_table_ref};
+    ghost use Rattle.grammar_sample.specs.NodeIn.{place_in_section, place_in};
 
-    ghost from_gives = { λ node whole. node_in_section_ref whole ≡ node_in_array_table_ref node };
+    ghost from_gives = { λ node whole. place_in_section whole ≡ place_in node };
 
     fn from(node: ArrayTableRef<'tree>) -> SectionRef<'tree> {
         SectionRef::ArrayTable(node)
@@ -379,65 +401,10 @@ impl<'tree> From<ArrayTableRef<'tree>> for SectionRef<'tree> {
 /// ```text
 /// Table = Header Entry*
 /// ```
-#[derive(Clone, PartialEq, Eq, Hash, Debug, Drop)]
-pub struct Table {
-    syntax: SyntaxNode<Sample>,
-}
+pub type Table = NodeOf<21>;
 
-impl Model for Table {
-    ghost use Rattle.std.specs.Prelude.{◌≡◌, true};
-    ghost use Rattle.rowan.specs.Cursor.{Cursor};
-    ghost use Rattle.rowan.specs.CursorCode.{coded_cursor};
-    ghost use Rattle.rowan.specs.Ast.{casts_at};
-    ghost use Rattle.grammar_sample.specs.Casts.{is_table};
-    ghost use Rattle.grammar_sample.specs.Kinds.{kind_of};
-
-    ghost Value = { Cursor };
-
-    ghost coded = { coded_cursor };
-
-    ghost view = { λ wrapper. wrapper.syntax };
-
-    ghost inverse = { λ node. record { syntax = node } };
-
-    ghost invariant = { λ wrapper. casts_at kind_of is_table wrapper.syntax ≡ true };
-}
-
-impl AstNode for Table {
-    type Language = Sample;
-
-    ghost use Rattle.std.specs.Prelude.{◌≡◌};
-    ghost use Rattle.std.specs.Option.{option_map};
-    ghost use Rattle.rowan.specs.Ast.{casts_at, if_casts};
-    ghost use Rattle.grammar_sample.specs.Casts.{is_table, same_kind};
-    ghost use Rattle.grammar_sample.specs.Kinds.{kind_of};
-    ghost use Rattle.std.proofs.Common.{ap};
-
-    ghost casts = { is_table };
-
-    ghost node_of = { λ wrapper. wrapper };
-
-    fn can_cast(kind: Kind) -> bool {
-        matches!(kind, Kind::Table)
-    }
-
-    fn cast(syntax: SyntaxNode<Sample>) -> Option<Table>
-        ensures { let casting = casts_at kind_of is_table in
-            option_map (λ wrapper. wrapper) result ≡ if_casts casting syntax }
-    {
-        if Table::can_cast(syntax.kind()) {
-            Some(Table { syntax })
-        } else {
-            None
-        }
-    }
-
-    fn syntax(&self) -> &SyntaxNode<Sample> {
-        &self.syntax
-    }
-
-    ghost equal_kinds = { λ a b same. ap is_table (same_kind a b same) };
-}
+/// [`Table`], borrowed from its tree.
+pub type TableRef<'tree> = NodeOfRef<'tree, 21>;
 
 impl Table {
     ghost use Rattle.std.specs.Prelude.{◌≡◌, IfOk, IfErr};
@@ -447,16 +414,6 @@ impl Table {
     ghost use Rattle.rowan.specs.Ast.{casts_at};
     ghost use Rattle.grammar_sample.specs.Kinds.{kind_of};
     ghost use Rattle.grammar_sample.specs.Casts.{is_header};
-    ghost use Rattle.grammar_sample.specs.NodeIn.{node_in_table_ref};
-
-    /// The same node, borrowed from its tree.
-    pub fn as_ref(&self) -> TableRef<'_>
-        ensures { node_in_table_ref result ≡ self.now }
-    {
-        TableRef {
-            syntax: self.syntax.as_ref(),
-        }
-    }
 
     /// The first child that is `Header`.
     pub fn header(&self) -> Result<Option<Header>, Fault>
@@ -477,76 +434,20 @@ impl Table {
     }
 }
 
-/// [`Table`], borrowed from its tree.
-#[derive(Clone, Copy, PartialEq, Eq, Hash, Debug)]
-pub struct TableRef<'tree> {
-    syntax: SyntaxNodeRef<'tree, Sample>,
-    ghost casts: { casts_at kind_of is_table (node_place syntax) ≡ true },
-}
-
-impl<'tree> AstNodeRef<'tree> for TableRef<'tree> {
-    type Language = Sample;
-
-    ghost use Rattle.std.specs.Prelude.{◌≡◌, true};
-    ghost use Rattle.std.specs.Option.{option_map};
-    ghost use Rattle.rowan.specs.Ast.{casts_at, if_casts};
-    ghost use Rattle.rowan.specs.Refs.{node_place};
-    ghost use Rattle.grammar_sample.specs.Casts.{is_table};
-    ghost use Rattle.grammar_sample.specs.Kinds.{kind_of};
-    ghost use Rattle.grammar_sample.specs.NodeIn.{node_in_table_ref};
-
-    ghost casts = { is_table };
-
-    ghost node_of = { node_in_table_ref };
-
-    fn can_cast(kind: Kind) -> bool
-        ensures { result ≡ is_table kind }
-    {
-        matches!(kind, Kind::Table)
-    }
-
-    fn cast(syntax: SyntaxNodeRef<'tree, Sample>) -> Option<TableRef<'tree>>
-        ensures { let casting = casts_at kind_of is_table in
-            option_map node_in_table_ref result ≡ if_casts casting (node_place syntax.entry) }
-    {
-        if TableRef::can_cast(syntax.kind()) {
-            Some(TableRef { syntax })
-        } else {
-            None
-        }
-    }
-
-    fn syntax(&self) -> SyntaxNodeRef<'tree, Sample>
-        ensures node { node_place result ≡ node_in_table_ref self.now }
-        ensures casts { casts_at kind_of is_table (node_place result) ≡ true }
-    {
-        self.syntax
-    }
-}
-
 impl<'tree> TableRef<'tree> {
-    ghost use Rattle.std.specs.Prelude.{◌≡◌, filter, IfOk, IfErr};
+    ghost use Rattle.std.specs.Prelude.{◌≡◌, filter};
     ghost use Rattle.std.specs.List.{find};
     ghost use Rattle.std.specs.Option.{option_map};
     ghost use Rattle.rowan.specs.Moves.{children};
     ghost use Rattle.rowan.specs.Ast.{casts_at, rest_that_casts};
     ghost use Rattle.grammar_sample.specs.Kinds.{kind_of};
     ghost use Rattle.grammar_sample.specs.Casts.{is_header, is_entry};
-    ghost use Rattle.grammar_sample.specs.NodeIn.{node_in_table_ref, node_in_header_ref};
-
-    /// The same node in a wrapper that keeps the tree. Refused with `Memory` alone.
-    pub fn to_owned(&self) -> Result<Table, Fault>
-        ensures ok { IfOk result (λ owned. owned ≡ node_in_table_ref self.now) }
-        ensures err { IfErr result (λ e. e ≡ Fault.Memory) }
-    {
-        let syntax = self.syntax.to_owned()?;
-        Ok(Table { syntax })
-    }
+    ghost use Rattle.grammar_sample.specs.NodeIn.{place_in};
 
     /// The first child that is `Header`.
     pub fn header(&self) -> Option<HeaderRef<'tree>>
         ensures { let casts = casts_at kind_of is_header in
-            option_map node_in_header_ref result ≡ find casts (children (node_in_table_ref self.now)) }
+            option_map place_in result ≡ find casts (children (place_in self.now)) }
     {
         support::child_ref(self.syntax)
     }
@@ -554,7 +455,7 @@ impl<'tree> TableRef<'tree> {
     /// The children that are `Entry`, in order.
     pub fn entries(&self) -> AstNodesRef<'tree, EntryRef<'tree>>
         ensures { let casts = casts_at kind_of is_entry in
-            rest_that_casts casts result ≡ filter casts (children (node_in_table_ref self.now)) }
+            rest_that_casts casts result ≡ filter casts (children (place_in self.now)) }
     {
         support::children_ref(self.syntax)
     }
@@ -565,65 +466,10 @@ impl<'tree> TableRef<'tree> {
 /// ```text
 /// ArrayTable = ArrayHeader Entry*
 /// ```
-#[derive(Clone, PartialEq, Eq, Hash, Debug, Drop)]
-pub struct ArrayTable {
-    syntax: SyntaxNode<Sample>,
-}
+pub type ArrayTable = NodeOf<22>;
 
-impl Model for ArrayTable {
-    ghost use Rattle.std.specs.Prelude.{◌≡◌, true};
-    ghost use Rattle.rowan.specs.Cursor.{Cursor};
-    ghost use Rattle.rowan.specs.CursorCode.{coded_cursor};
-    ghost use Rattle.rowan.specs.Ast.{casts_at};
-    ghost use Rattle.grammar_sample.specs.Casts.{is_array_table};
-    ghost use Rattle.grammar_sample.specs.Kinds.{kind_of};
-
-    ghost Value = { Cursor };
-
-    ghost coded = { coded_cursor };
-
-    ghost view = { λ wrapper. wrapper.syntax };
-
-    ghost inverse = { λ node. record { syntax = node } };
-
-    ghost invariant = { λ wrapper. casts_at kind_of is_array_table wrapper.syntax ≡ true };
-}
-
-impl AstNode for ArrayTable {
-    type Language = Sample;
-
-    ghost use Rattle.std.specs.Prelude.{◌≡◌};
-    ghost use Rattle.std.specs.Option.{option_map};
-    ghost use Rattle.rowan.specs.Ast.{casts_at, if_casts};
-    ghost use Rattle.grammar_sample.specs.Casts.{is_array_table, same_kind};
-    ghost use Rattle.grammar_sample.specs.Kinds.{kind_of};
-    ghost use Rattle.std.proofs.Common.{ap};
-
-    ghost casts = { is_array_table };
-
-    ghost node_of = { λ wrapper. wrapper };
-
-    fn can_cast(kind: Kind) -> bool {
-        matches!(kind, Kind::ArrayTable)
-    }
-
-    fn cast(syntax: SyntaxNode<Sample>) -> Option<ArrayTable>
-        ensures { let casting = casts_at kind_of is_array_table in
-            option_map (λ wrapper. wrapper) result ≡ if_casts casting syntax }
-    {
-        if ArrayTable::can_cast(syntax.kind()) {
-            Some(ArrayTable { syntax })
-        } else {
-            None
-        }
-    }
-
-    fn syntax(&self) -> &SyntaxNode<Sample> {
-        &self.syntax
-    }
-
-    ghost equal_kinds = { λ a b same. ap is_array_table (same_kind a b same) };
-}
+/// [`ArrayTable`], borrowed from its tree.
+pub type ArrayTableRef<'tree> = NodeOfRef<'tree, 22>;
 
 impl ArrayTable {
     ghost use Rattle.std.specs.Prelude.{◌≡◌, IfOk, IfErr};
@@ -633,16 +479,6 @@ impl ArrayTable {
     ghost use Rattle.rowan.specs.Ast.{casts_at};
     ghost use Rattle.grammar_sample.specs.Kinds.{kind_of};
     ghost use Rattle.grammar_sample.specs.Casts.{is_array_header};
-    ghost use Rattle.grammar_sample.specs.NodeIn.{node_in_array_table_ref};
-
-    /// The same node, borrowed from its tree.
-    pub fn as_ref(&self) -> ArrayTableRef<'_>
-        ensures { node_in_array_table_ref result ≡ self.now }
-    {
-        ArrayTableRef {
-            syntax: self.syntax.as_ref(),
-        }
-    }
 
     /// The first child that is `ArrayHeader`.
     pub fn array_header(&self) -> Result<Option<ArrayHeader>, Fault>
@@ -663,77 +499,20 @@ impl ArrayTable {
     }
 }
 
-/// [`ArrayTable`], borrowed from its tree.
-#[derive(Clone, Copy, PartialEq, Eq, Hash, Debug)]
-pub struct ArrayTableRef<'tree> {
-    syntax: SyntaxNodeRef<'tree, Sample>,
-    ghost casts: { casts_at kind_of is_array_table (node_place syntax) ≡ true },
-}
-
-impl<'tree> AstNodeRef<'tree> for ArrayTableRef<'tree> {
-    type Language = Sample;
-
-    ghost use Rattle.std.specs.Prelude.{◌≡◌, true};
-    ghost use Rattle.std.specs.Option.{option_map};
-    ghost use Rattle.rowan.specs.Ast.{casts_at, if_casts};
-    ghost use Rattle.rowan.specs.Refs.{node_place};
-    ghost use Rattle.grammar_sample.specs.Casts.{is_array_table};
-    ghost use Rattle.grammar_sample.specs.Kinds.{kind_of};
-    ghost use Rattle.grammar_sample.specs.NodeIn.{node_in_array_table_ref};
-
-    ghost casts = { is_array_table };
-
-    ghost node_of = { node_in_array_table_ref };
-
-    fn can_cast(kind: Kind) -> bool
-        ensures { result ≡ is_array_table kind }
-    {
-        matches!(kind, Kind::ArrayTable)
-    }
-
-    fn cast(syntax: SyntaxNodeRef<'tree, Sample>) -> Option<ArrayTableRef<'tree>>
-        ensures { let casting = casts_at kind_of is_array_table in
-            option_map node_in_array_table_ref result ≡ if_casts casting (node_place syntax.entry) }
-    {
-        if ArrayTableRef::can_cast(syntax.kind()) {
-            Some(ArrayTableRef { syntax })
-        } else {
-            None
-        }
-    }
-
-    fn syntax(&self) -> SyntaxNodeRef<'tree, Sample>
-        ensures node { node_place result ≡ node_in_array_table_ref self.now }
-        ensures casts { casts_at kind_of is_array_table (node_place result) ≡ true }
-    {
-        self.syntax
-    }
-}
-
 impl<'tree> ArrayTableRef<'tree> {
-    ghost use Rattle.std.specs.Prelude.{◌≡◌, filter, IfOk, IfErr};
+    ghost use Rattle.std.specs.Prelude.{◌≡◌, filter};
     ghost use Rattle.std.specs.List.{find};
     ghost use Rattle.std.specs.Option.{option_map};
     ghost use Rattle.rowan.specs.Moves.{children};
     ghost use Rattle.rowan.specs.Ast.{casts_at, rest_that_casts};
     ghost use Rattle.grammar_sample.specs.Kinds.{kind_of};
     ghost use Rattle.grammar_sample.specs.Casts.{is_array_header, is_entry};
-    ghost use Rattle.grammar_sample.specs.NodeIn.{node_in_array_table_ref};
-    ghost use Rattle.grammar_sample.specs.NodeIn.{node_in_array_header_ref};
-
-    /// The same node in a wrapper that keeps the tree. Refused with `Memory` alone.
-    pub fn to_owned(&self) -> Result<ArrayTable, Fault>
-        ensures ok { IfOk result (λ owned. owned ≡ node_in_array_table_ref self.now) }
-        ensures err { IfErr result (λ e. e ≡ Fault.Memory) }
-    {
-        let syntax = self.syntax.to_owned()?;
-        Ok(ArrayTable { syntax })
-    }
+    ghost use Rattle.grammar_sample.specs.NodeIn.{place_in};
 
     /// The first child that is `ArrayHeader`.
     pub fn array_header(&self) -> Option<ArrayHeaderRef<'tree>>
         ensures { let casts = casts_at kind_of is_array_header in
-            option_map node_in_array_header_ref result ≡ find casts (children (node_in_array_table_ref self.now)) }
+            option_map place_in result ≡ find casts (children (place_in self.now)) }
     {
         support::child_ref(self.syntax)
     }
@@ -741,7 +520,7 @@ impl<'tree> ArrayTableRef<'tree> {
     /// The children that are `Entry`, in order.
     pub fn entries(&self) -> AstNodesRef<'tree, EntryRef<'tree>>
         ensures { let casts = casts_at kind_of is_entry in
-            rest_that_casts casts result ≡ filter casts (children (node_in_array_table_ref self.now)) }
+            rest_that_casts casts result ≡ filter casts (children (place_in self.now)) }
     {
         support::children_ref(self.syntax)
     }
@@ -752,65 +531,10 @@ impl<'tree> ArrayTableRef<'tree> {
 /// ```text
 /// Header = '[' Key ']'
 /// ```
-#[derive(Clone, PartialEq, Eq, Hash, Debug, Drop)]
-pub struct Header {
-    syntax: SyntaxNode<Sample>,
-}
+pub type Header = NodeOf<23>;
 
-impl Model for Header {
-    ghost use Rattle.std.specs.Prelude.{◌≡◌, true};
-    ghost use Rattle.rowan.specs.Cursor.{Cursor};
-    ghost use Rattle.rowan.specs.CursorCode.{coded_cursor};
-    ghost use Rattle.rowan.specs.Ast.{casts_at};
-    ghost use Rattle.grammar_sample.specs.Casts.{is_header};
-    ghost use Rattle.grammar_sample.specs.Kinds.{kind_of};
-
-    ghost Value = { Cursor };
-
-    ghost coded = { coded_cursor };
-
-    ghost view = { λ wrapper. wrapper.syntax };
-
-    ghost inverse = { λ node. record { syntax = node } };
-
-    ghost invariant = { λ wrapper. casts_at kind_of is_header wrapper.syntax ≡ true };
-}
-
-impl AstNode for Header {
-    type Language = Sample;
-
-    ghost use Rattle.std.specs.Prelude.{◌≡◌};
-    ghost use Rattle.std.specs.Option.{option_map};
-    ghost use Rattle.rowan.specs.Ast.{casts_at, if_casts};
-    ghost use Rattle.grammar_sample.specs.Casts.{is_header, same_kind};
-    ghost use Rattle.grammar_sample.specs.Kinds.{kind_of};
-    ghost use Rattle.std.proofs.Common.{ap};
-
-    ghost casts = { is_header };
-
-    ghost node_of = { λ wrapper. wrapper };
-
-    fn can_cast(kind: Kind) -> bool {
-        matches!(kind, Kind::Header)
-    }
-
-    fn cast(syntax: SyntaxNode<Sample>) -> Option<Header>
-        ensures { let casting = casts_at kind_of is_header in
-            option_map (λ wrapper. wrapper) result ≡ if_casts casting syntax }
-    {
-        if Header::can_cast(syntax.kind()) {
-            Some(Header { syntax })
-        } else {
-            None
-        }
-    }
-
-    fn syntax(&self) -> &SyntaxNode<Sample> {
-        &self.syntax
-    }
-
-    ghost equal_kinds = { λ a b same. ap is_header (same_kind a b same) };
-}
+/// [`Header`], borrowed from its tree.
+pub type HeaderRef<'tree> = NodeOfRef<'tree, 23>;
 
 impl Header {
     ghost use Rattle.std.specs.Prelude.{◌≡◌, IfOk, IfErr};
@@ -824,16 +548,6 @@ impl Header {
     ghost use denote.Enum.Bare.{sameb};
     ghost use Rattle.grammar_sample.specs.Kinds.{kind_of};
     ghost use Rattle.grammar_sample.specs.Casts.{is_key};
-    ghost use Rattle.grammar_sample.specs.NodeIn.{node_in_header_ref};
-
-    /// The same node, borrowed from its tree.
-    pub fn as_ref(&self) -> HeaderRef<'_>
-        ensures { node_in_header_ref result ≡ self.now }
-    {
-        HeaderRef {
-            syntax: self.syntax.as_ref(),
-        }
-    }
 
     /// The first token `LeftBracket`.
     pub fn left_bracket_token(&self) -> Result<Option<SyntaxToken<Sample>>, Fault>
@@ -866,55 +580,8 @@ impl Header {
     }
 }
 
-/// [`Header`], borrowed from its tree.
-#[derive(Clone, Copy, PartialEq, Eq, Hash, Debug)]
-pub struct HeaderRef<'tree> {
-    syntax: SyntaxNodeRef<'tree, Sample>,
-    ghost casts: { casts_at kind_of is_header (node_place syntax) ≡ true },
-}
-
-impl<'tree> AstNodeRef<'tree> for HeaderRef<'tree> {
-    type Language = Sample;
-
-    ghost use Rattle.std.specs.Prelude.{◌≡◌, true};
-    ghost use Rattle.std.specs.Option.{option_map};
-    ghost use Rattle.rowan.specs.Ast.{casts_at, if_casts};
-    ghost use Rattle.rowan.specs.Refs.{node_place};
-    ghost use Rattle.grammar_sample.specs.Casts.{is_header};
-    ghost use Rattle.grammar_sample.specs.Kinds.{kind_of};
-    ghost use Rattle.grammar_sample.specs.NodeIn.{node_in_header_ref};
-
-    ghost casts = { is_header };
-
-    ghost node_of = { node_in_header_ref };
-
-    fn can_cast(kind: Kind) -> bool
-        ensures { result ≡ is_header kind }
-    {
-        matches!(kind, Kind::Header)
-    }
-
-    fn cast(syntax: SyntaxNodeRef<'tree, Sample>) -> Option<HeaderRef<'tree>>
-        ensures { let casting = casts_at kind_of is_header in
-            option_map node_in_header_ref result ≡ if_casts casting (node_place syntax.entry) }
-    {
-        if HeaderRef::can_cast(syntax.kind()) {
-            Some(HeaderRef { syntax })
-        } else {
-            None
-        }
-    }
-
-    fn syntax(&self) -> SyntaxNodeRef<'tree, Sample>
-        ensures node { node_place result ≡ node_in_header_ref self.now }
-        ensures casts { casts_at kind_of is_header (node_place result) ≡ true }
-    {
-        self.syntax
-    }
-}
-
 impl<'tree> HeaderRef<'tree> {
-    ghost use Rattle.std.specs.Prelude.{◌≡◌, IfOk, IfErr};
+    ghost use Rattle.std.specs.Prelude.{◌≡◌};
     ghost use Rattle.std.specs.List.{find};
     ghost use Rattle.std.specs.Option.{option_map};
     ghost use Rattle.rowan.specs.Types.NodeOrToken.TheVariants.{Token};
@@ -926,22 +593,13 @@ impl<'tree> HeaderRef<'tree> {
     ghost use denote.Enum.Bare.{sameb};
     ghost use Rattle.grammar_sample.specs.Kinds.{kind_of};
     ghost use Rattle.grammar_sample.specs.Casts.{is_key};
-    ghost use Rattle.grammar_sample.specs.NodeIn.{node_in_header_ref, node_in_key_ref};
-
-    /// The same node in a wrapper that keeps the tree. Refused with `Memory` alone.
-    pub fn to_owned(&self) -> Result<Header, Fault>
-        ensures ok { IfOk result (λ owned. owned ≡ node_in_header_ref self.now) }
-        ensures err { IfErr result (λ e. e ≡ Fault.Memory) }
-    {
-        let syntax = self.syntax.to_owned()?;
-        Ok(Header { syntax })
-    }
+    ghost use Rattle.grammar_sample.specs.NodeIn.{place_in};
 
     /// The first token `LeftBracket`.
     pub fn left_bracket_token(&self) -> Option<SyntaxTokenRef<'tree, Sample>>
         ensures { let means = means_kind kind_of (sameb the_type) Kind.LeftBracket in
             option_map Token (option_map token_place result)
-            ≡ find (is_token_of means) (children_with_tokens (node_in_header_ref self.now)) }
+            ≡ find (is_token_of means) (children_with_tokens (place_in self.now)) }
     {
         support::token_of(self.syntax, Kind::LeftBracket)
     }
@@ -949,7 +607,7 @@ impl<'tree> HeaderRef<'tree> {
     /// The first child that is `Key`.
     pub fn key(&self) -> Option<KeyRef<'tree>>
         ensures { let casts = casts_at kind_of is_key in
-            option_map node_in_key_ref result ≡ find casts (children (node_in_header_ref self.now)) }
+            option_map place_in result ≡ find casts (children (place_in self.now)) }
     {
         support::child_ref(self.syntax)
     }
@@ -958,7 +616,7 @@ impl<'tree> HeaderRef<'tree> {
     pub fn right_bracket_token(&self) -> Option<SyntaxTokenRef<'tree, Sample>>
         ensures { let means = means_kind kind_of (sameb the_type) Kind.RightBracket in
             option_map Token (option_map token_place result)
-            ≡ find (is_token_of means) (children_with_tokens (node_in_header_ref self.now)) }
+            ≡ find (is_token_of means) (children_with_tokens (place_in self.now)) }
     {
         support::token_of(self.syntax, Kind::RightBracket)
     }
@@ -969,65 +627,10 @@ impl<'tree> HeaderRef<'tree> {
 /// ```text
 /// ArrayHeader = '[' '[' Key ']' ']'
 /// ```
-#[derive(Clone, PartialEq, Eq, Hash, Debug, Drop)]
-pub struct ArrayHeader {
-    syntax: SyntaxNode<Sample>,
-}
+pub type ArrayHeader = NodeOf<24>;
 
-impl Model for ArrayHeader {
-    ghost use Rattle.std.specs.Prelude.{◌≡◌, true};
-    ghost use Rattle.rowan.specs.Cursor.{Cursor};
-    ghost use Rattle.rowan.specs.CursorCode.{coded_cursor};
-    ghost use Rattle.rowan.specs.Ast.{casts_at};
-    ghost use Rattle.grammar_sample.specs.Casts.{is_array_header};
-    ghost use Rattle.grammar_sample.specs.Kinds.{kind_of};
-
-    ghost Value = { Cursor };
-
-    ghost coded = { coded_cursor };
-
-    ghost view = { λ wrapper. wrapper.syntax };
-
-    ghost inverse = { λ node. record { syntax = node } };
-
-    ghost invariant = { λ wrapper. casts_at kind_of is_array_header wrapper.syntax ≡ true };
-}
-
-impl AstNode for ArrayHeader {
-    type Language = Sample;
-
-    ghost use Rattle.std.specs.Prelude.{◌≡◌};
-    ghost use Rattle.std.specs.Option.{option_map};
-    ghost use Rattle.rowan.specs.Ast.{casts_at, if_casts};
-    ghost use Rattle.grammar_sample.specs.Casts.{is_array_header, same_kind};
-    ghost use Rattle.grammar_sample.specs.Kinds.{kind_of};
-    ghost use Rattle.std.proofs.Common.{ap};
-
-    ghost casts = { is_array_header };
-
-    ghost node_of = { λ wrapper. wrapper };
-
-    fn can_cast(kind: Kind) -> bool {
-        matches!(kind, Kind::ArrayHeader)
-    }
-
-    fn cast(syntax: SyntaxNode<Sample>) -> Option<ArrayHeader>
-        ensures { let casting = casts_at kind_of is_array_header in
-            option_map (λ wrapper. wrapper) result ≡ if_casts casting syntax }
-    {
-        if ArrayHeader::can_cast(syntax.kind()) {
-            Some(ArrayHeader { syntax })
-        } else {
-            None
-        }
-    }
-
-    fn syntax(&self) -> &SyntaxNode<Sample> {
-        &self.syntax
-    }
-
-    ghost equal_kinds = { λ a b same. ap is_array_header (same_kind a b same) };
-}
+/// [`ArrayHeader`], borrowed from its tree.
+pub type ArrayHeaderRef<'tree> = NodeOfRef<'tree, 24>;
 
 impl ArrayHeader {
     ghost use Rattle.std.specs.Prelude.{◌≡◌, IfOk, IfErr};
@@ -1037,16 +640,6 @@ impl ArrayHeader {
     ghost use Rattle.rowan.specs.Ast.{casts_at};
     ghost use Rattle.grammar_sample.specs.Kinds.{kind_of};
     ghost use Rattle.grammar_sample.specs.Casts.{is_key};
-    ghost use Rattle.grammar_sample.specs.NodeIn.{node_in_array_header_ref};
-
-    /// The same node, borrowed from its tree.
-    pub fn as_ref(&self) -> ArrayHeaderRef<'_>
-        ensures { node_in_array_header_ref result ≡ self.now }
-    {
-        ArrayHeaderRef {
-            syntax: self.syntax.as_ref(),
-        }
-    }
 
     /// The first child that is `Key`.
     pub fn key(&self) -> Result<Option<Key>, Fault>
@@ -1059,76 +652,20 @@ impl ArrayHeader {
     }
 }
 
-/// [`ArrayHeader`], borrowed from its tree.
-#[derive(Clone, Copy, PartialEq, Eq, Hash, Debug)]
-pub struct ArrayHeaderRef<'tree> {
-    syntax: SyntaxNodeRef<'tree, Sample>,
-    ghost casts: { casts_at kind_of is_array_header (node_place syntax) ≡ true },
-}
-
-impl<'tree> AstNodeRef<'tree> for ArrayHeaderRef<'tree> {
-    type Language = Sample;
-
-    ghost use Rattle.std.specs.Prelude.{◌≡◌, true};
-    ghost use Rattle.std.specs.Option.{option_map};
-    ghost use Rattle.rowan.specs.Ast.{casts_at, if_casts};
-    ghost use Rattle.rowan.specs.Refs.{node_place};
-    ghost use Rattle.grammar_sample.specs.Casts.{is_array_header};
-    ghost use Rattle.grammar_sample.specs.Kinds.{kind_of};
-    ghost use Rattle.grammar_sample.specs.NodeIn.{node_in_array_header_ref};
-
-    ghost casts = { is_array_header };
-
-    ghost node_of = { node_in_array_header_ref };
-
-    fn can_cast(kind: Kind) -> bool
-        ensures { result ≡ is_array_header kind }
-    {
-        matches!(kind, Kind::ArrayHeader)
-    }
-
-    fn cast(syntax: SyntaxNodeRef<'tree, Sample>) -> Option<ArrayHeaderRef<'tree>>
-        ensures { let casting = casts_at kind_of is_array_header in
-            option_map node_in_array_header_ref result ≡ if_casts casting (node_place syntax.entry) }
-    {
-        if ArrayHeaderRef::can_cast(syntax.kind()) {
-            Some(ArrayHeaderRef { syntax })
-        } else {
-            None
-        }
-    }
-
-    fn syntax(&self) -> SyntaxNodeRef<'tree, Sample>
-        ensures node { node_place result ≡ node_in_array_header_ref self.now }
-        ensures casts { casts_at kind_of is_array_header (node_place result) ≡ true }
-    {
-        self.syntax
-    }
-}
-
 impl<'tree> ArrayHeaderRef<'tree> {
-    ghost use Rattle.std.specs.Prelude.{◌≡◌, IfOk, IfErr};
+    ghost use Rattle.std.specs.Prelude.{◌≡◌};
     ghost use Rattle.std.specs.List.{find};
     ghost use Rattle.std.specs.Option.{option_map};
     ghost use Rattle.rowan.specs.Moves.{children};
     ghost use Rattle.rowan.specs.Ast.{casts_at};
     ghost use Rattle.grammar_sample.specs.Kinds.{kind_of};
     ghost use Rattle.grammar_sample.specs.Casts.{is_key};
-    ghost use Rattle.grammar_sample.specs.NodeIn.{node_in_array_header_ref, node_in_key_ref};
-
-    /// The same node in a wrapper that keeps the tree. Refused with `Memory` alone.
-    pub fn to_owned(&self) -> Result<ArrayHeader, Fault>
-        ensures ok { IfOk result (λ owned. owned ≡ node_in_array_header_ref self.now) }
-        ensures err { IfErr result (λ e. e ≡ Fault.Memory) }
-    {
-        let syntax = self.syntax.to_owned()?;
-        Ok(ArrayHeader { syntax })
-    }
+    ghost use Rattle.grammar_sample.specs.NodeIn.{place_in};
 
     /// The first child that is `Key`.
     pub fn key(&self) -> Option<KeyRef<'tree>>
         ensures { let casts = casts_at kind_of is_key in
-            option_map node_in_key_ref result ≡ find casts (children (node_in_array_header_ref self.now)) }
+            option_map place_in result ≡ find casts (children (place_in self.now)) }
     {
         support::child_ref(self.syntax)
     }
@@ -1139,65 +676,10 @@ impl<'tree> ArrayHeaderRef<'tree> {
 /// ```text
 /// Entry = Key '=' Value Note?
 /// ```
-#[derive(Clone, PartialEq, Eq, Hash, Debug, Drop)]
-pub struct Entry {
-    syntax: SyntaxNode<Sample>,
-}
+pub type Entry = NodeOf<25>;
 
-impl Model for Entry {
-    ghost use Rattle.std.specs.Prelude.{◌≡◌, true};
-    ghost use Rattle.rowan.specs.Cursor.{Cursor};
-    ghost use Rattle.rowan.specs.CursorCode.{coded_cursor};
-    ghost use Rattle.rowan.specs.Ast.{casts_at};
-    ghost use Rattle.grammar_sample.specs.Casts.{is_entry};
-    ghost use Rattle.grammar_sample.specs.Kinds.{kind_of};
-
-    ghost Value = { Cursor };
-
-    ghost coded = { coded_cursor };
-
-    ghost view = { λ wrapper. wrapper.syntax };
-
-    ghost inverse = { λ node. record { syntax = node } };
-
-    ghost invariant = { λ wrapper. casts_at kind_of is_entry wrapper.syntax ≡ true };
-}
-
-impl AstNode for Entry {
-    type Language = Sample;
-
-    ghost use Rattle.std.specs.Prelude.{◌≡◌};
-    ghost use Rattle.std.specs.Option.{option_map};
-    ghost use Rattle.rowan.specs.Ast.{casts_at, if_casts};
-    ghost use Rattle.grammar_sample.specs.Casts.{is_entry, same_kind};
-    ghost use Rattle.grammar_sample.specs.Kinds.{kind_of};
-    ghost use Rattle.std.proofs.Common.{ap};
-
-    ghost casts = { is_entry };
-
-    ghost node_of = { λ wrapper. wrapper };
-
-    fn can_cast(kind: Kind) -> bool {
-        matches!(kind, Kind::Entry)
-    }
-
-    fn cast(syntax: SyntaxNode<Sample>) -> Option<Entry>
-        ensures { let casting = casts_at kind_of is_entry in
-            option_map (λ wrapper. wrapper) result ≡ if_casts casting syntax }
-    {
-        if Entry::can_cast(syntax.kind()) {
-            Some(Entry { syntax })
-        } else {
-            None
-        }
-    }
-
-    fn syntax(&self) -> &SyntaxNode<Sample> {
-        &self.syntax
-    }
-
-    ghost equal_kinds = { λ a b same. ap is_entry (same_kind a b same) };
-}
+/// [`Entry`], borrowed from its tree.
+pub type EntryRef<'tree> = NodeOfRef<'tree, 25>;
 
 impl Entry {
     ghost use Rattle.std.specs.Prelude.{◌≡◌, IfOk, IfErr};
@@ -1211,16 +693,7 @@ impl Entry {
     ghost use denote.Enum.Bare.{sameb};
     ghost use Rattle.grammar_sample.specs.Kinds.{kind_of};
     ghost use Rattle.grammar_sample.specs.Casts.{is_key, is_value, is_note};
-    ghost use Rattle.grammar_sample.specs.NodeIn.{node_in_entry_ref, node_in_value};
-
-    /// The same node, borrowed from its tree.
-    pub fn as_ref(&self) -> EntryRef<'_>
-        ensures { node_in_entry_ref result ≡ self.now }
-    {
-        EntryRef {
-            syntax: self.syntax.as_ref(),
-        }
-    }
+    ghost use Rattle.grammar_sample.specs.NodeIn.{node_in_value};
 
     /// The first child that is `Key`.
     pub fn key(&self) -> Result<Option<Key>, Fault>
@@ -1263,55 +736,8 @@ impl Entry {
     }
 }
 
-/// [`Entry`], borrowed from its tree.
-#[derive(Clone, Copy, PartialEq, Eq, Hash, Debug)]
-pub struct EntryRef<'tree> {
-    syntax: SyntaxNodeRef<'tree, Sample>,
-    ghost casts: { casts_at kind_of is_entry (node_place syntax) ≡ true },
-}
-
-impl<'tree> AstNodeRef<'tree> for EntryRef<'tree> {
-    type Language = Sample;
-
-    ghost use Rattle.std.specs.Prelude.{◌≡◌, true};
-    ghost use Rattle.std.specs.Option.{option_map};
-    ghost use Rattle.rowan.specs.Ast.{casts_at, if_casts};
-    ghost use Rattle.rowan.specs.Refs.{node_place};
-    ghost use Rattle.grammar_sample.specs.Casts.{is_entry};
-    ghost use Rattle.grammar_sample.specs.Kinds.{kind_of};
-    ghost use Rattle.grammar_sample.specs.NodeIn.{node_in_entry_ref};
-
-    ghost casts = { is_entry };
-
-    ghost node_of = { node_in_entry_ref };
-
-    fn can_cast(kind: Kind) -> bool
-        ensures { result ≡ is_entry kind }
-    {
-        matches!(kind, Kind::Entry)
-    }
-
-    fn cast(syntax: SyntaxNodeRef<'tree, Sample>) -> Option<EntryRef<'tree>>
-        ensures { let casting = casts_at kind_of is_entry in
-            option_map node_in_entry_ref result ≡ if_casts casting (node_place syntax.entry) }
-    {
-        if EntryRef::can_cast(syntax.kind()) {
-            Some(EntryRef { syntax })
-        } else {
-            None
-        }
-    }
-
-    fn syntax(&self) -> SyntaxNodeRef<'tree, Sample>
-        ensures node { node_place result ≡ node_in_entry_ref self.now }
-        ensures casts { casts_at kind_of is_entry (node_place result) ≡ true }
-    {
-        self.syntax
-    }
-}
-
 impl<'tree> EntryRef<'tree> {
-    ghost use Rattle.std.specs.Prelude.{◌≡◌, IfOk, IfErr};
+    ghost use Rattle.std.specs.Prelude.{◌≡◌};
     ghost use Rattle.std.specs.List.{find};
     ghost use Rattle.std.specs.Option.{option_map};
     ghost use Rattle.rowan.specs.Types.NodeOrToken.TheVariants.{Token};
@@ -1323,22 +749,12 @@ impl<'tree> EntryRef<'tree> {
     ghost use denote.Enum.Bare.{sameb};
     ghost use Rattle.grammar_sample.specs.Kinds.{kind_of};
     ghost use Rattle.grammar_sample.specs.Casts.{is_key, is_value, is_note};
-    ghost use Rattle.grammar_sample.specs.NodeIn.{node_in_entry_ref, node_in_key_ref};
-    ghost use Rattle.grammar_sample.specs.NodeIn.{node_in_value_ref, node_in_note_ref};
-
-    /// The same node in a wrapper that keeps the tree. Refused with `Memory` alone.
-    pub fn to_owned(&self) -> Result<Entry, Fault>
-        ensures ok { IfOk result (λ owned. owned ≡ node_in_entry_ref self.now) }
-        ensures err { IfErr result (λ e. e ≡ Fault.Memory) }
-    {
-        let syntax = self.syntax.to_owned()?;
-        Ok(Entry { syntax })
-    }
+    ghost use Rattle.grammar_sample.specs.NodeIn.{place_in, place_in_value};
 
     /// The first child that is `Key`.
     pub fn key(&self) -> Option<KeyRef<'tree>>
         ensures { let casts = casts_at kind_of is_key in
-            option_map node_in_key_ref result ≡ find casts (children (node_in_entry_ref self.now)) }
+            option_map place_in result ≡ find casts (children (place_in self.now)) }
     {
         support::child_ref(self.syntax)
     }
@@ -1347,7 +763,7 @@ impl<'tree> EntryRef<'tree> {
     pub fn equals_token(&self) -> Option<SyntaxTokenRef<'tree, Sample>>
         ensures { let means = means_kind kind_of (sameb the_type) Kind.Equals in
             option_map Token (option_map token_place result)
-            ≡ find (is_token_of means) (children_with_tokens (node_in_entry_ref self.now)) }
+            ≡ find (is_token_of means) (children_with_tokens (place_in self.now)) }
     {
         support::token_of(self.syntax, Kind::Equals)
     }
@@ -1355,7 +771,7 @@ impl<'tree> EntryRef<'tree> {
     /// The first child that is `Value`.
     pub fn value(&self) -> Option<ValueRef<'tree>>
         ensures { let casts = casts_at kind_of is_value in
-            option_map node_in_value_ref result ≡ find casts (children (node_in_entry_ref self.now)) }
+            option_map place_in_value result ≡ find casts (children (place_in self.now)) }
     {
         support::child_ref(self.syntax)
     }
@@ -1363,7 +779,7 @@ impl<'tree> EntryRef<'tree> {
     /// The first child that is `Note`.
     pub fn note(&self) -> Option<NoteRef<'tree>>
         ensures { let casts = casts_at kind_of is_note in
-            option_map node_in_note_ref result ≡ find casts (children (node_in_entry_ref self.now)) }
+            option_map place_in result ≡ find casts (children (place_in self.now)) }
     {
         support::child_ref(self.syntax)
     }
@@ -1374,79 +790,14 @@ impl<'tree> EntryRef<'tree> {
 /// ```text
 /// Key = KeyPart ('.' KeyPart)*
 /// ```
-#[derive(Clone, PartialEq, Eq, Hash, Debug, Drop)]
-pub struct Key {
-    syntax: SyntaxNode<Sample>,
-}
+pub type Key = NodeOf<26>;
 
-impl Model for Key {
-    ghost use Rattle.std.specs.Prelude.{◌≡◌, true};
-    ghost use Rattle.rowan.specs.Cursor.{Cursor};
-    ghost use Rattle.rowan.specs.CursorCode.{coded_cursor};
-    ghost use Rattle.rowan.specs.Ast.{casts_at};
-    ghost use Rattle.grammar_sample.specs.Casts.{is_key};
-    ghost use Rattle.grammar_sample.specs.Kinds.{kind_of};
-
-    ghost Value = { Cursor };
-
-    ghost coded = { coded_cursor };
-
-    ghost view = { λ wrapper. wrapper.syntax };
-
-    ghost inverse = { λ node. record { syntax = node } };
-
-    ghost invariant = { λ wrapper. casts_at kind_of is_key wrapper.syntax ≡ true };
-}
-
-impl AstNode for Key {
-    type Language = Sample;
-
-    ghost use Rattle.std.specs.Prelude.{◌≡◌};
-    ghost use Rattle.std.specs.Option.{option_map};
-    ghost use Rattle.rowan.specs.Ast.{casts_at, if_casts};
-    ghost use Rattle.grammar_sample.specs.Casts.{is_key, same_kind};
-    ghost use Rattle.grammar_sample.specs.Kinds.{kind_of};
-    ghost use Rattle.std.proofs.Common.{ap};
-
-    ghost casts = { is_key };
-
-    ghost node_of = { λ wrapper. wrapper };
-
-    fn can_cast(kind: Kind) -> bool {
-        matches!(kind, Kind::Key)
-    }
-
-    fn cast(syntax: SyntaxNode<Sample>) -> Option<Key>
-        ensures { let casting = casts_at kind_of is_key in
-            option_map (λ wrapper. wrapper) result ≡ if_casts casting syntax }
-    {
-        if Key::can_cast(syntax.kind()) {
-            Some(Key { syntax })
-        } else {
-            None
-        }
-    }
-
-    fn syntax(&self) -> &SyntaxNode<Sample> {
-        &self.syntax
-    }
-
-    ghost equal_kinds = { λ a b same. ap is_key (same_kind a b same) };
-}
+/// [`Key`], borrowed from its tree.
+pub type KeyRef<'tree> = NodeOfRef<'tree, 26>;
 
 impl Key {
     ghost use Rattle.std.specs.Prelude.{◌≡◌, IfOk, IfErr};
     ghost use Rattle.rowan.specs.Moves.{children};
-    ghost use Rattle.grammar_sample.specs.NodeIn.{node_in_key_ref};
-
-    /// The same node, borrowed from its tree.
-    pub fn as_ref(&self) -> KeyRef<'_>
-        ensures { node_in_key_ref result ≡ self.now }
-    {
-        KeyRef {
-            syntax: self.syntax.as_ref(),
-        }
-    }
 
     /// The children that are `KeyPart`, in order.
     pub fn key_parts(&self) -> AstChildren<KeyPart>
@@ -1457,74 +808,18 @@ impl Key {
     }
 }
 
-/// [`Key`], borrowed from its tree.
-#[derive(Clone, Copy, PartialEq, Eq, Hash, Debug)]
-pub struct KeyRef<'tree> {
-    syntax: SyntaxNodeRef<'tree, Sample>,
-    ghost casts: { casts_at kind_of is_key (node_place syntax) ≡ true },
-}
-
-impl<'tree> AstNodeRef<'tree> for KeyRef<'tree> {
-    type Language = Sample;
-
-    ghost use Rattle.std.specs.Prelude.{◌≡◌, true};
-    ghost use Rattle.std.specs.Option.{option_map};
-    ghost use Rattle.rowan.specs.Ast.{casts_at, if_casts};
-    ghost use Rattle.rowan.specs.Refs.{node_place};
-    ghost use Rattle.grammar_sample.specs.Casts.{is_key};
-    ghost use Rattle.grammar_sample.specs.Kinds.{kind_of};
-    ghost use Rattle.grammar_sample.specs.NodeIn.{node_in_key_ref};
-
-    ghost casts = { is_key };
-
-    ghost node_of = { node_in_key_ref };
-
-    fn can_cast(kind: Kind) -> bool
-        ensures { result ≡ is_key kind }
-    {
-        matches!(kind, Kind::Key)
-    }
-
-    fn cast(syntax: SyntaxNodeRef<'tree, Sample>) -> Option<KeyRef<'tree>>
-        ensures { let casting = casts_at kind_of is_key in
-            option_map node_in_key_ref result ≡ if_casts casting (node_place syntax.entry) }
-    {
-        if KeyRef::can_cast(syntax.kind()) {
-            Some(KeyRef { syntax })
-        } else {
-            None
-        }
-    }
-
-    fn syntax(&self) -> SyntaxNodeRef<'tree, Sample>
-        ensures node { node_place result ≡ node_in_key_ref self.now }
-        ensures casts { casts_at kind_of is_key (node_place result) ≡ true }
-    {
-        self.syntax
-    }
-}
-
 impl<'tree> KeyRef<'tree> {
-    ghost use Rattle.std.specs.Prelude.{◌≡◌, filter, IfOk, IfErr};
+    ghost use Rattle.std.specs.Prelude.{◌≡◌, filter};
     ghost use Rattle.rowan.specs.Moves.{children};
     ghost use Rattle.rowan.specs.Ast.{casts_at, rest_that_casts};
     ghost use Rattle.grammar_sample.specs.Kinds.{kind_of};
     ghost use Rattle.grammar_sample.specs.Casts.{is_key_part};
-    ghost use Rattle.grammar_sample.specs.NodeIn.{node_in_key_ref};
-
-    /// The same node in a wrapper that keeps the tree. Refused with `Memory` alone.
-    pub fn to_owned(&self) -> Result<Key, Fault>
-        ensures ok { IfOk result (λ owned. owned ≡ node_in_key_ref self.now) }
-        ensures err { IfErr result (λ e. e ≡ Fault.Memory) }
-    {
-        let syntax = self.syntax.to_owned()?;
-        Ok(Key { syntax })
-    }
+    ghost use Rattle.grammar_sample.specs.NodeIn.{place_in};
 
     /// The children that are `KeyPart`, in order.
     pub fn key_parts(&self) -> AstNodesRef<'tree, KeyPartRef<'tree>>
         ensures { let casts = casts_at kind_of is_key_part in
-            rest_that_casts casts result ≡ filter casts (children (node_in_key_ref self.now)) }
+            rest_that_casts casts result ≡ filter casts (children (place_in self.now)) }
     {
         support::children_ref(self.syntax)
     }
@@ -1571,8 +866,8 @@ impl AstNode for KeyPart {
             option_map node_in_key_part result ≡ if_casts casting syntax }
     {
         match syntax.kind() {
-            Kind::BareKey => Some(KeyPart::BareKey(BareKey { syntax })),
-            Kind::QuotedKey => Some(KeyPart::QuotedKey(QuotedKey { syntax })),
+            Kind::BareKey => Some(KeyPart::BareKey(NodeOf { syntax })),
+            Kind::QuotedKey => Some(KeyPart::QuotedKey(NodeOf { syntax })),
             _ => None,
         }
     }
@@ -1590,11 +885,11 @@ impl AstNode for KeyPart {
 
 impl KeyPart {
     ghost use Rattle.std.specs.Prelude.{◌≡◌};
-    ghost use Rattle.grammar_sample.specs.NodeIn.{node_in_key_part, node_in_key_part_ref};
+    ghost use Rattle.grammar_sample.specs.NodeIn.{node_in_key_part, place_in_key_part};
 
     /// The same node, borrowed from its tree.
     pub fn as_ref(&self) -> KeyPartRef<'_>
-        ensures { node_in_key_part_ref result ≡ node_in_key_part self.now }
+        ensures { place_in_key_part result ≡ node_in_key_part self.now }
     {
         KeyPartRef::cast(self.syntax().as_ref()).unwrap()
     }
@@ -1618,11 +913,11 @@ impl<'tree> AstNodeRef<'tree> for KeyPartRef<'tree> {
     ghost use Rattle.rowan.specs.Refs.{node_place};
     ghost use Rattle.grammar_sample.specs.Casts.{is_key_part};
     ghost use Rattle.grammar_sample.specs.Kinds.{kind_of};
-    ghost use Rattle.grammar_sample.specs.NodeIn.{node_in_key_part_ref};
+    ghost use Rattle.grammar_sample.specs.NodeIn.{place_in_key_part};
 
     ghost casts = { is_key_part };
 
-    ghost node_of = { node_in_key_part_ref };
+    ghost node_of = { place_in_key_part };
 
     fn can_cast(kind: Kind) -> bool
         ensures { result ≡ is_key_part kind }
@@ -1632,18 +927,18 @@ impl<'tree> AstNodeRef<'tree> for KeyPartRef<'tree> {
 
     fn cast(syntax: SyntaxNodeRef<'tree, Sample>) -> Option<KeyPartRef<'tree>>
         ensures { let casting = casts_at kind_of is_key_part in
-            option_map node_in_key_part_ref result ≡ if_casts casting (node_place syntax.entry) }
+            option_map place_in_key_part result ≡ if_casts casting (node_place syntax.entry) }
     {
         match syntax.kind() {
-            Kind::BareKey => Some(KeyPartRef::BareKey(BareKeyRef { syntax })),
-            Kind::QuotedKey => Some(KeyPartRef::QuotedKey(QuotedKeyRef { syntax })),
+            Kind::BareKey => Some(KeyPartRef::BareKey(NodeOfRef { syntax })),
+            Kind::QuotedKey => Some(KeyPartRef::QuotedKey(NodeOfRef { syntax })),
             _ => None,
         }
     }
 
     #[tactic(auto, using(crate::proofs::CastLemmas::bare_key_is_key_part_raw, crate::proofs::CastLemmas::quoted_key_is_key_part_raw))]
     fn syntax(&self) -> SyntaxNodeRef<'tree, Sample>
-        ensures node { node_place result ≡ node_in_key_part_ref self.now }
+        ensures node { node_place result ≡ place_in_key_part self.now }
         ensures casts { casts_at kind_of is_key_part (node_place result) ≡ true }
     {
         match self {
@@ -1655,11 +950,11 @@ impl<'tree> AstNodeRef<'tree> for KeyPartRef<'tree> {
 
 impl<'tree> KeyPartRef<'tree> {
     ghost use Rattle.std.specs.Prelude.{◌≡◌, IfOk, IfErr};
-    ghost use Rattle.grammar_sample.specs.NodeIn.{node_in_key_part, node_in_key_part_ref};
+    ghost use Rattle.grammar_sample.specs.NodeIn.{node_in_key_part, place_in_key_part};
 
     /// The same node in a wrapper that keeps the tree. Refused with `Memory` alone.
     pub fn to_owned(&self) -> Result<KeyPart, Fault>
-        ensures ok { IfOk result (λ owned. node_in_key_part owned ≡ node_in_key_part_ref self.now) }
+        ensures ok { IfOk result (λ owned. node_in_key_part owned ≡ place_in_key_part self.now) }
         ensures err { IfErr result (λ e. e ≡ Fault.Memory) }
     {
         let syntax = self.syntax().to_owned()?;
@@ -1680,9 +975,9 @@ impl From<BareKey> for KeyPart {
 
 impl<'tree> From<BareKeyRef<'tree>> for KeyPartRef<'tree> {
     ghost use Rattle.std.specs.Prelude.{◌≡◌};
-    ghost use Rattle.grammar_sample.specs.NodeIn.{node_in_key_part_ref, node_in_bare_key_ref};
+    ghost use Rattle.grammar_sample.specs.NodeIn.{place_in_key_part, place_in};
 
-    ghost from_gives = { λ node whole. node_in_key_part_ref whole ≡ node_in_bare_key_ref node };
+    ghost from_gives = { λ node whole. place_in_key_part whole ≡ place_in node };
 
     fn from(node: BareKeyRef<'tree>) -> KeyPartRef<'tree> {
         KeyPartRef::BareKey(node)
@@ -1702,9 +997,9 @@ impl From<QuotedKey> for KeyPart {
 
 impl<'tree> From<QuotedKeyRef<'tree>> for KeyPartRef<'tree> {
     ghost use Rattle.std.specs.Prelude.{◌≡◌};
-    ghost use Rattle.grammar_sample.specs.NodeIn.{node_in_key_part_ref, node_in_quoted_key_ref};
+    ghost use Rattle.grammar_sample.specs.NodeIn.{place_in_key_part, place_in};
 
-    ghost from_gives = { λ node whole. node_in_key_part_ref whole ≡ node_in_quoted_key_ref node };
+    ghost from_gives = { λ node whole. place_in_key_part whole ≡ place_in node };
 
     fn from(node: QuotedKeyRef<'tree>) -> KeyPartRef<'tree> {
         KeyPartRef::QuotedKey(node)
@@ -1716,65 +1011,10 @@ impl<'tree> From<QuotedKeyRef<'tree>> for KeyPartRef<'tree> {
 /// ```text
 /// BareKey = Name
 /// ```
-#[derive(Clone, PartialEq, Eq, Hash, Debug, Drop)]
-pub struct BareKey {
-    syntax: SyntaxNode<Sample>,
-}
+pub type BareKey = NodeOf<27>;
 
-impl Model for BareKey {
-    ghost use Rattle.std.specs.Prelude.{◌≡◌, true};
-    ghost use Rattle.rowan.specs.Cursor.{Cursor};
-    ghost use Rattle.rowan.specs.CursorCode.{coded_cursor};
-    ghost use Rattle.rowan.specs.Ast.{casts_at};
-    ghost use Rattle.grammar_sample.specs.Casts.{is_bare_key};
-    ghost use Rattle.grammar_sample.specs.Kinds.{kind_of};
-
-    ghost Value = { Cursor };
-
-    ghost coded = { coded_cursor };
-
-    ghost view = { λ wrapper. wrapper.syntax };
-
-    ghost inverse = { λ node. record { syntax = node } };
-
-    ghost invariant = { λ wrapper. casts_at kind_of is_bare_key wrapper.syntax ≡ true };
-}
-
-impl AstNode for BareKey {
-    type Language = Sample;
-
-    ghost use Rattle.std.specs.Prelude.{◌≡◌};
-    ghost use Rattle.std.specs.Option.{option_map};
-    ghost use Rattle.rowan.specs.Ast.{casts_at, if_casts};
-    ghost use Rattle.grammar_sample.specs.Casts.{is_bare_key, same_kind};
-    ghost use Rattle.grammar_sample.specs.Kinds.{kind_of};
-    ghost use Rattle.std.proofs.Common.{ap};
-
-    ghost casts = { is_bare_key };
-
-    ghost node_of = { λ wrapper. wrapper };
-
-    fn can_cast(kind: Kind) -> bool {
-        matches!(kind, Kind::BareKey)
-    }
-
-    fn cast(syntax: SyntaxNode<Sample>) -> Option<BareKey>
-        ensures { let casting = casts_at kind_of is_bare_key in
-            option_map (λ wrapper. wrapper) result ≡ if_casts casting syntax }
-    {
-        if BareKey::can_cast(syntax.kind()) {
-            Some(BareKey { syntax })
-        } else {
-            None
-        }
-    }
-
-    fn syntax(&self) -> &SyntaxNode<Sample> {
-        &self.syntax
-    }
-
-    ghost equal_kinds = { λ a b same. ap is_bare_key (same_kind a b same) };
-}
+/// [`BareKey`], borrowed from its tree.
+pub type BareKeyRef<'tree> = NodeOfRef<'tree, 27>;
 
 impl BareKey {
     ghost use Rattle.std.specs.Prelude.{◌≡◌, IfOk, IfErr};
@@ -1787,16 +1027,6 @@ impl BareKey {
     ghost use Rattle.grammar_sample.specs.contracts.kinds.Kind.{the_type};
     ghost use denote.Enum.Bare.{sameb};
     ghost use Rattle.grammar_sample.specs.Kinds.{kind_of};
-    ghost use Rattle.grammar_sample.specs.NodeIn.{node_in_bare_key_ref};
-
-    /// The same node, borrowed from its tree.
-    pub fn as_ref(&self) -> BareKeyRef<'_>
-        ensures { node_in_bare_key_ref result ≡ self.now }
-    {
-        BareKeyRef {
-            syntax: self.syntax.as_ref(),
-        }
-    }
 
     /// The first token `Name`.
     pub fn name_token(&self) -> Result<Option<SyntaxToken<Sample>>, Fault>
@@ -1809,55 +1039,8 @@ impl BareKey {
     }
 }
 
-/// [`BareKey`], borrowed from its tree.
-#[derive(Clone, Copy, PartialEq, Eq, Hash, Debug)]
-pub struct BareKeyRef<'tree> {
-    syntax: SyntaxNodeRef<'tree, Sample>,
-    ghost casts: { casts_at kind_of is_bare_key (node_place syntax) ≡ true },
-}
-
-impl<'tree> AstNodeRef<'tree> for BareKeyRef<'tree> {
-    type Language = Sample;
-
-    ghost use Rattle.std.specs.Prelude.{◌≡◌, true};
-    ghost use Rattle.std.specs.Option.{option_map};
-    ghost use Rattle.rowan.specs.Ast.{casts_at, if_casts};
-    ghost use Rattle.rowan.specs.Refs.{node_place};
-    ghost use Rattle.grammar_sample.specs.Casts.{is_bare_key};
-    ghost use Rattle.grammar_sample.specs.Kinds.{kind_of};
-    ghost use Rattle.grammar_sample.specs.NodeIn.{node_in_bare_key_ref};
-
-    ghost casts = { is_bare_key };
-
-    ghost node_of = { node_in_bare_key_ref };
-
-    fn can_cast(kind: Kind) -> bool
-        ensures { result ≡ is_bare_key kind }
-    {
-        matches!(kind, Kind::BareKey)
-    }
-
-    fn cast(syntax: SyntaxNodeRef<'tree, Sample>) -> Option<BareKeyRef<'tree>>
-        ensures { let casting = casts_at kind_of is_bare_key in
-            option_map node_in_bare_key_ref result ≡ if_casts casting (node_place syntax.entry) }
-    {
-        if BareKeyRef::can_cast(syntax.kind()) {
-            Some(BareKeyRef { syntax })
-        } else {
-            None
-        }
-    }
-
-    fn syntax(&self) -> SyntaxNodeRef<'tree, Sample>
-        ensures node { node_place result ≡ node_in_bare_key_ref self.now }
-        ensures casts { casts_at kind_of is_bare_key (node_place result) ≡ true }
-    {
-        self.syntax
-    }
-}
-
 impl<'tree> BareKeyRef<'tree> {
-    ghost use Rattle.std.specs.Prelude.{◌≡◌, IfOk, IfErr};
+    ghost use Rattle.std.specs.Prelude.{◌≡◌};
     ghost use Rattle.std.specs.List.{find};
     ghost use Rattle.std.specs.Option.{option_map};
     ghost use Rattle.rowan.specs.Types.NodeOrToken.TheVariants.{Token};
@@ -1868,22 +1051,13 @@ impl<'tree> BareKeyRef<'tree> {
     ghost use Rattle.grammar_sample.specs.contracts.kinds.Kind.{the_type};
     ghost use denote.Enum.Bare.{sameb};
     ghost use Rattle.grammar_sample.specs.Kinds.{kind_of};
-    ghost use Rattle.grammar_sample.specs.NodeIn.{node_in_bare_key_ref};
-
-    /// The same node in a wrapper that keeps the tree. Refused with `Memory` alone.
-    pub fn to_owned(&self) -> Result<BareKey, Fault>
-        ensures ok { IfOk result (λ owned. owned ≡ node_in_bare_key_ref self.now) }
-        ensures err { IfErr result (λ e. e ≡ Fault.Memory) }
-    {
-        let syntax = self.syntax.to_owned()?;
-        Ok(BareKey { syntax })
-    }
+    ghost use Rattle.grammar_sample.specs.NodeIn.{place_in};
 
     /// The first token `Name`.
     pub fn name_token(&self) -> Option<SyntaxTokenRef<'tree, Sample>>
         ensures { let means = means_kind kind_of (sameb the_type) Kind.Name in
             option_map Token (option_map token_place result)
-            ≡ find (is_token_of means) (children_with_tokens (node_in_bare_key_ref self.now)) }
+            ≡ find (is_token_of means) (children_with_tokens (place_in self.now)) }
     {
         support::token_of(self.syntax, Kind::Name)
     }
@@ -1894,65 +1068,10 @@ impl<'tree> BareKeyRef<'tree> {
 /// ```text
 /// QuotedKey = Text
 /// ```
-#[derive(Clone, PartialEq, Eq, Hash, Debug, Drop)]
-pub struct QuotedKey {
-    syntax: SyntaxNode<Sample>,
-}
+pub type QuotedKey = NodeOf<28>;
 
-impl Model for QuotedKey {
-    ghost use Rattle.std.specs.Prelude.{◌≡◌, true};
-    ghost use Rattle.rowan.specs.Cursor.{Cursor};
-    ghost use Rattle.rowan.specs.CursorCode.{coded_cursor};
-    ghost use Rattle.rowan.specs.Ast.{casts_at};
-    ghost use Rattle.grammar_sample.specs.Casts.{is_quoted_key};
-    ghost use Rattle.grammar_sample.specs.Kinds.{kind_of};
-
-    ghost Value = { Cursor };
-
-    ghost coded = { coded_cursor };
-
-    ghost view = { λ wrapper. wrapper.syntax };
-
-    ghost inverse = { λ node. record { syntax = node } };
-
-    ghost invariant = { λ wrapper. casts_at kind_of is_quoted_key wrapper.syntax ≡ true };
-}
-
-impl AstNode for QuotedKey {
-    type Language = Sample;
-
-    ghost use Rattle.std.specs.Prelude.{◌≡◌};
-    ghost use Rattle.std.specs.Option.{option_map};
-    ghost use Rattle.rowan.specs.Ast.{casts_at, if_casts};
-    ghost use Rattle.grammar_sample.specs.Casts.{is_quoted_key, same_kind};
-    ghost use Rattle.grammar_sample.specs.Kinds.{kind_of};
-    ghost use Rattle.std.proofs.Common.{ap};
-
-    ghost casts = { is_quoted_key };
-
-    ghost node_of = { λ wrapper. wrapper };
-
-    fn can_cast(kind: Kind) -> bool {
-        matches!(kind, Kind::QuotedKey)
-    }
-
-    fn cast(syntax: SyntaxNode<Sample>) -> Option<QuotedKey>
-        ensures { let casting = casts_at kind_of is_quoted_key in
-            option_map (λ wrapper. wrapper) result ≡ if_casts casting syntax }
-    {
-        if QuotedKey::can_cast(syntax.kind()) {
-            Some(QuotedKey { syntax })
-        } else {
-            None
-        }
-    }
-
-    fn syntax(&self) -> &SyntaxNode<Sample> {
-        &self.syntax
-    }
-
-    ghost equal_kinds = { λ a b same. ap is_quoted_key (same_kind a b same) };
-}
+/// [`QuotedKey`], borrowed from its tree.
+pub type QuotedKeyRef<'tree> = NodeOfRef<'tree, 28>;
 
 impl QuotedKey {
     ghost use Rattle.std.specs.Prelude.{◌≡◌, IfOk, IfErr};
@@ -1965,16 +1084,6 @@ impl QuotedKey {
     ghost use Rattle.grammar_sample.specs.contracts.kinds.Kind.{the_type};
     ghost use denote.Enum.Bare.{sameb};
     ghost use Rattle.grammar_sample.specs.Kinds.{kind_of};
-    ghost use Rattle.grammar_sample.specs.NodeIn.{node_in_quoted_key_ref};
-
-    /// The same node, borrowed from its tree.
-    pub fn as_ref(&self) -> QuotedKeyRef<'_>
-        ensures { node_in_quoted_key_ref result ≡ self.now }
-    {
-        QuotedKeyRef {
-            syntax: self.syntax.as_ref(),
-        }
-    }
 
     /// The first token `Text`.
     pub fn text_token(&self) -> Result<Option<SyntaxToken<Sample>>, Fault>
@@ -1987,55 +1096,8 @@ impl QuotedKey {
     }
 }
 
-/// [`QuotedKey`], borrowed from its tree.
-#[derive(Clone, Copy, PartialEq, Eq, Hash, Debug)]
-pub struct QuotedKeyRef<'tree> {
-    syntax: SyntaxNodeRef<'tree, Sample>,
-    ghost casts: { casts_at kind_of is_quoted_key (node_place syntax) ≡ true },
-}
-
-impl<'tree> AstNodeRef<'tree> for QuotedKeyRef<'tree> {
-    type Language = Sample;
-
-    ghost use Rattle.std.specs.Prelude.{◌≡◌, true};
-    ghost use Rattle.std.specs.Option.{option_map};
-    ghost use Rattle.rowan.specs.Ast.{casts_at, if_casts};
-    ghost use Rattle.rowan.specs.Refs.{node_place};
-    ghost use Rattle.grammar_sample.specs.Casts.{is_quoted_key};
-    ghost use Rattle.grammar_sample.specs.Kinds.{kind_of};
-    ghost use Rattle.grammar_sample.specs.NodeIn.{node_in_quoted_key_ref};
-
-    ghost casts = { is_quoted_key };
-
-    ghost node_of = { node_in_quoted_key_ref };
-
-    fn can_cast(kind: Kind) -> bool
-        ensures { result ≡ is_quoted_key kind }
-    {
-        matches!(kind, Kind::QuotedKey)
-    }
-
-    fn cast(syntax: SyntaxNodeRef<'tree, Sample>) -> Option<QuotedKeyRef<'tree>>
-        ensures { let casting = casts_at kind_of is_quoted_key in
-            option_map node_in_quoted_key_ref result ≡ if_casts casting (node_place syntax.entry) }
-    {
-        if QuotedKeyRef::can_cast(syntax.kind()) {
-            Some(QuotedKeyRef { syntax })
-        } else {
-            None
-        }
-    }
-
-    fn syntax(&self) -> SyntaxNodeRef<'tree, Sample>
-        ensures node { node_place result ≡ node_in_quoted_key_ref self.now }
-        ensures casts { casts_at kind_of is_quoted_key (node_place result) ≡ true }
-    {
-        self.syntax
-    }
-}
-
 impl<'tree> QuotedKeyRef<'tree> {
-    ghost use Rattle.std.specs.Prelude.{◌≡◌, IfOk, IfErr};
+    ghost use Rattle.std.specs.Prelude.{◌≡◌};
     ghost use Rattle.std.specs.List.{find};
     ghost use Rattle.std.specs.Option.{option_map};
     ghost use Rattle.rowan.specs.Types.NodeOrToken.TheVariants.{Token};
@@ -2046,22 +1108,13 @@ impl<'tree> QuotedKeyRef<'tree> {
     ghost use Rattle.grammar_sample.specs.contracts.kinds.Kind.{the_type};
     ghost use denote.Enum.Bare.{sameb};
     ghost use Rattle.grammar_sample.specs.Kinds.{kind_of};
-    ghost use Rattle.grammar_sample.specs.NodeIn.{node_in_quoted_key_ref};
-
-    /// The same node in a wrapper that keeps the tree. Refused with `Memory` alone.
-    pub fn to_owned(&self) -> Result<QuotedKey, Fault>
-        ensures ok { IfOk result (λ owned. owned ≡ node_in_quoted_key_ref self.now) }
-        ensures err { IfErr result (λ e. e ≡ Fault.Memory) }
-    {
-        let syntax = self.syntax.to_owned()?;
-        Ok(QuotedKey { syntax })
-    }
+    ghost use Rattle.grammar_sample.specs.NodeIn.{place_in};
 
     /// The first token `Text`.
     pub fn text_token(&self) -> Option<SyntaxTokenRef<'tree, Sample>>
         ensures { let means = means_kind kind_of (sameb the_type) Kind.Text in
             option_map Token (option_map token_place result)
-            ≡ find (is_token_of means) (children_with_tokens (node_in_quoted_key_ref self.now)) }
+            ≡ find (is_token_of means) (children_with_tokens (place_in self.now)) }
     {
         support::token_of(self.syntax, Kind::Text)
     }
@@ -2072,65 +1125,10 @@ impl<'tree> QuotedKeyRef<'tree> {
 /// ```text
 /// Note = Text
 /// ```
-#[derive(Clone, PartialEq, Eq, Hash, Debug, Drop)]
-pub struct Note {
-    syntax: SyntaxNode<Sample>,
-}
+pub type Note = NodeOf<29>;
 
-impl Model for Note {
-    ghost use Rattle.std.specs.Prelude.{◌≡◌, true};
-    ghost use Rattle.rowan.specs.Cursor.{Cursor};
-    ghost use Rattle.rowan.specs.CursorCode.{coded_cursor};
-    ghost use Rattle.rowan.specs.Ast.{casts_at};
-    ghost use Rattle.grammar_sample.specs.Casts.{is_note};
-    ghost use Rattle.grammar_sample.specs.Kinds.{kind_of};
-
-    ghost Value = { Cursor };
-
-    ghost coded = { coded_cursor };
-
-    ghost view = { λ wrapper. wrapper.syntax };
-
-    ghost inverse = { λ node. record { syntax = node } };
-
-    ghost invariant = { λ wrapper. casts_at kind_of is_note wrapper.syntax ≡ true };
-}
-
-impl AstNode for Note {
-    type Language = Sample;
-
-    ghost use Rattle.std.specs.Prelude.{◌≡◌};
-    ghost use Rattle.std.specs.Option.{option_map};
-    ghost use Rattle.rowan.specs.Ast.{casts_at, if_casts};
-    ghost use Rattle.grammar_sample.specs.Casts.{is_note, same_kind};
-    ghost use Rattle.grammar_sample.specs.Kinds.{kind_of};
-    ghost use Rattle.std.proofs.Common.{ap};
-
-    ghost casts = { is_note };
-
-    ghost node_of = { λ wrapper. wrapper };
-
-    fn can_cast(kind: Kind) -> bool {
-        matches!(kind, Kind::Note)
-    }
-
-    fn cast(syntax: SyntaxNode<Sample>) -> Option<Note>
-        ensures { let casting = casts_at kind_of is_note in
-            option_map (λ wrapper. wrapper) result ≡ if_casts casting syntax }
-    {
-        if Note::can_cast(syntax.kind()) {
-            Some(Note { syntax })
-        } else {
-            None
-        }
-    }
-
-    fn syntax(&self) -> &SyntaxNode<Sample> {
-        &self.syntax
-    }
-
-    ghost equal_kinds = { λ a b same. ap is_note (same_kind a b same) };
-}
+/// [`Note`], borrowed from its tree.
+pub type NoteRef<'tree> = NodeOfRef<'tree, 29>;
 
 impl Note {
     ghost use Rattle.std.specs.Prelude.{◌≡◌, IfOk, IfErr};
@@ -2143,16 +1141,6 @@ impl Note {
     ghost use Rattle.grammar_sample.specs.contracts.kinds.Kind.{the_type};
     ghost use denote.Enum.Bare.{sameb};
     ghost use Rattle.grammar_sample.specs.Kinds.{kind_of};
-    ghost use Rattle.grammar_sample.specs.NodeIn.{node_in_note_ref};
-
-    /// The same node, borrowed from its tree.
-    pub fn as_ref(&self) -> NoteRef<'_>
-        ensures { node_in_note_ref result ≡ self.now }
-    {
-        NoteRef {
-            syntax: self.syntax.as_ref(),
-        }
-    }
 
     /// The first token `Text`.
     pub fn text_token(&self) -> Result<Option<SyntaxToken<Sample>>, Fault>
@@ -2165,55 +1153,8 @@ impl Note {
     }
 }
 
-/// [`Note`], borrowed from its tree.
-#[derive(Clone, Copy, PartialEq, Eq, Hash, Debug)]
-pub struct NoteRef<'tree> {
-    syntax: SyntaxNodeRef<'tree, Sample>,
-    ghost casts: { casts_at kind_of is_note (node_place syntax) ≡ true },
-}
-
-impl<'tree> AstNodeRef<'tree> for NoteRef<'tree> {
-    type Language = Sample;
-
-    ghost use Rattle.std.specs.Prelude.{◌≡◌, true};
-    ghost use Rattle.std.specs.Option.{option_map};
-    ghost use Rattle.rowan.specs.Ast.{casts_at, if_casts};
-    ghost use Rattle.rowan.specs.Refs.{node_place};
-    ghost use Rattle.grammar_sample.specs.Casts.{is_note};
-    ghost use Rattle.grammar_sample.specs.Kinds.{kind_of};
-    ghost use Rattle.grammar_sample.specs.NodeIn.{node_in_note_ref};
-
-    ghost casts = { is_note };
-
-    ghost node_of = { node_in_note_ref };
-
-    fn can_cast(kind: Kind) -> bool
-        ensures { result ≡ is_note kind }
-    {
-        matches!(kind, Kind::Note)
-    }
-
-    fn cast(syntax: SyntaxNodeRef<'tree, Sample>) -> Option<NoteRef<'tree>>
-        ensures { let casting = casts_at kind_of is_note in
-            option_map node_in_note_ref result ≡ if_casts casting (node_place syntax.entry) }
-    {
-        if NoteRef::can_cast(syntax.kind()) {
-            Some(NoteRef { syntax })
-        } else {
-            None
-        }
-    }
-
-    fn syntax(&self) -> SyntaxNodeRef<'tree, Sample>
-        ensures node { node_place result ≡ node_in_note_ref self.now }
-        ensures casts { casts_at kind_of is_note (node_place result) ≡ true }
-    {
-        self.syntax
-    }
-}
-
 impl<'tree> NoteRef<'tree> {
-    ghost use Rattle.std.specs.Prelude.{◌≡◌, IfOk, IfErr};
+    ghost use Rattle.std.specs.Prelude.{◌≡◌};
     ghost use Rattle.std.specs.List.{find};
     ghost use Rattle.std.specs.Option.{option_map};
     ghost use Rattle.rowan.specs.Types.NodeOrToken.TheVariants.{Token};
@@ -2224,22 +1165,13 @@ impl<'tree> NoteRef<'tree> {
     ghost use Rattle.grammar_sample.specs.contracts.kinds.Kind.{the_type};
     ghost use denote.Enum.Bare.{sameb};
     ghost use Rattle.grammar_sample.specs.Kinds.{kind_of};
-    ghost use Rattle.grammar_sample.specs.NodeIn.{node_in_note_ref};
-
-    /// The same node in a wrapper that keeps the tree. Refused with `Memory` alone.
-    pub fn to_owned(&self) -> Result<Note, Fault>
-        ensures ok { IfOk result (λ owned. owned ≡ node_in_note_ref self.now) }
-        ensures err { IfErr result (λ e. e ≡ Fault.Memory) }
-    {
-        let syntax = self.syntax.to_owned()?;
-        Ok(Note { syntax })
-    }
+    ghost use Rattle.grammar_sample.specs.NodeIn.{place_in};
 
     /// The first token `Text`.
     pub fn text_token(&self) -> Option<SyntaxTokenRef<'tree, Sample>>
         ensures { let means = means_kind kind_of (sameb the_type) Kind.Text in
             option_map Token (option_map token_place result)
-            ≡ find (is_token_of means) (children_with_tokens (node_in_note_ref self.now)) }
+            ≡ find (is_token_of means) (children_with_tokens (place_in self.now)) }
     {
         support::token_of(self.syntax, Kind::Text)
     }
@@ -2297,27 +1229,19 @@ impl AstNode for Value {
             option_map node_in_value result ≡ if_casts casting syntax }
     {
         match syntax.kind() {
-            Kind::TextLiteral => {
-                Some(Value::Literal(Literal::TextLiteral(TextLiteral { syntax })))
-            }
+            Kind::TextLiteral => Some(Value::Literal(Literal::TextLiteral(NodeOf { syntax }))),
             Kind::IntegerLiteral => {
-                Some(Value::Literal(Literal::IntegerLiteral(IntegerLiteral { syntax })))
+                Some(Value::Literal(Literal::IntegerLiteral(NodeOf { syntax })))
             }
-            Kind::FloatLiteral => {
-                Some(Value::Literal(Literal::FloatLiteral(FloatLiteral { syntax })))
-            }
+            Kind::FloatLiteral => Some(Value::Literal(Literal::FloatLiteral(NodeOf { syntax }))),
             Kind::BooleanLiteral => {
-                Some(Value::Literal(Literal::BooleanLiteral(BooleanLiteral { syntax })))
+                Some(Value::Literal(Literal::BooleanLiteral(NodeOf { syntax })))
             }
-            Kind::MomentLiteral => {
-                Some(Value::Literal(Literal::MomentLiteral(MomentLiteral { syntax })))
-            }
-            Kind::Array => Some(Value::Composed(Composed::Array(Array { syntax }))),
-            Kind::InlineTable => {
-                Some(Value::Composed(Composed::InlineTable(InlineTable { syntax })))
-            }
-            Kind::Reference => Some(Value::Reference(Reference { syntax })),
-            Kind::Call => Some(Value::Call(Call { syntax })),
+            Kind::MomentLiteral => Some(Value::Literal(Literal::MomentLiteral(NodeOf { syntax }))),
+            Kind::Array => Some(Value::Composed(Composed::Array(NodeOf { syntax }))),
+            Kind::InlineTable => Some(Value::Composed(Composed::InlineTable(NodeOf { syntax }))),
+            Kind::Reference => Some(Value::Reference(NodeOf { syntax })),
+            Kind::Call => Some(Value::Call(NodeOf { syntax })),
             _ => None,
         }
     }
@@ -2337,11 +1261,11 @@ impl AstNode for Value {
 
 impl Value {
     ghost use Rattle.std.specs.Prelude.{◌≡◌};
-    ghost use Rattle.grammar_sample.specs.NodeIn.{node_in_value, node_in_value_ref};
+    ghost use Rattle.grammar_sample.specs.NodeIn.{node_in_value, place_in_value};
 
     /// The same node, borrowed from its tree.
     pub fn as_ref(&self) -> ValueRef<'_>
-        ensures { node_in_value_ref result ≡ node_in_value self.now }
+        ensures { place_in_value result ≡ node_in_value self.now }
     {
         ValueRef::cast(self.syntax().as_ref()).unwrap()
     }
@@ -2369,11 +1293,11 @@ impl<'tree> AstNodeRef<'tree> for ValueRef<'tree> {
     ghost use Rattle.rowan.specs.Refs.{node_place};
     ghost use Rattle.grammar_sample.specs.Casts.{is_value};
     ghost use Rattle.grammar_sample.specs.Kinds.{kind_of};
-    ghost use Rattle.grammar_sample.specs.NodeIn.{node_in_value_ref};
+    ghost use Rattle.grammar_sample.specs.NodeIn.{place_in_value};
 
     ghost casts = { is_value };
 
-    ghost node_of = { node_in_value_ref };
+    ghost node_of = { place_in_value };
 
     fn can_cast(kind: Kind) -> bool
         ensures { result ≡ is_value kind }
@@ -2383,37 +1307,37 @@ impl<'tree> AstNodeRef<'tree> for ValueRef<'tree> {
 
     fn cast(syntax: SyntaxNodeRef<'tree, Sample>) -> Option<ValueRef<'tree>>
         ensures { let casting = casts_at kind_of is_value in
-            option_map node_in_value_ref result ≡ if_casts casting (node_place syntax.entry) }
+            option_map place_in_value result ≡ if_casts casting (node_place syntax.entry) }
     {
         match syntax.kind() {
             Kind::TextLiteral => {
-                Some(ValueRef::Literal(LiteralRef::TextLiteral(TextLiteralRef { syntax })))
+                Some(ValueRef::Literal(LiteralRef::TextLiteral(NodeOfRef { syntax })))
             }
             Kind::IntegerLiteral => {
-                Some(ValueRef::Literal(LiteralRef::IntegerLiteral(IntegerLiteralRef { syntax })))
+                Some(ValueRef::Literal(LiteralRef::IntegerLiteral(NodeOfRef { syntax })))
             }
             Kind::FloatLiteral => {
-                Some(ValueRef::Literal(LiteralRef::FloatLiteral(FloatLiteralRef { syntax })))
+                Some(ValueRef::Literal(LiteralRef::FloatLiteral(NodeOfRef { syntax })))
             }
             Kind::BooleanLiteral => {
-                Some(ValueRef::Literal(LiteralRef::BooleanLiteral(BooleanLiteralRef { syntax })))
+                Some(ValueRef::Literal(LiteralRef::BooleanLiteral(NodeOfRef { syntax })))
             }
             Kind::MomentLiteral => {
-                Some(ValueRef::Literal(LiteralRef::MomentLiteral(MomentLiteralRef { syntax })))
+                Some(ValueRef::Literal(LiteralRef::MomentLiteral(NodeOfRef { syntax })))
             }
-            Kind::Array => Some(ValueRef::Composed(ComposedRef::Array(ArrayRef { syntax }))),
+            Kind::Array => Some(ValueRef::Composed(ComposedRef::Array(NodeOfRef { syntax }))),
             Kind::InlineTable => {
-                Some(ValueRef::Composed(ComposedRef::InlineTable(InlineTableRef { syntax })))
+                Some(ValueRef::Composed(ComposedRef::InlineTable(NodeOfRef { syntax })))
             }
-            Kind::Reference => Some(ValueRef::Reference(ReferenceRef { syntax })),
-            Kind::Call => Some(ValueRef::Call(CallRef { syntax })),
+            Kind::Reference => Some(ValueRef::Reference(NodeOfRef { syntax })),
+            Kind::Call => Some(ValueRef::Call(NodeOfRef { syntax })),
             _ => None,
         }
     }
 
     #[tactic(auto, using(crate::proofs::CastLemmas::literal_is_value_raw, crate::proofs::CastLemmas::composed_is_value_raw, crate::proofs::CastLemmas::reference_is_value_raw, crate::proofs::CastLemmas::call_is_value_raw))]
     fn syntax(&self) -> SyntaxNodeRef<'tree, Sample>
-        ensures node { node_place result ≡ node_in_value_ref self.now }
+        ensures node { node_place result ≡ place_in_value self.now }
         ensures casts { casts_at kind_of is_value (node_place result) ≡ true }
     {
         match self {
@@ -2427,11 +1351,11 @@ impl<'tree> AstNodeRef<'tree> for ValueRef<'tree> {
 
 impl<'tree> ValueRef<'tree> {
     ghost use Rattle.std.specs.Prelude.{◌≡◌, IfOk, IfErr};
-    ghost use Rattle.grammar_sample.specs.NodeIn.{node_in_value, node_in_value_ref};
+    ghost use Rattle.grammar_sample.specs.NodeIn.{node_in_value, place_in_value};
 
     /// The same node in a wrapper that keeps the tree. Refused with `Memory` alone.
     pub fn to_owned(&self) -> Result<Value, Fault>
-        ensures ok { IfOk result (λ owned. node_in_value owned ≡ node_in_value_ref self.now) }
+        ensures ok { IfOk result (λ owned. node_in_value owned ≡ place_in_value self.now) }
         ensures err { IfErr result (λ e. e ≡ Fault.Memory) }
     {
         let syntax = self.syntax().to_owned()?;
@@ -2452,9 +1376,9 @@ impl From<Literal> for Value {
 
 impl<'tree> From<LiteralRef<'tree>> for ValueRef<'tree> {
     ghost use Rattle.std.specs.Prelude.{◌≡◌};
-    ghost use Rattle.grammar_sample.specs.NodeIn.{node_in_value_ref, node_in_literal_ref};
+    ghost use Rattle.grammar_sample.specs.NodeIn.{place_in_value, place_in_literal};
 
-    ghost from_gives = { λ node whole. node_in_value_ref whole ≡ node_in_literal_ref node };
+    ghost from_gives = { λ node whole. place_in_value whole ≡ place_in_literal node };
 
     fn from(node: LiteralRef<'tree>) -> ValueRef<'tree> {
         ValueRef::Literal(node)
@@ -2474,9 +1398,9 @@ impl From<Composed> for Value {
 
 impl<'tree> From<ComposedRef<'tree>> for ValueRef<'tree> {
     ghost use Rattle.std.specs.Prelude.{◌≡◌};
-    ghost use Rattle.grammar_sample.specs.NodeIn.{node_in_value_ref, node_in_composed_ref};
+    ghost use Rattle.grammar_sample.specs.NodeIn.{place_in_value, place_in_composed};
 
-    ghost from_gives = { λ node whole. node_in_value_ref whole ≡ node_in_composed_ref node };
+    ghost from_gives = { λ node whole. place_in_value whole ≡ place_in_composed node };
 
     fn from(node: ComposedRef<'tree>) -> ValueRef<'tree> {
         ValueRef::Composed(node)
@@ -2496,9 +1420,9 @@ impl From<Reference> for Value {
 
 impl<'tree> From<ReferenceRef<'tree>> for ValueRef<'tree> {
     ghost use Rattle.std.specs.Prelude.{◌≡◌};
-    ghost use Rattle.grammar_sample.specs.NodeIn.{node_in_value_ref, node_in_reference_ref};
+    ghost use Rattle.grammar_sample.specs.NodeIn.{place_in_value, place_in};
 
-    ghost from_gives = { λ node whole. node_in_value_ref whole ≡ node_in_reference_ref node };
+    ghost from_gives = { λ node whole. place_in_value whole ≡ place_in node };
 
     fn from(node: ReferenceRef<'tree>) -> ValueRef<'tree> {
         ValueRef::Reference(node)
@@ -2518,9 +1442,9 @@ impl From<Call> for Value {
 
 impl<'tree> From<CallRef<'tree>> for ValueRef<'tree> {
     ghost use Rattle.std.specs.Prelude.{◌≡◌};
-    ghost use Rattle.grammar_sample.specs.NodeIn.{node_in_value_ref, node_in_call_ref};
+    ghost use Rattle.grammar_sample.specs.NodeIn.{place_in_value, place_in};
 
-    ghost from_gives = { λ node whole. node_in_value_ref whole ≡ node_in_call_ref node };
+    ghost from_gives = { λ node whole. place_in_value whole ≡ place_in node };
 
     fn from(node: CallRef<'tree>) -> ValueRef<'tree> {
         ValueRef::Call(node)
@@ -2577,11 +1501,11 @@ impl AstNode for Literal {
             option_map node_in_literal result ≡ if_casts casting syntax }
     {
         match syntax.kind() {
-            Kind::TextLiteral => Some(Literal::TextLiteral(TextLiteral { syntax })),
-            Kind::IntegerLiteral => Some(Literal::IntegerLiteral(IntegerLiteral { syntax })),
-            Kind::FloatLiteral => Some(Literal::FloatLiteral(FloatLiteral { syntax })),
-            Kind::BooleanLiteral => Some(Literal::BooleanLiteral(BooleanLiteral { syntax })),
-            Kind::MomentLiteral => Some(Literal::MomentLiteral(MomentLiteral { syntax })),
+            Kind::TextLiteral => Some(Literal::TextLiteral(NodeOf { syntax })),
+            Kind::IntegerLiteral => Some(Literal::IntegerLiteral(NodeOf { syntax })),
+            Kind::FloatLiteral => Some(Literal::FloatLiteral(NodeOf { syntax })),
+            Kind::BooleanLiteral => Some(Literal::BooleanLiteral(NodeOf { syntax })),
+            Kind::MomentLiteral => Some(Literal::MomentLiteral(NodeOf { syntax })),
             _ => None,
         }
     }
@@ -2602,11 +1526,11 @@ impl AstNode for Literal {
 
 impl Literal {
     ghost use Rattle.std.specs.Prelude.{◌≡◌};
-    ghost use Rattle.grammar_sample.specs.NodeIn.{node_in_literal, node_in_literal_ref};
+    ghost use Rattle.grammar_sample.specs.NodeIn.{node_in_literal, place_in_literal};
 
     /// The same node, borrowed from its tree.
     pub fn as_ref(&self) -> LiteralRef<'_>
-        ensures { node_in_literal_ref result ≡ node_in_literal self.now }
+        ensures { place_in_literal result ≡ node_in_literal self.now }
     {
         LiteralRef::cast(self.syntax().as_ref()).unwrap()
     }
@@ -2636,11 +1560,11 @@ impl<'tree> AstNodeRef<'tree> for LiteralRef<'tree> {
     ghost use Rattle.rowan.specs.Refs.{node_place};
     ghost use Rattle.grammar_sample.specs.Casts.{is_literal};
     ghost use Rattle.grammar_sample.specs.Kinds.{kind_of};
-    ghost use Rattle.grammar_sample.specs.NodeIn.{node_in_literal_ref};
+    ghost use Rattle.grammar_sample.specs.NodeIn.{place_in_literal};
 
     ghost casts = { is_literal };
 
-    ghost node_of = { node_in_literal_ref };
+    ghost node_of = { place_in_literal };
 
     fn can_cast(kind: Kind) -> bool
         ensures { result ≡ is_literal kind }
@@ -2650,21 +1574,21 @@ impl<'tree> AstNodeRef<'tree> for LiteralRef<'tree> {
 
     fn cast(syntax: SyntaxNodeRef<'tree, Sample>) -> Option<LiteralRef<'tree>>
         ensures { let casting = casts_at kind_of is_literal in
-            option_map node_in_literal_ref result ≡ if_casts casting (node_place syntax.entry) }
+            option_map place_in_literal result ≡ if_casts casting (node_place syntax.entry) }
     {
         match syntax.kind() {
-            Kind::TextLiteral => Some(LiteralRef::TextLiteral(TextLiteralRef { syntax })),
-            Kind::IntegerLiteral => Some(LiteralRef::IntegerLiteral(IntegerLiteralRef { syntax })),
-            Kind::FloatLiteral => Some(LiteralRef::FloatLiteral(FloatLiteralRef { syntax })),
-            Kind::BooleanLiteral => Some(LiteralRef::BooleanLiteral(BooleanLiteralRef { syntax })),
-            Kind::MomentLiteral => Some(LiteralRef::MomentLiteral(MomentLiteralRef { syntax })),
+            Kind::TextLiteral => Some(LiteralRef::TextLiteral(NodeOfRef { syntax })),
+            Kind::IntegerLiteral => Some(LiteralRef::IntegerLiteral(NodeOfRef { syntax })),
+            Kind::FloatLiteral => Some(LiteralRef::FloatLiteral(NodeOfRef { syntax })),
+            Kind::BooleanLiteral => Some(LiteralRef::BooleanLiteral(NodeOfRef { syntax })),
+            Kind::MomentLiteral => Some(LiteralRef::MomentLiteral(NodeOfRef { syntax })),
             _ => None,
         }
     }
 
     #[tactic(auto, using(crate::proofs::CastLemmas::text_literal_is_literal_raw, crate::proofs::CastLemmas::integer_literal_is_literal_raw, crate::proofs::CastLemmas::float_literal_is_literal_raw, crate::proofs::CastLemmas::boolean_literal_is_literal_raw, crate::proofs::CastLemmas::moment_literal_is_literal_raw))]
     fn syntax(&self) -> SyntaxNodeRef<'tree, Sample>
-        ensures node { node_place result ≡ node_in_literal_ref self.now }
+        ensures node { node_place result ≡ place_in_literal self.now }
         ensures casts { casts_at kind_of is_literal (node_place result) ≡ true }
     {
         match self {
@@ -2679,11 +1603,11 @@ impl<'tree> AstNodeRef<'tree> for LiteralRef<'tree> {
 
 impl<'tree> LiteralRef<'tree> {
     ghost use Rattle.std.specs.Prelude.{◌≡◌, IfOk, IfErr};
-    ghost use Rattle.grammar_sample.specs.NodeIn.{node_in_literal, node_in_literal_ref};
+    ghost use Rattle.grammar_sample.specs.NodeIn.{node_in_literal, place_in_literal};
 
     /// The same node in a wrapper that keeps the tree. Refused with `Memory` alone.
     pub fn to_owned(&self) -> Result<Literal, Fault>
-        ensures ok { IfOk result (λ owned. node_in_literal owned ≡ node_in_literal_ref self.now) }
+        ensures ok { IfOk result (λ owned. node_in_literal owned ≡ place_in_literal self.now) }
         ensures err { IfErr result (λ e. e ≡ Fault.Memory) }
     {
         let syntax = self.syntax().to_owned()?;
@@ -2704,9 +1628,9 @@ impl From<TextLiteral> for Literal {
 
 impl<'tree> From<TextLiteralRef<'tree>> for LiteralRef<'tree> {
     ghost use Rattle.std.specs.Prelude.{◌≡◌};
-    ghost use Rattle.grammar_sample.specs.NodeIn.{node_in_literal_ref, node_in_text_literal_ref};
+    ghost use Rattle.grammar_sample.specs.NodeIn.{place_in_literal, place_in};
 
-    ghost from_gives = { λ node whole. node_in_literal_ref whole ≡ node_in_text_literal_ref node };
+    ghost from_gives = { λ node whole. place_in_literal whole ≡ place_in node };
 
     fn from(node: TextLiteralRef<'tree>) -> LiteralRef<'tree> {
         LiteralRef::TextLiteral(node)
@@ -2726,9 +1650,9 @@ impl From<IntegerLiteral> for Literal {
 
 impl<'tree> From<IntegerLiteralRef<'tree>> for LiteralRef<'tree> {
     ghost use Rattle.std.specs.Prelude.{◌≡◌};
-    ghost use Rattle.grammar_sample.specs.NodeIn.{node_in_literal_ref, node_in_integer_literal_ref};
+    ghost use Rattle.grammar_sample.specs.NodeIn.{place_in_literal, place_in};
 
-    ghost from_gives = { λ node whole. node_in_literal_ref whole ≡ node_in_integer_literal_ref node };
+    ghost from_gives = { λ node whole. place_in_literal whole ≡ place_in node };
 
     fn from(node: IntegerLiteralRef<'tree>) -> LiteralRef<'tree> {
         LiteralRef::IntegerLiteral(node)
@@ -2748,9 +1672,9 @@ impl From<FloatLiteral> for Literal {
 
 impl<'tree> From<FloatLiteralRef<'tree>> for LiteralRef<'tree> {
     ghost use Rattle.std.specs.Prelude.{◌≡◌};
-    ghost use Rattle.grammar_sample.specs.NodeIn.{node_in_literal_ref, node_in_float_literal_ref};
+    ghost use Rattle.grammar_sample.specs.NodeIn.{place_in_literal, place_in};
 
-    ghost from_gives = { λ node whole. node_in_literal_ref whole ≡ node_in_float_literal_ref node };
+    ghost from_gives = { λ node whole. place_in_literal whole ≡ place_in node };
 
     fn from(node: FloatLiteralRef<'tree>) -> LiteralRef<'tree> {
         LiteralRef::FloatLiteral(node)
@@ -2770,9 +1694,9 @@ impl From<BooleanLiteral> for Literal {
 
 impl<'tree> From<BooleanLiteralRef<'tree>> for LiteralRef<'tree> {
     ghost use Rattle.std.specs.Prelude.{◌≡◌};
-    ghost use Rattle.grammar_sample.specs.NodeIn.{node_in_literal_ref, node_in_boolean_literal_ref};
+    ghost use Rattle.grammar_sample.specs.NodeIn.{place_in_literal, place_in};
 
-    ghost from_gives = { λ node whole. node_in_literal_ref whole ≡ node_in_boolean_literal_ref node };
+    ghost from_gives = { λ node whole. place_in_literal whole ≡ place_in node };
 
     fn from(node: BooleanLiteralRef<'tree>) -> LiteralRef<'tree> {
         LiteralRef::BooleanLiteral(node)
@@ -2792,9 +1716,9 @@ impl From<MomentLiteral> for Literal {
 
 impl<'tree> From<MomentLiteralRef<'tree>> for LiteralRef<'tree> {
     ghost use Rattle.std.specs.Prelude.{◌≡◌};
-    ghost use Rattle.grammar_sample.specs.NodeIn.{node_in_literal_ref, node_in_moment_literal_ref};
+    ghost use Rattle.grammar_sample.specs.NodeIn.{place_in_literal, place_in};
 
-    ghost from_gives = { λ node whole. node_in_literal_ref whole ≡ node_in_moment_literal_ref node };
+    ghost from_gives = { λ node whole. place_in_literal whole ≡ place_in node };
 
     fn from(node: MomentLiteralRef<'tree>) -> LiteralRef<'tree> {
         LiteralRef::MomentLiteral(node)
@@ -2806,65 +1730,10 @@ impl<'tree> From<MomentLiteralRef<'tree>> for LiteralRef<'tree> {
 /// ```text
 /// TextLiteral = Text
 /// ```
-#[derive(Clone, PartialEq, Eq, Hash, Debug, Drop)]
-pub struct TextLiteral {
-    syntax: SyntaxNode<Sample>,
-}
+pub type TextLiteral = NodeOf<30>;
 
-impl Model for TextLiteral {
-    ghost use Rattle.std.specs.Prelude.{◌≡◌, true};
-    ghost use Rattle.rowan.specs.Cursor.{Cursor};
-    ghost use Rattle.rowan.specs.CursorCode.{coded_cursor};
-    ghost use Rattle.rowan.specs.Ast.{casts_at};
-    ghost use Rattle.grammar_sample.specs.Casts.{is_text_literal};
-    ghost use Rattle.grammar_sample.specs.Kinds.{kind_of};
-
-    ghost Value = { Cursor };
-
-    ghost coded = { coded_cursor };
-
-    ghost view = { λ wrapper. wrapper.syntax };
-
-    ghost inverse = { λ node. record { syntax = node } };
-
-    ghost invariant = { λ wrapper. casts_at kind_of is_text_literal wrapper.syntax ≡ true };
-}
-
-impl AstNode for TextLiteral {
-    type Language = Sample;
-
-    ghost use Rattle.std.specs.Prelude.{◌≡◌};
-    ghost use Rattle.std.specs.Option.{option_map};
-    ghost use Rattle.rowan.specs.Ast.{casts_at, if_casts};
-    ghost use Rattle.grammar_sample.specs.Casts.{is_text_literal, same_kind};
-    ghost use Rattle.grammar_sample.specs.Kinds.{kind_of};
-    ghost use Rattle.std.proofs.Common.{ap};
-
-    ghost casts = { is_text_literal };
-
-    ghost node_of = { λ wrapper. wrapper };
-
-    fn can_cast(kind: Kind) -> bool {
-        matches!(kind, Kind::TextLiteral)
-    }
-
-    fn cast(syntax: SyntaxNode<Sample>) -> Option<TextLiteral>
-        ensures { let casting = casts_at kind_of is_text_literal in
-            option_map (λ wrapper. wrapper) result ≡ if_casts casting syntax }
-    {
-        if TextLiteral::can_cast(syntax.kind()) {
-            Some(TextLiteral { syntax })
-        } else {
-            None
-        }
-    }
-
-    fn syntax(&self) -> &SyntaxNode<Sample> {
-        &self.syntax
-    }
-
-    ghost equal_kinds = { λ a b same. ap is_text_literal (same_kind a b same) };
-}
+/// [`TextLiteral`], borrowed from its tree.
+pub type TextLiteralRef<'tree> = NodeOfRef<'tree, 30>;
 
 impl TextLiteral {
     ghost use Rattle.std.specs.Prelude.{◌≡◌, IfOk, IfErr};
@@ -2877,16 +1746,6 @@ impl TextLiteral {
     ghost use Rattle.grammar_sample.specs.contracts.kinds.Kind.{the_type};
     ghost use denote.Enum.Bare.{sameb};
     ghost use Rattle.grammar_sample.specs.Kinds.{kind_of};
-    ghost use Rattle.grammar_sample.specs.NodeIn.{node_in_text_literal_ref};
-
-    /// The same node, borrowed from its tree.
-    pub fn as_ref(&self) -> TextLiteralRef<'_>
-        ensures { node_in_text_literal_ref result ≡ self.now }
-    {
-        TextLiteralRef {
-            syntax: self.syntax.as_ref(),
-        }
-    }
 
     /// The first token `Text`.
     pub fn text_token(&self) -> Result<Option<SyntaxToken<Sample>>, Fault>
@@ -2899,55 +1758,8 @@ impl TextLiteral {
     }
 }
 
-/// [`TextLiteral`], borrowed from its tree.
-#[derive(Clone, Copy, PartialEq, Eq, Hash, Debug)]
-pub struct TextLiteralRef<'tree> {
-    syntax: SyntaxNodeRef<'tree, Sample>,
-    ghost casts: { casts_at kind_of is_text_literal (node_place syntax) ≡ true },
-}
-
-impl<'tree> AstNodeRef<'tree> for TextLiteralRef<'tree> {
-    type Language = Sample;
-
-    ghost use Rattle.std.specs.Prelude.{◌≡◌, true};
-    ghost use Rattle.std.specs.Option.{option_map};
-    ghost use Rattle.rowan.specs.Ast.{casts_at, if_casts};
-    ghost use Rattle.rowan.specs.Refs.{node_place};
-    ghost use Rattle.grammar_sample.specs.Casts.{is_text_literal};
-    ghost use Rattle.grammar_sample.specs.Kinds.{kind_of};
-    ghost use Rattle.grammar_sample.specs.NodeIn.{node_in_text_literal_ref};
-
-    ghost casts = { is_text_literal };
-
-    ghost node_of = { node_in_text_literal_ref };
-
-    fn can_cast(kind: Kind) -> bool
-        ensures { result ≡ is_text_literal kind }
-    {
-        matches!(kind, Kind::TextLiteral)
-    }
-
-    fn cast(syntax: SyntaxNodeRef<'tree, Sample>) -> Option<TextLiteralRef<'tree>>
-        ensures { let casting = casts_at kind_of is_text_literal in
-            option_map node_in_text_literal_ref result ≡ if_casts casting (node_place syntax.entry) }
-    {
-        if TextLiteralRef::can_cast(syntax.kind()) {
-            Some(TextLiteralRef { syntax })
-        } else {
-            None
-        }
-    }
-
-    fn syntax(&self) -> SyntaxNodeRef<'tree, Sample>
-        ensures node { node_place result ≡ node_in_text_literal_ref self.now }
-        ensures casts { casts_at kind_of is_text_literal (node_place result) ≡ true }
-    {
-        self.syntax
-    }
-}
-
 impl<'tree> TextLiteralRef<'tree> {
-    ghost use Rattle.std.specs.Prelude.{◌≡◌, IfOk, IfErr};
+    ghost use Rattle.std.specs.Prelude.{◌≡◌};
     ghost use Rattle.std.specs.List.{find};
     ghost use Rattle.std.specs.Option.{option_map};
     ghost use Rattle.rowan.specs.Types.NodeOrToken.TheVariants.{Token};
@@ -2958,22 +1770,13 @@ impl<'tree> TextLiteralRef<'tree> {
     ghost use Rattle.grammar_sample.specs.contracts.kinds.Kind.{the_type};
     ghost use denote.Enum.Bare.{sameb};
     ghost use Rattle.grammar_sample.specs.Kinds.{kind_of};
-    ghost use Rattle.grammar_sample.specs.NodeIn.{node_in_text_literal_ref};
-
-    /// The same node in a wrapper that keeps the tree. Refused with `Memory` alone.
-    pub fn to_owned(&self) -> Result<TextLiteral, Fault>
-        ensures ok { IfOk result (λ owned. owned ≡ node_in_text_literal_ref self.now) }
-        ensures err { IfErr result (λ e. e ≡ Fault.Memory) }
-    {
-        let syntax = self.syntax.to_owned()?;
-        Ok(TextLiteral { syntax })
-    }
+    ghost use Rattle.grammar_sample.specs.NodeIn.{place_in};
 
     /// The first token `Text`.
     pub fn text_token(&self) -> Option<SyntaxTokenRef<'tree, Sample>>
         ensures { let means = means_kind kind_of (sameb the_type) Kind.Text in
             option_map Token (option_map token_place result)
-            ≡ find (is_token_of means) (children_with_tokens (node_in_text_literal_ref self.now)) }
+            ≡ find (is_token_of means) (children_with_tokens (place_in self.now)) }
     {
         support::token_of(self.syntax, Kind::Text)
     }
@@ -2984,65 +1787,10 @@ impl<'tree> TextLiteralRef<'tree> {
 /// ```text
 /// IntegerLiteral = Integer
 /// ```
-#[derive(Clone, PartialEq, Eq, Hash, Debug, Drop)]
-pub struct IntegerLiteral {
-    syntax: SyntaxNode<Sample>,
-}
+pub type IntegerLiteral = NodeOf<31>;
 
-impl Model for IntegerLiteral {
-    ghost use Rattle.std.specs.Prelude.{◌≡◌, true};
-    ghost use Rattle.rowan.specs.Cursor.{Cursor};
-    ghost use Rattle.rowan.specs.CursorCode.{coded_cursor};
-    ghost use Rattle.rowan.specs.Ast.{casts_at};
-    ghost use Rattle.grammar_sample.specs.Casts.{is_integer_literal};
-    ghost use Rattle.grammar_sample.specs.Kinds.{kind_of};
-
-    ghost Value = { Cursor };
-
-    ghost coded = { coded_cursor };
-
-    ghost view = { λ wrapper. wrapper.syntax };
-
-    ghost inverse = { λ node. record { syntax = node } };
-
-    ghost invariant = { λ wrapper. casts_at kind_of is_integer_literal wrapper.syntax ≡ true };
-}
-
-impl AstNode for IntegerLiteral {
-    type Language = Sample;
-
-    ghost use Rattle.std.specs.Prelude.{◌≡◌};
-    ghost use Rattle.std.specs.Option.{option_map};
-    ghost use Rattle.rowan.specs.Ast.{casts_at, if_casts};
-    ghost use Rattle.grammar_sample.specs.Casts.{is_integer_literal, same_kind};
-    ghost use Rattle.grammar_sample.specs.Kinds.{kind_of};
-    ghost use Rattle.std.proofs.Common.{ap};
-
-    ghost casts = { is_integer_literal };
-
-    ghost node_of = { λ wrapper. wrapper };
-
-    fn can_cast(kind: Kind) -> bool {
-        matches!(kind, Kind::IntegerLiteral)
-    }
-
-    fn cast(syntax: SyntaxNode<Sample>) -> Option<IntegerLiteral>
-        ensures { let casting = casts_at kind_of is_integer_literal in
-            option_map (λ wrapper. wrapper) result ≡ if_casts casting syntax }
-    {
-        if IntegerLiteral::can_cast(syntax.kind()) {
-            Some(IntegerLiteral { syntax })
-        } else {
-            None
-        }
-    }
-
-    fn syntax(&self) -> &SyntaxNode<Sample> {
-        &self.syntax
-    }
-
-    ghost equal_kinds = { λ a b same. ap is_integer_literal (same_kind a b same) };
-}
+/// [`IntegerLiteral`], borrowed from its tree.
+pub type IntegerLiteralRef<'tree> = NodeOfRef<'tree, 31>;
 
 impl IntegerLiteral {
     ghost use Rattle.std.specs.Prelude.{◌≡◌, IfOk, IfErr};
@@ -3055,16 +1803,6 @@ impl IntegerLiteral {
     ghost use Rattle.grammar_sample.specs.contracts.kinds.Kind.{the_type};
     ghost use denote.Enum.Bare.{sameb};
     ghost use Rattle.grammar_sample.specs.Kinds.{kind_of};
-    ghost use Rattle.grammar_sample.specs.NodeIn.{node_in_integer_literal_ref};
-
-    /// The same node, borrowed from its tree.
-    pub fn as_ref(&self) -> IntegerLiteralRef<'_>
-        ensures { node_in_integer_literal_ref result ≡ self.now }
-    {
-        IntegerLiteralRef {
-            syntax: self.syntax.as_ref(),
-        }
-    }
 
     /// The first token `Integer`.
     pub fn integer_token(&self) -> Result<Option<SyntaxToken<Sample>>, Fault>
@@ -3077,55 +1815,8 @@ impl IntegerLiteral {
     }
 }
 
-/// [`IntegerLiteral`], borrowed from its tree.
-#[derive(Clone, Copy, PartialEq, Eq, Hash, Debug)]
-pub struct IntegerLiteralRef<'tree> {
-    syntax: SyntaxNodeRef<'tree, Sample>,
-    ghost casts: { casts_at kind_of is_integer_literal (node_place syntax) ≡ true },
-}
-
-impl<'tree> AstNodeRef<'tree> for IntegerLiteralRef<'tree> {
-    type Language = Sample;
-
-    ghost use Rattle.std.specs.Prelude.{◌≡◌, true};
-    ghost use Rattle.std.specs.Option.{option_map};
-    ghost use Rattle.rowan.specs.Ast.{casts_at, if_casts};
-    ghost use Rattle.rowan.specs.Refs.{node_place};
-    ghost use Rattle.grammar_sample.specs.Casts.{is_integer_literal};
-    ghost use Rattle.grammar_sample.specs.Kinds.{kind_of};
-    ghost use Rattle.grammar_sample.specs.NodeIn.{node_in_integer_literal_ref};
-
-    ghost casts = { is_integer_literal };
-
-    ghost node_of = { node_in_integer_literal_ref };
-
-    fn can_cast(kind: Kind) -> bool
-        ensures { result ≡ is_integer_literal kind }
-    {
-        matches!(kind, Kind::IntegerLiteral)
-    }
-
-    fn cast(syntax: SyntaxNodeRef<'tree, Sample>) -> Option<IntegerLiteralRef<'tree>>
-        ensures { let casting = casts_at kind_of is_integer_literal in
-            option_map node_in_integer_literal_ref result ≡ if_casts casting (node_place syntax.entry) }
-    {
-        if IntegerLiteralRef::can_cast(syntax.kind()) {
-            Some(IntegerLiteralRef { syntax })
-        } else {
-            None
-        }
-    }
-
-    fn syntax(&self) -> SyntaxNodeRef<'tree, Sample>
-        ensures node { node_place result ≡ node_in_integer_literal_ref self.now }
-        ensures casts { casts_at kind_of is_integer_literal (node_place result) ≡ true }
-    {
-        self.syntax
-    }
-}
-
 impl<'tree> IntegerLiteralRef<'tree> {
-    ghost use Rattle.std.specs.Prelude.{◌≡◌, IfOk, IfErr};
+    ghost use Rattle.std.specs.Prelude.{◌≡◌};
     ghost use Rattle.std.specs.List.{find};
     ghost use Rattle.std.specs.Option.{option_map};
     ghost use Rattle.rowan.specs.Types.NodeOrToken.TheVariants.{Token};
@@ -3136,22 +1827,13 @@ impl<'tree> IntegerLiteralRef<'tree> {
     ghost use Rattle.grammar_sample.specs.contracts.kinds.Kind.{the_type};
     ghost use denote.Enum.Bare.{sameb};
     ghost use Rattle.grammar_sample.specs.Kinds.{kind_of};
-    ghost use Rattle.grammar_sample.specs.NodeIn.{node_in_integer_literal_ref};
-
-    /// The same node in a wrapper that keeps the tree. Refused with `Memory` alone.
-    pub fn to_owned(&self) -> Result<IntegerLiteral, Fault>
-        ensures ok { IfOk result (λ owned. owned ≡ node_in_integer_literal_ref self.now) }
-        ensures err { IfErr result (λ e. e ≡ Fault.Memory) }
-    {
-        let syntax = self.syntax.to_owned()?;
-        Ok(IntegerLiteral { syntax })
-    }
+    ghost use Rattle.grammar_sample.specs.NodeIn.{place_in};
 
     /// The first token `Integer`.
     pub fn integer_token(&self) -> Option<SyntaxTokenRef<'tree, Sample>>
         ensures { let means = means_kind kind_of (sameb the_type) Kind.Integer in
             option_map Token (option_map token_place result)
-            ≡ find (is_token_of means) (children_with_tokens (node_in_integer_literal_ref self.now)) }
+            ≡ find (is_token_of means) (children_with_tokens (place_in self.now)) }
     {
         support::token_of(self.syntax, Kind::Integer)
     }
@@ -3162,65 +1844,10 @@ impl<'tree> IntegerLiteralRef<'tree> {
 /// ```text
 /// FloatLiteral = Float
 /// ```
-#[derive(Clone, PartialEq, Eq, Hash, Debug, Drop)]
-pub struct FloatLiteral {
-    syntax: SyntaxNode<Sample>,
-}
+pub type FloatLiteral = NodeOf<32>;
 
-impl Model for FloatLiteral {
-    ghost use Rattle.std.specs.Prelude.{◌≡◌, true};
-    ghost use Rattle.rowan.specs.Cursor.{Cursor};
-    ghost use Rattle.rowan.specs.CursorCode.{coded_cursor};
-    ghost use Rattle.rowan.specs.Ast.{casts_at};
-    ghost use Rattle.grammar_sample.specs.Casts.{is_float_literal};
-    ghost use Rattle.grammar_sample.specs.Kinds.{kind_of};
-
-    ghost Value = { Cursor };
-
-    ghost coded = { coded_cursor };
-
-    ghost view = { λ wrapper. wrapper.syntax };
-
-    ghost inverse = { λ node. record { syntax = node } };
-
-    ghost invariant = { λ wrapper. casts_at kind_of is_float_literal wrapper.syntax ≡ true };
-}
-
-impl AstNode for FloatLiteral {
-    type Language = Sample;
-
-    ghost use Rattle.std.specs.Prelude.{◌≡◌};
-    ghost use Rattle.std.specs.Option.{option_map};
-    ghost use Rattle.rowan.specs.Ast.{casts_at, if_casts};
-    ghost use Rattle.grammar_sample.specs.Casts.{is_float_literal, same_kind};
-    ghost use Rattle.grammar_sample.specs.Kinds.{kind_of};
-    ghost use Rattle.std.proofs.Common.{ap};
-
-    ghost casts = { is_float_literal };
-
-    ghost node_of = { λ wrapper. wrapper };
-
-    fn can_cast(kind: Kind) -> bool {
-        matches!(kind, Kind::FloatLiteral)
-    }
-
-    fn cast(syntax: SyntaxNode<Sample>) -> Option<FloatLiteral>
-        ensures { let casting = casts_at kind_of is_float_literal in
-            option_map (λ wrapper. wrapper) result ≡ if_casts casting syntax }
-    {
-        if FloatLiteral::can_cast(syntax.kind()) {
-            Some(FloatLiteral { syntax })
-        } else {
-            None
-        }
-    }
-
-    fn syntax(&self) -> &SyntaxNode<Sample> {
-        &self.syntax
-    }
-
-    ghost equal_kinds = { λ a b same. ap is_float_literal (same_kind a b same) };
-}
+/// [`FloatLiteral`], borrowed from its tree.
+pub type FloatLiteralRef<'tree> = NodeOfRef<'tree, 32>;
 
 impl FloatLiteral {
     ghost use Rattle.std.specs.Prelude.{◌≡◌, IfOk, IfErr};
@@ -3233,16 +1860,6 @@ impl FloatLiteral {
     ghost use Rattle.grammar_sample.specs.contracts.kinds.Kind.{the_type};
     ghost use denote.Enum.Bare.{sameb};
     ghost use Rattle.grammar_sample.specs.Kinds.{kind_of};
-    ghost use Rattle.grammar_sample.specs.NodeIn.{node_in_float_literal_ref};
-
-    /// The same node, borrowed from its tree.
-    pub fn as_ref(&self) -> FloatLiteralRef<'_>
-        ensures { node_in_float_literal_ref result ≡ self.now }
-    {
-        FloatLiteralRef {
-            syntax: self.syntax.as_ref(),
-        }
-    }
 
     /// The first token `Float`.
     pub fn float_token(&self) -> Result<Option<SyntaxToken<Sample>>, Fault>
@@ -3255,55 +1872,8 @@ impl FloatLiteral {
     }
 }
 
-/// [`FloatLiteral`], borrowed from its tree.
-#[derive(Clone, Copy, PartialEq, Eq, Hash, Debug)]
-pub struct FloatLiteralRef<'tree> {
-    syntax: SyntaxNodeRef<'tree, Sample>,
-    ghost casts: { casts_at kind_of is_float_literal (node_place syntax) ≡ true },
-}
-
-impl<'tree> AstNodeRef<'tree> for FloatLiteralRef<'tree> {
-    type Language = Sample;
-
-    ghost use Rattle.std.specs.Prelude.{◌≡◌, true};
-    ghost use Rattle.std.specs.Option.{option_map};
-    ghost use Rattle.rowan.specs.Ast.{casts_at, if_casts};
-    ghost use Rattle.rowan.specs.Refs.{node_place};
-    ghost use Rattle.grammar_sample.specs.Casts.{is_float_literal};
-    ghost use Rattle.grammar_sample.specs.Kinds.{kind_of};
-    ghost use Rattle.grammar_sample.specs.NodeIn.{node_in_float_literal_ref};
-
-    ghost casts = { is_float_literal };
-
-    ghost node_of = { node_in_float_literal_ref };
-
-    fn can_cast(kind: Kind) -> bool
-        ensures { result ≡ is_float_literal kind }
-    {
-        matches!(kind, Kind::FloatLiteral)
-    }
-
-    fn cast(syntax: SyntaxNodeRef<'tree, Sample>) -> Option<FloatLiteralRef<'tree>>
-        ensures { let casting = casts_at kind_of is_float_literal in
-            option_map node_in_float_literal_ref result ≡ if_casts casting (node_place syntax.entry) }
-    {
-        if FloatLiteralRef::can_cast(syntax.kind()) {
-            Some(FloatLiteralRef { syntax })
-        } else {
-            None
-        }
-    }
-
-    fn syntax(&self) -> SyntaxNodeRef<'tree, Sample>
-        ensures node { node_place result ≡ node_in_float_literal_ref self.now }
-        ensures casts { casts_at kind_of is_float_literal (node_place result) ≡ true }
-    {
-        self.syntax
-    }
-}
-
 impl<'tree> FloatLiteralRef<'tree> {
-    ghost use Rattle.std.specs.Prelude.{◌≡◌, IfOk, IfErr};
+    ghost use Rattle.std.specs.Prelude.{◌≡◌};
     ghost use Rattle.std.specs.List.{find};
     ghost use Rattle.std.specs.Option.{option_map};
     ghost use Rattle.rowan.specs.Types.NodeOrToken.TheVariants.{Token};
@@ -3314,22 +1884,13 @@ impl<'tree> FloatLiteralRef<'tree> {
     ghost use Rattle.grammar_sample.specs.contracts.kinds.Kind.{the_type};
     ghost use denote.Enum.Bare.{sameb};
     ghost use Rattle.grammar_sample.specs.Kinds.{kind_of};
-    ghost use Rattle.grammar_sample.specs.NodeIn.{node_in_float_literal_ref};
-
-    /// The same node in a wrapper that keeps the tree. Refused with `Memory` alone.
-    pub fn to_owned(&self) -> Result<FloatLiteral, Fault>
-        ensures ok { IfOk result (λ owned. owned ≡ node_in_float_literal_ref self.now) }
-        ensures err { IfErr result (λ e. e ≡ Fault.Memory) }
-    {
-        let syntax = self.syntax.to_owned()?;
-        Ok(FloatLiteral { syntax })
-    }
+    ghost use Rattle.grammar_sample.specs.NodeIn.{place_in};
 
     /// The first token `Float`.
     pub fn float_token(&self) -> Option<SyntaxTokenRef<'tree, Sample>>
         ensures { let means = means_kind kind_of (sameb the_type) Kind.Float in
             option_map Token (option_map token_place result)
-            ≡ find (is_token_of means) (children_with_tokens (node_in_float_literal_ref self.now)) }
+            ≡ find (is_token_of means) (children_with_tokens (place_in self.now)) }
     {
         support::token_of(self.syntax, Kind::Float)
     }
@@ -3340,65 +1901,10 @@ impl<'tree> FloatLiteralRef<'tree> {
 /// ```text
 /// BooleanLiteral = Boolean
 /// ```
-#[derive(Clone, PartialEq, Eq, Hash, Debug, Drop)]
-pub struct BooleanLiteral {
-    syntax: SyntaxNode<Sample>,
-}
+pub type BooleanLiteral = NodeOf<33>;
 
-impl Model for BooleanLiteral {
-    ghost use Rattle.std.specs.Prelude.{◌≡◌, true};
-    ghost use Rattle.rowan.specs.Cursor.{Cursor};
-    ghost use Rattle.rowan.specs.CursorCode.{coded_cursor};
-    ghost use Rattle.rowan.specs.Ast.{casts_at};
-    ghost use Rattle.grammar_sample.specs.Casts.{is_boolean_literal};
-    ghost use Rattle.grammar_sample.specs.Kinds.{kind_of};
-
-    ghost Value = { Cursor };
-
-    ghost coded = { coded_cursor };
-
-    ghost view = { λ wrapper. wrapper.syntax };
-
-    ghost inverse = { λ node. record { syntax = node } };
-
-    ghost invariant = { λ wrapper. casts_at kind_of is_boolean_literal wrapper.syntax ≡ true };
-}
-
-impl AstNode for BooleanLiteral {
-    type Language = Sample;
-
-    ghost use Rattle.std.specs.Prelude.{◌≡◌};
-    ghost use Rattle.std.specs.Option.{option_map};
-    ghost use Rattle.rowan.specs.Ast.{casts_at, if_casts};
-    ghost use Rattle.grammar_sample.specs.Casts.{is_boolean_literal, same_kind};
-    ghost use Rattle.grammar_sample.specs.Kinds.{kind_of};
-    ghost use Rattle.std.proofs.Common.{ap};
-
-    ghost casts = { is_boolean_literal };
-
-    ghost node_of = { λ wrapper. wrapper };
-
-    fn can_cast(kind: Kind) -> bool {
-        matches!(kind, Kind::BooleanLiteral)
-    }
-
-    fn cast(syntax: SyntaxNode<Sample>) -> Option<BooleanLiteral>
-        ensures { let casting = casts_at kind_of is_boolean_literal in
-            option_map (λ wrapper. wrapper) result ≡ if_casts casting syntax }
-    {
-        if BooleanLiteral::can_cast(syntax.kind()) {
-            Some(BooleanLiteral { syntax })
-        } else {
-            None
-        }
-    }
-
-    fn syntax(&self) -> &SyntaxNode<Sample> {
-        &self.syntax
-    }
-
-    ghost equal_kinds = { λ a b same. ap is_boolean_literal (same_kind a b same) };
-}
+/// [`BooleanLiteral`], borrowed from its tree.
+pub type BooleanLiteralRef<'tree> = NodeOfRef<'tree, 33>;
 
 impl BooleanLiteral {
     ghost use Rattle.std.specs.Prelude.{◌≡◌, IfOk, IfErr};
@@ -3411,16 +1917,6 @@ impl BooleanLiteral {
     ghost use Rattle.grammar_sample.specs.contracts.kinds.Kind.{the_type};
     ghost use denote.Enum.Bare.{sameb};
     ghost use Rattle.grammar_sample.specs.Kinds.{kind_of};
-    ghost use Rattle.grammar_sample.specs.NodeIn.{node_in_boolean_literal_ref};
-
-    /// The same node, borrowed from its tree.
-    pub fn as_ref(&self) -> BooleanLiteralRef<'_>
-        ensures { node_in_boolean_literal_ref result ≡ self.now }
-    {
-        BooleanLiteralRef {
-            syntax: self.syntax.as_ref(),
-        }
-    }
 
     /// The first token `Boolean`.
     pub fn boolean_token(&self) -> Result<Option<SyntaxToken<Sample>>, Fault>
@@ -3433,55 +1929,8 @@ impl BooleanLiteral {
     }
 }
 
-/// [`BooleanLiteral`], borrowed from its tree.
-#[derive(Clone, Copy, PartialEq, Eq, Hash, Debug)]
-pub struct BooleanLiteralRef<'tree> {
-    syntax: SyntaxNodeRef<'tree, Sample>,
-    ghost casts: { casts_at kind_of is_boolean_literal (node_place syntax) ≡ true },
-}
-
-impl<'tree> AstNodeRef<'tree> for BooleanLiteralRef<'tree> {
-    type Language = Sample;
-
-    ghost use Rattle.std.specs.Prelude.{◌≡◌, true};
-    ghost use Rattle.std.specs.Option.{option_map};
-    ghost use Rattle.rowan.specs.Ast.{casts_at, if_casts};
-    ghost use Rattle.rowan.specs.Refs.{node_place};
-    ghost use Rattle.grammar_sample.specs.Casts.{is_boolean_literal};
-    ghost use Rattle.grammar_sample.specs.Kinds.{kind_of};
-    ghost use Rattle.grammar_sample.specs.NodeIn.{node_in_boolean_literal_ref};
-
-    ghost casts = { is_boolean_literal };
-
-    ghost node_of = { node_in_boolean_literal_ref };
-
-    fn can_cast(kind: Kind) -> bool
-        ensures { result ≡ is_boolean_literal kind }
-    {
-        matches!(kind, Kind::BooleanLiteral)
-    }
-
-    fn cast(syntax: SyntaxNodeRef<'tree, Sample>) -> Option<BooleanLiteralRef<'tree>>
-        ensures { let casting = casts_at kind_of is_boolean_literal in
-            option_map node_in_boolean_literal_ref result ≡ if_casts casting (node_place syntax.entry) }
-    {
-        if BooleanLiteralRef::can_cast(syntax.kind()) {
-            Some(BooleanLiteralRef { syntax })
-        } else {
-            None
-        }
-    }
-
-    fn syntax(&self) -> SyntaxNodeRef<'tree, Sample>
-        ensures node { node_place result ≡ node_in_boolean_literal_ref self.now }
-        ensures casts { casts_at kind_of is_boolean_literal (node_place result) ≡ true }
-    {
-        self.syntax
-    }
-}
-
 impl<'tree> BooleanLiteralRef<'tree> {
-    ghost use Rattle.std.specs.Prelude.{◌≡◌, IfOk, IfErr};
+    ghost use Rattle.std.specs.Prelude.{◌≡◌};
     ghost use Rattle.std.specs.List.{find};
     ghost use Rattle.std.specs.Option.{option_map};
     ghost use Rattle.rowan.specs.Types.NodeOrToken.TheVariants.{Token};
@@ -3492,22 +1941,13 @@ impl<'tree> BooleanLiteralRef<'tree> {
     ghost use Rattle.grammar_sample.specs.contracts.kinds.Kind.{the_type};
     ghost use denote.Enum.Bare.{sameb};
     ghost use Rattle.grammar_sample.specs.Kinds.{kind_of};
-    ghost use Rattle.grammar_sample.specs.NodeIn.{node_in_boolean_literal_ref};
-
-    /// The same node in a wrapper that keeps the tree. Refused with `Memory` alone.
-    pub fn to_owned(&self) -> Result<BooleanLiteral, Fault>
-        ensures ok { IfOk result (λ owned. owned ≡ node_in_boolean_literal_ref self.now) }
-        ensures err { IfErr result (λ e. e ≡ Fault.Memory) }
-    {
-        let syntax = self.syntax.to_owned()?;
-        Ok(BooleanLiteral { syntax })
-    }
+    ghost use Rattle.grammar_sample.specs.NodeIn.{place_in};
 
     /// The first token `Boolean`.
     pub fn boolean_token(&self) -> Option<SyntaxTokenRef<'tree, Sample>>
         ensures { let means = means_kind kind_of (sameb the_type) Kind.Boolean in
             option_map Token (option_map token_place result)
-            ≡ find (is_token_of means) (children_with_tokens (node_in_boolean_literal_ref self.now)) }
+            ≡ find (is_token_of means) (children_with_tokens (place_in self.now)) }
     {
         support::token_of(self.syntax, Kind::Boolean)
     }
@@ -3518,65 +1958,10 @@ impl<'tree> BooleanLiteralRef<'tree> {
 /// ```text
 /// MomentLiteral = Moment
 /// ```
-#[derive(Clone, PartialEq, Eq, Hash, Debug, Drop)]
-pub struct MomentLiteral {
-    syntax: SyntaxNode<Sample>,
-}
+pub type MomentLiteral = NodeOf<34>;
 
-impl Model for MomentLiteral {
-    ghost use Rattle.std.specs.Prelude.{◌≡◌, true};
-    ghost use Rattle.rowan.specs.Cursor.{Cursor};
-    ghost use Rattle.rowan.specs.CursorCode.{coded_cursor};
-    ghost use Rattle.rowan.specs.Ast.{casts_at};
-    ghost use Rattle.grammar_sample.specs.Casts.{is_moment_literal};
-    ghost use Rattle.grammar_sample.specs.Kinds.{kind_of};
-
-    ghost Value = { Cursor };
-
-    ghost coded = { coded_cursor };
-
-    ghost view = { λ wrapper. wrapper.syntax };
-
-    ghost inverse = { λ node. record { syntax = node } };
-
-    ghost invariant = { λ wrapper. casts_at kind_of is_moment_literal wrapper.syntax ≡ true };
-}
-
-impl AstNode for MomentLiteral {
-    type Language = Sample;
-
-    ghost use Rattle.std.specs.Prelude.{◌≡◌};
-    ghost use Rattle.std.specs.Option.{option_map};
-    ghost use Rattle.rowan.specs.Ast.{casts_at, if_casts};
-    ghost use Rattle.grammar_sample.specs.Casts.{is_moment_literal, same_kind};
-    ghost use Rattle.grammar_sample.specs.Kinds.{kind_of};
-    ghost use Rattle.std.proofs.Common.{ap};
-
-    ghost casts = { is_moment_literal };
-
-    ghost node_of = { λ wrapper. wrapper };
-
-    fn can_cast(kind: Kind) -> bool {
-        matches!(kind, Kind::MomentLiteral)
-    }
-
-    fn cast(syntax: SyntaxNode<Sample>) -> Option<MomentLiteral>
-        ensures { let casting = casts_at kind_of is_moment_literal in
-            option_map (λ wrapper. wrapper) result ≡ if_casts casting syntax }
-    {
-        if MomentLiteral::can_cast(syntax.kind()) {
-            Some(MomentLiteral { syntax })
-        } else {
-            None
-        }
-    }
-
-    fn syntax(&self) -> &SyntaxNode<Sample> {
-        &self.syntax
-    }
-
-    ghost equal_kinds = { λ a b same. ap is_moment_literal (same_kind a b same) };
-}
+/// [`MomentLiteral`], borrowed from its tree.
+pub type MomentLiteralRef<'tree> = NodeOfRef<'tree, 34>;
 
 impl MomentLiteral {
     ghost use Rattle.std.specs.Prelude.{◌≡◌, IfOk, IfErr};
@@ -3589,16 +1974,6 @@ impl MomentLiteral {
     ghost use Rattle.grammar_sample.specs.contracts.kinds.Kind.{the_type};
     ghost use denote.Enum.Bare.{sameb};
     ghost use Rattle.grammar_sample.specs.Kinds.{kind_of};
-    ghost use Rattle.grammar_sample.specs.NodeIn.{node_in_moment_literal_ref};
-
-    /// The same node, borrowed from its tree.
-    pub fn as_ref(&self) -> MomentLiteralRef<'_>
-        ensures { node_in_moment_literal_ref result ≡ self.now }
-    {
-        MomentLiteralRef {
-            syntax: self.syntax.as_ref(),
-        }
-    }
 
     /// The first token `Moment`.
     pub fn moment_token(&self) -> Result<Option<SyntaxToken<Sample>>, Fault>
@@ -3611,55 +1986,8 @@ impl MomentLiteral {
     }
 }
 
-/// [`MomentLiteral`], borrowed from its tree.
-#[derive(Clone, Copy, PartialEq, Eq, Hash, Debug)]
-pub struct MomentLiteralRef<'tree> {
-    syntax: SyntaxNodeRef<'tree, Sample>,
-    ghost casts: { casts_at kind_of is_moment_literal (node_place syntax) ≡ true },
-}
-
-impl<'tree> AstNodeRef<'tree> for MomentLiteralRef<'tree> {
-    type Language = Sample;
-
-    ghost use Rattle.std.specs.Prelude.{◌≡◌, true};
-    ghost use Rattle.std.specs.Option.{option_map};
-    ghost use Rattle.rowan.specs.Ast.{casts_at, if_casts};
-    ghost use Rattle.rowan.specs.Refs.{node_place};
-    ghost use Rattle.grammar_sample.specs.Casts.{is_moment_literal};
-    ghost use Rattle.grammar_sample.specs.Kinds.{kind_of};
-    ghost use Rattle.grammar_sample.specs.NodeIn.{node_in_moment_literal_ref};
-
-    ghost casts = { is_moment_literal };
-
-    ghost node_of = { node_in_moment_literal_ref };
-
-    fn can_cast(kind: Kind) -> bool
-        ensures { result ≡ is_moment_literal kind }
-    {
-        matches!(kind, Kind::MomentLiteral)
-    }
-
-    fn cast(syntax: SyntaxNodeRef<'tree, Sample>) -> Option<MomentLiteralRef<'tree>>
-        ensures { let casting = casts_at kind_of is_moment_literal in
-            option_map node_in_moment_literal_ref result ≡ if_casts casting (node_place syntax.entry) }
-    {
-        if MomentLiteralRef::can_cast(syntax.kind()) {
-            Some(MomentLiteralRef { syntax })
-        } else {
-            None
-        }
-    }
-
-    fn syntax(&self) -> SyntaxNodeRef<'tree, Sample>
-        ensures node { node_place result ≡ node_in_moment_literal_ref self.now }
-        ensures casts { casts_at kind_of is_moment_literal (node_place result) ≡ true }
-    {
-        self.syntax
-    }
-}
-
 impl<'tree> MomentLiteralRef<'tree> {
-    ghost use Rattle.std.specs.Prelude.{◌≡◌, IfOk, IfErr};
+    ghost use Rattle.std.specs.Prelude.{◌≡◌};
     ghost use Rattle.std.specs.List.{find};
     ghost use Rattle.std.specs.Option.{option_map};
     ghost use Rattle.rowan.specs.Types.NodeOrToken.TheVariants.{Token};
@@ -3670,22 +1998,13 @@ impl<'tree> MomentLiteralRef<'tree> {
     ghost use Rattle.grammar_sample.specs.contracts.kinds.Kind.{the_type};
     ghost use denote.Enum.Bare.{sameb};
     ghost use Rattle.grammar_sample.specs.Kinds.{kind_of};
-    ghost use Rattle.grammar_sample.specs.NodeIn.{node_in_moment_literal_ref};
-
-    /// The same node in a wrapper that keeps the tree. Refused with `Memory` alone.
-    pub fn to_owned(&self) -> Result<MomentLiteral, Fault>
-        ensures ok { IfOk result (λ owned. owned ≡ node_in_moment_literal_ref self.now) }
-        ensures err { IfErr result (λ e. e ≡ Fault.Memory) }
-    {
-        let syntax = self.syntax.to_owned()?;
-        Ok(MomentLiteral { syntax })
-    }
+    ghost use Rattle.grammar_sample.specs.NodeIn.{place_in};
 
     /// The first token `Moment`.
     pub fn moment_token(&self) -> Option<SyntaxTokenRef<'tree, Sample>>
         ensures { let means = means_kind kind_of (sameb the_type) Kind.Moment in
             option_map Token (option_map token_place result)
-            ≡ find (is_token_of means) (children_with_tokens (node_in_moment_literal_ref self.now)) }
+            ≡ find (is_token_of means) (children_with_tokens (place_in self.now)) }
     {
         support::token_of(self.syntax, Kind::Moment)
     }
@@ -3732,8 +2051,8 @@ impl AstNode for Composed {
             option_map node_in_composed result ≡ if_casts casting syntax }
     {
         match syntax.kind() {
-            Kind::Array => Some(Composed::Array(Array { syntax })),
-            Kind::InlineTable => Some(Composed::InlineTable(InlineTable { syntax })),
+            Kind::Array => Some(Composed::Array(NodeOf { syntax })),
+            Kind::InlineTable => Some(Composed::InlineTable(NodeOf { syntax })),
             _ => None,
         }
     }
@@ -3751,11 +2070,11 @@ impl AstNode for Composed {
 
 impl Composed {
     ghost use Rattle.std.specs.Prelude.{◌≡◌};
-    ghost use Rattle.grammar_sample.specs.NodeIn.{node_in_composed, node_in_composed_ref};
+    ghost use Rattle.grammar_sample.specs.NodeIn.{node_in_composed, place_in_composed};
 
     /// The same node, borrowed from its tree.
     pub fn as_ref(&self) -> ComposedRef<'_>
-        ensures { node_in_composed_ref result ≡ node_in_composed self.now }
+        ensures { place_in_composed result ≡ node_in_composed self.now }
     {
         ComposedRef::cast(self.syntax().as_ref()).unwrap()
     }
@@ -3779,11 +2098,11 @@ impl<'tree> AstNodeRef<'tree> for ComposedRef<'tree> {
     ghost use Rattle.rowan.specs.Refs.{node_place};
     ghost use Rattle.grammar_sample.specs.Casts.{is_composed};
     ghost use Rattle.grammar_sample.specs.Kinds.{kind_of};
-    ghost use Rattle.grammar_sample.specs.NodeIn.{node_in_composed_ref};
+    ghost use Rattle.grammar_sample.specs.NodeIn.{place_in_composed};
 
     ghost casts = { is_composed };
 
-    ghost node_of = { node_in_composed_ref };
+    ghost node_of = { place_in_composed };
 
     fn can_cast(kind: Kind) -> bool
         ensures { result ≡ is_composed kind }
@@ -3793,18 +2112,18 @@ impl<'tree> AstNodeRef<'tree> for ComposedRef<'tree> {
 
     fn cast(syntax: SyntaxNodeRef<'tree, Sample>) -> Option<ComposedRef<'tree>>
         ensures { let casting = casts_at kind_of is_composed in
-            option_map node_in_composed_ref result ≡ if_casts casting (node_place syntax.entry) }
+            option_map place_in_composed result ≡ if_casts casting (node_place syntax.entry) }
     {
         match syntax.kind() {
-            Kind::Array => Some(ComposedRef::Array(ArrayRef { syntax })),
-            Kind::InlineTable => Some(ComposedRef::InlineTable(InlineTableRef { syntax })),
+            Kind::Array => Some(ComposedRef::Array(NodeOfRef { syntax })),
+            Kind::InlineTable => Some(ComposedRef::InlineTable(NodeOfRef { syntax })),
             _ => None,
         }
     }
 
     #[tactic(auto, using(crate::proofs::CastLemmas::array_is_composed_raw, crate::proofs::CastLemmas::inline_table_is_composed_raw))]
     fn syntax(&self) -> SyntaxNodeRef<'tree, Sample>
-        ensures node { node_place result ≡ node_in_composed_ref self.now }
+        ensures node { node_place result ≡ place_in_composed self.now }
         ensures casts { casts_at kind_of is_composed (node_place result) ≡ true }
     {
         match self {
@@ -3816,11 +2135,11 @@ impl<'tree> AstNodeRef<'tree> for ComposedRef<'tree> {
 
 impl<'tree> ComposedRef<'tree> {
     ghost use Rattle.std.specs.Prelude.{◌≡◌, IfOk, IfErr};
-    ghost use Rattle.grammar_sample.specs.NodeIn.{node_in_composed, node_in_composed_ref};
+    ghost use Rattle.grammar_sample.specs.NodeIn.{node_in_composed, place_in_composed};
 
     /// The same node in a wrapper that keeps the tree. Refused with `Memory` alone.
     pub fn to_owned(&self) -> Result<Composed, Fault>
-        ensures ok { IfOk result (λ owned. node_in_composed owned ≡ node_in_composed_ref self.now) }
+        ensures ok { IfOk result (λ owned. node_in_composed owned ≡ place_in_composed self.now) }
         ensures err { IfErr result (λ e. e ≡ Fault.Memory) }
     {
         let syntax = self.syntax().to_owned()?;
@@ -3841,9 +2160,9 @@ impl From<Array> for Composed {
 
 impl<'tree> From<ArrayRef<'tree>> for ComposedRef<'tree> {
     ghost use Rattle.std.specs.Prelude.{◌≡◌};
-    ghost use Rattle.grammar_sample.specs.NodeIn.{node_in_composed_ref, node_in_array_ref};
+    ghost use Rattle.grammar_sample.specs.NodeIn.{place_in_composed, place_in};
 
-    ghost from_gives = { λ node whole. node_in_composed_ref whole ≡ node_in_array_ref node };
+    ghost from_gives = { λ node whole. place_in_composed whole ≡ place_in node };
 
     fn from(node: ArrayRef<'tree>) -> ComposedRef<'tree> {
         ComposedRef::Array(node)
@@ -3863,9 +2182,9 @@ impl From<InlineTable> for Composed {
 
 impl<'tree> From<InlineTableRef<'tree>> for ComposedRef<'tree> {
     ghost use Rattle.std.specs.Prelude.{◌≡◌};
-    ghost use Rattle.grammar_sample.specs.NodeIn.{node_in_composed_ref, node_in_inline_table_ref};
+    ghost use Rattle.grammar_sample.specs.NodeIn.{place_in_composed, place_in};
 
-    ghost from_gives = { λ node whole. node_in_composed_ref whole ≡ node_in_inline_table_ref node };
+    ghost from_gives = { λ node whole. place_in_composed whole ≡ place_in node };
 
     fn from(node: InlineTableRef<'tree>) -> ComposedRef<'tree> {
         ComposedRef::InlineTable(node)
@@ -3877,65 +2196,10 @@ impl<'tree> From<InlineTableRef<'tree>> for ComposedRef<'tree> {
 /// ```text
 /// Array = '[' (Value (',' Value)* ','?)? ']'
 /// ```
-#[derive(Clone, PartialEq, Eq, Hash, Debug, Drop)]
-pub struct Array {
-    syntax: SyntaxNode<Sample>,
-}
+pub type Array = NodeOf<35>;
 
-impl Model for Array {
-    ghost use Rattle.std.specs.Prelude.{◌≡◌, true};
-    ghost use Rattle.rowan.specs.Cursor.{Cursor};
-    ghost use Rattle.rowan.specs.CursorCode.{coded_cursor};
-    ghost use Rattle.rowan.specs.Ast.{casts_at};
-    ghost use Rattle.grammar_sample.specs.Casts.{is_array};
-    ghost use Rattle.grammar_sample.specs.Kinds.{kind_of};
-
-    ghost Value = { Cursor };
-
-    ghost coded = { coded_cursor };
-
-    ghost view = { λ wrapper. wrapper.syntax };
-
-    ghost inverse = { λ node. record { syntax = node } };
-
-    ghost invariant = { λ wrapper. casts_at kind_of is_array wrapper.syntax ≡ true };
-}
-
-impl AstNode for Array {
-    type Language = Sample;
-
-    ghost use Rattle.std.specs.Prelude.{◌≡◌};
-    ghost use Rattle.std.specs.Option.{option_map};
-    ghost use Rattle.rowan.specs.Ast.{casts_at, if_casts};
-    ghost use Rattle.grammar_sample.specs.Casts.{is_array, same_kind};
-    ghost use Rattle.grammar_sample.specs.Kinds.{kind_of};
-    ghost use Rattle.std.proofs.Common.{ap};
-
-    ghost casts = { is_array };
-
-    ghost node_of = { λ wrapper. wrapper };
-
-    fn can_cast(kind: Kind) -> bool {
-        matches!(kind, Kind::Array)
-    }
-
-    fn cast(syntax: SyntaxNode<Sample>) -> Option<Array>
-        ensures { let casting = casts_at kind_of is_array in
-            option_map (λ wrapper. wrapper) result ≡ if_casts casting syntax }
-    {
-        if Array::can_cast(syntax.kind()) {
-            Some(Array { syntax })
-        } else {
-            None
-        }
-    }
-
-    fn syntax(&self) -> &SyntaxNode<Sample> {
-        &self.syntax
-    }
-
-    ghost equal_kinds = { λ a b same. ap is_array (same_kind a b same) };
-}
+/// [`Array`], borrowed from its tree.
+pub type ArrayRef<'tree> = NodeOfRef<'tree, 35>;
 
 impl Array {
     ghost use Rattle.std.specs.Prelude.{◌≡◌, IfOk, IfErr};
@@ -3948,16 +2212,6 @@ impl Array {
     ghost use Rattle.grammar_sample.specs.contracts.kinds.Kind.{the_type};
     ghost use denote.Enum.Bare.{sameb};
     ghost use Rattle.grammar_sample.specs.Kinds.{kind_of};
-    ghost use Rattle.grammar_sample.specs.NodeIn.{node_in_array_ref};
-
-    /// The same node, borrowed from its tree.
-    pub fn as_ref(&self) -> ArrayRef<'_>
-        ensures { node_in_array_ref result ≡ self.now }
-    {
-        ArrayRef {
-            syntax: self.syntax.as_ref(),
-        }
-    }
 
     /// The first token `LeftBracket`.
     pub fn left_bracket_token(&self) -> Result<Option<SyntaxToken<Sample>>, Fault>
@@ -3988,55 +2242,8 @@ impl Array {
     }
 }
 
-/// [`Array`], borrowed from its tree.
-#[derive(Clone, Copy, PartialEq, Eq, Hash, Debug)]
-pub struct ArrayRef<'tree> {
-    syntax: SyntaxNodeRef<'tree, Sample>,
-    ghost casts: { casts_at kind_of is_array (node_place syntax) ≡ true },
-}
-
-impl<'tree> AstNodeRef<'tree> for ArrayRef<'tree> {
-    type Language = Sample;
-
-    ghost use Rattle.std.specs.Prelude.{◌≡◌, true};
-    ghost use Rattle.std.specs.Option.{option_map};
-    ghost use Rattle.rowan.specs.Ast.{casts_at, if_casts};
-    ghost use Rattle.rowan.specs.Refs.{node_place};
-    ghost use Rattle.grammar_sample.specs.Casts.{is_array};
-    ghost use Rattle.grammar_sample.specs.Kinds.{kind_of};
-    ghost use Rattle.grammar_sample.specs.NodeIn.{node_in_array_ref};
-
-    ghost casts = { is_array };
-
-    ghost node_of = { node_in_array_ref };
-
-    fn can_cast(kind: Kind) -> bool
-        ensures { result ≡ is_array kind }
-    {
-        matches!(kind, Kind::Array)
-    }
-
-    fn cast(syntax: SyntaxNodeRef<'tree, Sample>) -> Option<ArrayRef<'tree>>
-        ensures { let casting = casts_at kind_of is_array in
-            option_map node_in_array_ref result ≡ if_casts casting (node_place syntax.entry) }
-    {
-        if ArrayRef::can_cast(syntax.kind()) {
-            Some(ArrayRef { syntax })
-        } else {
-            None
-        }
-    }
-
-    fn syntax(&self) -> SyntaxNodeRef<'tree, Sample>
-        ensures node { node_place result ≡ node_in_array_ref self.now }
-        ensures casts { casts_at kind_of is_array (node_place result) ≡ true }
-    {
-        self.syntax
-    }
-}
-
 impl<'tree> ArrayRef<'tree> {
-    ghost use Rattle.std.specs.Prelude.{◌≡◌, filter, IfOk, IfErr};
+    ghost use Rattle.std.specs.Prelude.{◌≡◌, filter};
     ghost use Rattle.std.specs.List.{find};
     ghost use Rattle.std.specs.Option.{option_map};
     ghost use Rattle.rowan.specs.Types.NodeOrToken.TheVariants.{Token};
@@ -4048,22 +2255,13 @@ impl<'tree> ArrayRef<'tree> {
     ghost use denote.Enum.Bare.{sameb};
     ghost use Rattle.grammar_sample.specs.Kinds.{kind_of};
     ghost use Rattle.grammar_sample.specs.Casts.{is_value};
-    ghost use Rattle.grammar_sample.specs.NodeIn.{node_in_array_ref};
-
-    /// The same node in a wrapper that keeps the tree. Refused with `Memory` alone.
-    pub fn to_owned(&self) -> Result<Array, Fault>
-        ensures ok { IfOk result (λ owned. owned ≡ node_in_array_ref self.now) }
-        ensures err { IfErr result (λ e. e ≡ Fault.Memory) }
-    {
-        let syntax = self.syntax.to_owned()?;
-        Ok(Array { syntax })
-    }
+    ghost use Rattle.grammar_sample.specs.NodeIn.{place_in};
 
     /// The first token `LeftBracket`.
     pub fn left_bracket_token(&self) -> Option<SyntaxTokenRef<'tree, Sample>>
         ensures { let means = means_kind kind_of (sameb the_type) Kind.LeftBracket in
             option_map Token (option_map token_place result)
-            ≡ find (is_token_of means) (children_with_tokens (node_in_array_ref self.now)) }
+            ≡ find (is_token_of means) (children_with_tokens (place_in self.now)) }
     {
         support::token_of(self.syntax, Kind::LeftBracket)
     }
@@ -4071,7 +2269,7 @@ impl<'tree> ArrayRef<'tree> {
     /// The children that are `Value`, in order.
     pub fn values(&self) -> AstNodesRef<'tree, ValueRef<'tree>>
         ensures { let casts = casts_at kind_of is_value in
-            rest_that_casts casts result ≡ filter casts (children (node_in_array_ref self.now)) }
+            rest_that_casts casts result ≡ filter casts (children (place_in self.now)) }
     {
         support::children_ref(self.syntax)
     }
@@ -4080,7 +2278,7 @@ impl<'tree> ArrayRef<'tree> {
     pub fn right_bracket_token(&self) -> Option<SyntaxTokenRef<'tree, Sample>>
         ensures { let means = means_kind kind_of (sameb the_type) Kind.RightBracket in
             option_map Token (option_map token_place result)
-            ≡ find (is_token_of means) (children_with_tokens (node_in_array_ref self.now)) }
+            ≡ find (is_token_of means) (children_with_tokens (place_in self.now)) }
     {
         support::token_of(self.syntax, Kind::RightBracket)
     }
@@ -4091,65 +2289,10 @@ impl<'tree> ArrayRef<'tree> {
 /// ```text
 /// InlineTable = '{' (Entry (',' Entry)*)? '}'
 /// ```
-#[derive(Clone, PartialEq, Eq, Hash, Debug, Drop)]
-pub struct InlineTable {
-    syntax: SyntaxNode<Sample>,
-}
+pub type InlineTable = NodeOf<36>;
 
-impl Model for InlineTable {
-    ghost use Rattle.std.specs.Prelude.{◌≡◌, true};
-    ghost use Rattle.rowan.specs.Cursor.{Cursor};
-    ghost use Rattle.rowan.specs.CursorCode.{coded_cursor};
-    ghost use Rattle.rowan.specs.Ast.{casts_at};
-    ghost use Rattle.grammar_sample.specs.Casts.{is_inline_table};
-    ghost use Rattle.grammar_sample.specs.Kinds.{kind_of};
-
-    ghost Value = { Cursor };
-
-    ghost coded = { coded_cursor };
-
-    ghost view = { λ wrapper. wrapper.syntax };
-
-    ghost inverse = { λ node. record { syntax = node } };
-
-    ghost invariant = { λ wrapper. casts_at kind_of is_inline_table wrapper.syntax ≡ true };
-}
-
-impl AstNode for InlineTable {
-    type Language = Sample;
-
-    ghost use Rattle.std.specs.Prelude.{◌≡◌};
-    ghost use Rattle.std.specs.Option.{option_map};
-    ghost use Rattle.rowan.specs.Ast.{casts_at, if_casts};
-    ghost use Rattle.grammar_sample.specs.Casts.{is_inline_table, same_kind};
-    ghost use Rattle.grammar_sample.specs.Kinds.{kind_of};
-    ghost use Rattle.std.proofs.Common.{ap};
-
-    ghost casts = { is_inline_table };
-
-    ghost node_of = { λ wrapper. wrapper };
-
-    fn can_cast(kind: Kind) -> bool {
-        matches!(kind, Kind::InlineTable)
-    }
-
-    fn cast(syntax: SyntaxNode<Sample>) -> Option<InlineTable>
-        ensures { let casting = casts_at kind_of is_inline_table in
-            option_map (λ wrapper. wrapper) result ≡ if_casts casting syntax }
-    {
-        if InlineTable::can_cast(syntax.kind()) {
-            Some(InlineTable { syntax })
-        } else {
-            None
-        }
-    }
-
-    fn syntax(&self) -> &SyntaxNode<Sample> {
-        &self.syntax
-    }
-
-    ghost equal_kinds = { λ a b same. ap is_inline_table (same_kind a b same) };
-}
+/// [`InlineTable`], borrowed from its tree.
+pub type InlineTableRef<'tree> = NodeOfRef<'tree, 36>;
 
 impl InlineTable {
     ghost use Rattle.std.specs.Prelude.{◌≡◌, IfOk, IfErr};
@@ -4162,16 +2305,6 @@ impl InlineTable {
     ghost use Rattle.grammar_sample.specs.contracts.kinds.Kind.{the_type};
     ghost use denote.Enum.Bare.{sameb};
     ghost use Rattle.grammar_sample.specs.Kinds.{kind_of};
-    ghost use Rattle.grammar_sample.specs.NodeIn.{node_in_inline_table_ref};
-
-    /// The same node, borrowed from its tree.
-    pub fn as_ref(&self) -> InlineTableRef<'_>
-        ensures { node_in_inline_table_ref result ≡ self.now }
-    {
-        InlineTableRef {
-            syntax: self.syntax.as_ref(),
-        }
-    }
 
     /// The first token `LeftBrace`.
     pub fn left_brace_token(&self) -> Result<Option<SyntaxToken<Sample>>, Fault>
@@ -4202,55 +2335,8 @@ impl InlineTable {
     }
 }
 
-/// [`InlineTable`], borrowed from its tree.
-#[derive(Clone, Copy, PartialEq, Eq, Hash, Debug)]
-pub struct InlineTableRef<'tree> {
-    syntax: SyntaxNodeRef<'tree, Sample>,
-    ghost casts: { casts_at kind_of is_inline_table (node_place syntax) ≡ true },
-}
-
-impl<'tree> AstNodeRef<'tree> for InlineTableRef<'tree> {
-    type Language = Sample;
-
-    ghost use Rattle.std.specs.Prelude.{◌≡◌, true};
-    ghost use Rattle.std.specs.Option.{option_map};
-    ghost use Rattle.rowan.specs.Ast.{casts_at, if_casts};
-    ghost use Rattle.rowan.specs.Refs.{node_place};
-    ghost use Rattle.grammar_sample.specs.Casts.{is_inline_table};
-    ghost use Rattle.grammar_sample.specs.Kinds.{kind_of};
-    ghost use Rattle.grammar_sample.specs.NodeIn.{node_in_inline_table_ref};
-
-    ghost casts = { is_inline_table };
-
-    ghost node_of = { node_in_inline_table_ref };
-
-    fn can_cast(kind: Kind) -> bool
-        ensures { result ≡ is_inline_table kind }
-    {
-        matches!(kind, Kind::InlineTable)
-    }
-
-    fn cast(syntax: SyntaxNodeRef<'tree, Sample>) -> Option<InlineTableRef<'tree>>
-        ensures { let casting = casts_at kind_of is_inline_table in
-            option_map node_in_inline_table_ref result ≡ if_casts casting (node_place syntax.entry) }
-    {
-        if InlineTableRef::can_cast(syntax.kind()) {
-            Some(InlineTableRef { syntax })
-        } else {
-            None
-        }
-    }
-
-    fn syntax(&self) -> SyntaxNodeRef<'tree, Sample>
-        ensures node { node_place result ≡ node_in_inline_table_ref self.now }
-        ensures casts { casts_at kind_of is_inline_table (node_place result) ≡ true }
-    {
-        self.syntax
-    }
-}
-
 impl<'tree> InlineTableRef<'tree> {
-    ghost use Rattle.std.specs.Prelude.{◌≡◌, filter, IfOk, IfErr};
+    ghost use Rattle.std.specs.Prelude.{◌≡◌, filter};
     ghost use Rattle.std.specs.List.{find};
     ghost use Rattle.std.specs.Option.{option_map};
     ghost use Rattle.rowan.specs.Types.NodeOrToken.TheVariants.{Token};
@@ -4262,22 +2348,13 @@ impl<'tree> InlineTableRef<'tree> {
     ghost use denote.Enum.Bare.{sameb};
     ghost use Rattle.grammar_sample.specs.Kinds.{kind_of};
     ghost use Rattle.grammar_sample.specs.Casts.{is_entry};
-    ghost use Rattle.grammar_sample.specs.NodeIn.{node_in_inline_table_ref};
-
-    /// The same node in a wrapper that keeps the tree. Refused with `Memory` alone.
-    pub fn to_owned(&self) -> Result<InlineTable, Fault>
-        ensures ok { IfOk result (λ owned. owned ≡ node_in_inline_table_ref self.now) }
-        ensures err { IfErr result (λ e. e ≡ Fault.Memory) }
-    {
-        let syntax = self.syntax.to_owned()?;
-        Ok(InlineTable { syntax })
-    }
+    ghost use Rattle.grammar_sample.specs.NodeIn.{place_in};
 
     /// The first token `LeftBrace`.
     pub fn left_brace_token(&self) -> Option<SyntaxTokenRef<'tree, Sample>>
         ensures { let means = means_kind kind_of (sameb the_type) Kind.LeftBrace in
             option_map Token (option_map token_place result)
-            ≡ find (is_token_of means) (children_with_tokens (node_in_inline_table_ref self.now)) }
+            ≡ find (is_token_of means) (children_with_tokens (place_in self.now)) }
     {
         support::token_of(self.syntax, Kind::LeftBrace)
     }
@@ -4285,7 +2362,7 @@ impl<'tree> InlineTableRef<'tree> {
     /// The children that are `Entry`, in order.
     pub fn entries(&self) -> AstNodesRef<'tree, EntryRef<'tree>>
         ensures { let casts = casts_at kind_of is_entry in
-            rest_that_casts casts result ≡ filter casts (children (node_in_inline_table_ref self.now)) }
+            rest_that_casts casts result ≡ filter casts (children (place_in self.now)) }
     {
         support::children_ref(self.syntax)
     }
@@ -4294,7 +2371,7 @@ impl<'tree> InlineTableRef<'tree> {
     pub fn right_brace_token(&self) -> Option<SyntaxTokenRef<'tree, Sample>>
         ensures { let means = means_kind kind_of (sameb the_type) Kind.RightBrace in
             option_map Token (option_map token_place result)
-            ≡ find (is_token_of means) (children_with_tokens (node_in_inline_table_ref self.now)) }
+            ≡ find (is_token_of means) (children_with_tokens (place_in self.now)) }
     {
         support::token_of(self.syntax, Kind::RightBrace)
     }
@@ -4305,65 +2382,10 @@ impl<'tree> InlineTableRef<'tree> {
 /// ```text
 /// Reference = '.' target:Key
 /// ```
-#[derive(Clone, PartialEq, Eq, Hash, Debug, Drop)]
-pub struct Reference {
-    syntax: SyntaxNode<Sample>,
-}
+pub type Reference = NodeOf<37>;
 
-impl Model for Reference {
-    ghost use Rattle.std.specs.Prelude.{◌≡◌, true};
-    ghost use Rattle.rowan.specs.Cursor.{Cursor};
-    ghost use Rattle.rowan.specs.CursorCode.{coded_cursor};
-    ghost use Rattle.rowan.specs.Ast.{casts_at};
-    ghost use Rattle.grammar_sample.specs.Casts.{is_reference};
-    ghost use Rattle.grammar_sample.specs.Kinds.{kind_of};
-
-    ghost Value = { Cursor };
-
-    ghost coded = { coded_cursor };
-
-    ghost view = { λ wrapper. wrapper.syntax };
-
-    ghost inverse = { λ node. record { syntax = node } };
-
-    ghost invariant = { λ wrapper. casts_at kind_of is_reference wrapper.syntax ≡ true };
-}
-
-impl AstNode for Reference {
-    type Language = Sample;
-
-    ghost use Rattle.std.specs.Prelude.{◌≡◌};
-    ghost use Rattle.std.specs.Option.{option_map};
-    ghost use Rattle.rowan.specs.Ast.{casts_at, if_casts};
-    ghost use Rattle.grammar_sample.specs.Casts.{is_reference, same_kind};
-    ghost use Rattle.grammar_sample.specs.Kinds.{kind_of};
-    ghost use Rattle.std.proofs.Common.{ap};
-
-    ghost casts = { is_reference };
-
-    ghost node_of = { λ wrapper. wrapper };
-
-    fn can_cast(kind: Kind) -> bool {
-        matches!(kind, Kind::Reference)
-    }
-
-    fn cast(syntax: SyntaxNode<Sample>) -> Option<Reference>
-        ensures { let casting = casts_at kind_of is_reference in
-            option_map (λ wrapper. wrapper) result ≡ if_casts casting syntax }
-    {
-        if Reference::can_cast(syntax.kind()) {
-            Some(Reference { syntax })
-        } else {
-            None
-        }
-    }
-
-    fn syntax(&self) -> &SyntaxNode<Sample> {
-        &self.syntax
-    }
-
-    ghost equal_kinds = { λ a b same. ap is_reference (same_kind a b same) };
-}
+/// [`Reference`], borrowed from its tree.
+pub type ReferenceRef<'tree> = NodeOfRef<'tree, 37>;
 
 impl Reference {
     ghost use Rattle.std.specs.Prelude.{◌≡◌, IfOk, IfErr};
@@ -4377,16 +2399,6 @@ impl Reference {
     ghost use denote.Enum.Bare.{sameb};
     ghost use Rattle.grammar_sample.specs.Kinds.{kind_of};
     ghost use Rattle.grammar_sample.specs.Casts.{is_key};
-    ghost use Rattle.grammar_sample.specs.NodeIn.{node_in_reference_ref};
-
-    /// The same node, borrowed from its tree.
-    pub fn as_ref(&self) -> ReferenceRef<'_>
-        ensures { node_in_reference_ref result ≡ self.now }
-    {
-        ReferenceRef {
-            syntax: self.syntax.as_ref(),
-        }
-    }
 
     /// The first token `Dot`.
     pub fn dot_token(&self) -> Result<Option<SyntaxToken<Sample>>, Fault>
@@ -4409,55 +2421,8 @@ impl Reference {
     }
 }
 
-/// [`Reference`], borrowed from its tree.
-#[derive(Clone, Copy, PartialEq, Eq, Hash, Debug)]
-pub struct ReferenceRef<'tree> {
-    syntax: SyntaxNodeRef<'tree, Sample>,
-    ghost casts: { casts_at kind_of is_reference (node_place syntax) ≡ true },
-}
-
-impl<'tree> AstNodeRef<'tree> for ReferenceRef<'tree> {
-    type Language = Sample;
-
-    ghost use Rattle.std.specs.Prelude.{◌≡◌, true};
-    ghost use Rattle.std.specs.Option.{option_map};
-    ghost use Rattle.rowan.specs.Ast.{casts_at, if_casts};
-    ghost use Rattle.rowan.specs.Refs.{node_place};
-    ghost use Rattle.grammar_sample.specs.Casts.{is_reference};
-    ghost use Rattle.grammar_sample.specs.Kinds.{kind_of};
-    ghost use Rattle.grammar_sample.specs.NodeIn.{node_in_reference_ref};
-
-    ghost casts = { is_reference };
-
-    ghost node_of = { node_in_reference_ref };
-
-    fn can_cast(kind: Kind) -> bool
-        ensures { result ≡ is_reference kind }
-    {
-        matches!(kind, Kind::Reference)
-    }
-
-    fn cast(syntax: SyntaxNodeRef<'tree, Sample>) -> Option<ReferenceRef<'tree>>
-        ensures { let casting = casts_at kind_of is_reference in
-            option_map node_in_reference_ref result ≡ if_casts casting (node_place syntax.entry) }
-    {
-        if ReferenceRef::can_cast(syntax.kind()) {
-            Some(ReferenceRef { syntax })
-        } else {
-            None
-        }
-    }
-
-    fn syntax(&self) -> SyntaxNodeRef<'tree, Sample>
-        ensures node { node_place result ≡ node_in_reference_ref self.now }
-        ensures casts { casts_at kind_of is_reference (node_place result) ≡ true }
-    {
-        self.syntax
-    }
-}
-
 impl<'tree> ReferenceRef<'tree> {
-    ghost use Rattle.std.specs.Prelude.{◌≡◌, IfOk, IfErr};
+    ghost use Rattle.std.specs.Prelude.{◌≡◌};
     ghost use Rattle.std.specs.List.{find};
     ghost use Rattle.std.specs.Option.{option_map};
     ghost use Rattle.rowan.specs.Types.NodeOrToken.TheVariants.{Token};
@@ -4469,22 +2434,13 @@ impl<'tree> ReferenceRef<'tree> {
     ghost use denote.Enum.Bare.{sameb};
     ghost use Rattle.grammar_sample.specs.Kinds.{kind_of};
     ghost use Rattle.grammar_sample.specs.Casts.{is_key};
-    ghost use Rattle.grammar_sample.specs.NodeIn.{node_in_reference_ref, node_in_key_ref};
-
-    /// The same node in a wrapper that keeps the tree. Refused with `Memory` alone.
-    pub fn to_owned(&self) -> Result<Reference, Fault>
-        ensures ok { IfOk result (λ owned. owned ≡ node_in_reference_ref self.now) }
-        ensures err { IfErr result (λ e. e ≡ Fault.Memory) }
-    {
-        let syntax = self.syntax.to_owned()?;
-        Ok(Reference { syntax })
-    }
+    ghost use Rattle.grammar_sample.specs.NodeIn.{place_in};
 
     /// The first token `Dot`.
     pub fn dot_token(&self) -> Option<SyntaxTokenRef<'tree, Sample>>
         ensures { let means = means_kind kind_of (sameb the_type) Kind.Dot in
             option_map Token (option_map token_place result)
-            ≡ find (is_token_of means) (children_with_tokens (node_in_reference_ref self.now)) }
+            ≡ find (is_token_of means) (children_with_tokens (place_in self.now)) }
     {
         support::token_of(self.syntax, Kind::Dot)
     }
@@ -4492,7 +2448,7 @@ impl<'tree> ReferenceRef<'tree> {
     /// The first child that is `Key`.
     pub fn target(&self) -> Option<KeyRef<'tree>>
         ensures { let casts = casts_at kind_of is_key in
-            option_map node_in_key_ref result ≡ find casts (children (node_in_reference_ref self.now)) }
+            option_map place_in result ≡ find casts (children (place_in self.now)) }
     {
         support::child_ref(self.syntax)
     }
@@ -4503,65 +2459,10 @@ impl<'tree> ReferenceRef<'tree> {
 /// ```text
 /// Call = function:BareKey Arguments
 /// ```
-#[derive(Clone, PartialEq, Eq, Hash, Debug, Drop)]
-pub struct Call {
-    syntax: SyntaxNode<Sample>,
-}
+pub type Call = NodeOf<38>;
 
-impl Model for Call {
-    ghost use Rattle.std.specs.Prelude.{◌≡◌, true};
-    ghost use Rattle.rowan.specs.Cursor.{Cursor};
-    ghost use Rattle.rowan.specs.CursorCode.{coded_cursor};
-    ghost use Rattle.rowan.specs.Ast.{casts_at};
-    ghost use Rattle.grammar_sample.specs.Casts.{is_call};
-    ghost use Rattle.grammar_sample.specs.Kinds.{kind_of};
-
-    ghost Value = { Cursor };
-
-    ghost coded = { coded_cursor };
-
-    ghost view = { λ wrapper. wrapper.syntax };
-
-    ghost inverse = { λ node. record { syntax = node } };
-
-    ghost invariant = { λ wrapper. casts_at kind_of is_call wrapper.syntax ≡ true };
-}
-
-impl AstNode for Call {
-    type Language = Sample;
-
-    ghost use Rattle.std.specs.Prelude.{◌≡◌};
-    ghost use Rattle.std.specs.Option.{option_map};
-    ghost use Rattle.rowan.specs.Ast.{casts_at, if_casts};
-    ghost use Rattle.grammar_sample.specs.Casts.{is_call, same_kind};
-    ghost use Rattle.grammar_sample.specs.Kinds.{kind_of};
-    ghost use Rattle.std.proofs.Common.{ap};
-
-    ghost casts = { is_call };
-
-    ghost node_of = { λ wrapper. wrapper };
-
-    fn can_cast(kind: Kind) -> bool {
-        matches!(kind, Kind::Call)
-    }
-
-    fn cast(syntax: SyntaxNode<Sample>) -> Option<Call>
-        ensures { let casting = casts_at kind_of is_call in
-            option_map (λ wrapper. wrapper) result ≡ if_casts casting syntax }
-    {
-        if Call::can_cast(syntax.kind()) {
-            Some(Call { syntax })
-        } else {
-            None
-        }
-    }
-
-    fn syntax(&self) -> &SyntaxNode<Sample> {
-        &self.syntax
-    }
-
-    ghost equal_kinds = { λ a b same. ap is_call (same_kind a b same) };
-}
+/// [`Call`], borrowed from its tree.
+pub type CallRef<'tree> = NodeOfRef<'tree, 38>;
 
 impl Call {
     ghost use Rattle.std.specs.Prelude.{◌≡◌, IfOk, IfErr};
@@ -4571,16 +2472,6 @@ impl Call {
     ghost use Rattle.rowan.specs.Ast.{casts_at};
     ghost use Rattle.grammar_sample.specs.Kinds.{kind_of};
     ghost use Rattle.grammar_sample.specs.Casts.{is_bare_key, is_arguments};
-    ghost use Rattle.grammar_sample.specs.NodeIn.{node_in_call_ref};
-
-    /// The same node, borrowed from its tree.
-    pub fn as_ref(&self) -> CallRef<'_>
-        ensures { node_in_call_ref result ≡ self.now }
-    {
-        CallRef {
-            syntax: self.syntax.as_ref(),
-        }
-    }
 
     /// The first child that is `BareKey`.
     pub fn function(&self) -> Result<Option<BareKey>, Fault>
@@ -4603,77 +2494,20 @@ impl Call {
     }
 }
 
-/// [`Call`], borrowed from its tree.
-#[derive(Clone, Copy, PartialEq, Eq, Hash, Debug)]
-pub struct CallRef<'tree> {
-    syntax: SyntaxNodeRef<'tree, Sample>,
-    ghost casts: { casts_at kind_of is_call (node_place syntax) ≡ true },
-}
-
-impl<'tree> AstNodeRef<'tree> for CallRef<'tree> {
-    type Language = Sample;
-
-    ghost use Rattle.std.specs.Prelude.{◌≡◌, true};
-    ghost use Rattle.std.specs.Option.{option_map};
-    ghost use Rattle.rowan.specs.Ast.{casts_at, if_casts};
-    ghost use Rattle.rowan.specs.Refs.{node_place};
-    ghost use Rattle.grammar_sample.specs.Casts.{is_call};
-    ghost use Rattle.grammar_sample.specs.Kinds.{kind_of};
-    ghost use Rattle.grammar_sample.specs.NodeIn.{node_in_call_ref};
-
-    ghost casts = { is_call };
-
-    ghost node_of = { node_in_call_ref };
-
-    fn can_cast(kind: Kind) -> bool
-        ensures { result ≡ is_call kind }
-    {
-        matches!(kind, Kind::Call)
-    }
-
-    fn cast(syntax: SyntaxNodeRef<'tree, Sample>) -> Option<CallRef<'tree>>
-        ensures { let casting = casts_at kind_of is_call in
-            option_map node_in_call_ref result ≡ if_casts casting (node_place syntax.entry) }
-    {
-        if CallRef::can_cast(syntax.kind()) {
-            Some(CallRef { syntax })
-        } else {
-            None
-        }
-    }
-
-    fn syntax(&self) -> SyntaxNodeRef<'tree, Sample>
-        ensures node { node_place result ≡ node_in_call_ref self.now }
-        ensures casts { casts_at kind_of is_call (node_place result) ≡ true }
-    {
-        self.syntax
-    }
-}
-
 impl<'tree> CallRef<'tree> {
-    ghost use Rattle.std.specs.Prelude.{◌≡◌, IfOk, IfErr};
+    ghost use Rattle.std.specs.Prelude.{◌≡◌};
     ghost use Rattle.std.specs.List.{find};
     ghost use Rattle.std.specs.Option.{option_map};
     ghost use Rattle.rowan.specs.Moves.{children};
     ghost use Rattle.rowan.specs.Ast.{casts_at};
     ghost use Rattle.grammar_sample.specs.Kinds.{kind_of};
     ghost use Rattle.grammar_sample.specs.Casts.{is_bare_key, is_arguments};
-    ghost use Rattle.grammar_sample.specs.NodeIn.{node_in_call_ref, node_in_bare_key_ref};
-    ghost use Rattle.grammar_sample.specs.NodeIn.{node_in_arguments_ref};
-
-    /// The same node in a wrapper that keeps the tree. Refused with `Memory` alone.
-    pub fn to_owned(&self) -> Result<Call, Fault>
-        ensures ok { IfOk result (λ owned. owned ≡ node_in_call_ref self.now) }
-        ensures err { IfErr result (λ e. e ≡ Fault.Memory) }
-    {
-        let syntax = self.syntax.to_owned()?;
-        Ok(Call { syntax })
-    }
+    ghost use Rattle.grammar_sample.specs.NodeIn.{place_in};
 
     /// The first child that is `BareKey`.
     pub fn function(&self) -> Option<BareKeyRef<'tree>>
         ensures { let casts = casts_at kind_of is_bare_key in
-            option_map node_in_bare_key_ref result ≡ find casts (children (node_in_call_ref self.now)) }
+            option_map place_in result ≡ find casts (children (place_in self.now)) }
     {
         support::child_ref(self.syntax)
     }
@@ -4681,7 +2515,7 @@ impl<'tree> CallRef<'tree> {
     /// The first child that is `Arguments`.
     pub fn arguments(&self) -> Option<ArgumentsRef<'tree>>
         ensures { let casts = casts_at kind_of is_arguments in
-            option_map node_in_arguments_ref result ≡ find casts (children (node_in_call_ref self.now)) }
+            option_map place_in result ≡ find casts (children (place_in self.now)) }
     {
         support::child_ref(self.syntax)
     }
@@ -4692,65 +2526,10 @@ impl<'tree> CallRef<'tree> {
 /// ```text
 /// Arguments = '(' (Value ','?)* ')'
 /// ```
-#[derive(Clone, PartialEq, Eq, Hash, Debug, Drop)]
-pub struct Arguments {
-    syntax: SyntaxNode<Sample>,
-}
+pub type Arguments = NodeOf<39>;
 
-impl Model for Arguments {
-    ghost use Rattle.std.specs.Prelude.{◌≡◌, true};
-    ghost use Rattle.rowan.specs.Cursor.{Cursor};
-    ghost use Rattle.rowan.specs.CursorCode.{coded_cursor};
-    ghost use Rattle.rowan.specs.Ast.{casts_at};
-    ghost use Rattle.grammar_sample.specs.Casts.{is_arguments};
-    ghost use Rattle.grammar_sample.specs.Kinds.{kind_of};
-
-    ghost Value = { Cursor };
-
-    ghost coded = { coded_cursor };
-
-    ghost view = { λ wrapper. wrapper.syntax };
-
-    ghost inverse = { λ node. record { syntax = node } };
-
-    ghost invariant = { λ wrapper. casts_at kind_of is_arguments wrapper.syntax ≡ true };
-}
-
-impl AstNode for Arguments {
-    type Language = Sample;
-
-    ghost use Rattle.std.specs.Prelude.{◌≡◌};
-    ghost use Rattle.std.specs.Option.{option_map};
-    ghost use Rattle.rowan.specs.Ast.{casts_at, if_casts};
-    ghost use Rattle.grammar_sample.specs.Casts.{is_arguments, same_kind};
-    ghost use Rattle.grammar_sample.specs.Kinds.{kind_of};
-    ghost use Rattle.std.proofs.Common.{ap};
-
-    ghost casts = { is_arguments };
-
-    ghost node_of = { λ wrapper. wrapper };
-
-    fn can_cast(kind: Kind) -> bool {
-        matches!(kind, Kind::Arguments)
-    }
-
-    fn cast(syntax: SyntaxNode<Sample>) -> Option<Arguments>
-        ensures { let casting = casts_at kind_of is_arguments in
-            option_map (λ wrapper. wrapper) result ≡ if_casts casting syntax }
-    {
-        if Arguments::can_cast(syntax.kind()) {
-            Some(Arguments { syntax })
-        } else {
-            None
-        }
-    }
-
-    fn syntax(&self) -> &SyntaxNode<Sample> {
-        &self.syntax
-    }
-
-    ghost equal_kinds = { λ a b same. ap is_arguments (same_kind a b same) };
-}
+/// [`Arguments`], borrowed from its tree.
+pub type ArgumentsRef<'tree> = NodeOfRef<'tree, 39>;
 
 impl Arguments {
     ghost use Rattle.std.specs.Prelude.{◌≡◌, IfOk, IfErr};
@@ -4763,16 +2542,6 @@ impl Arguments {
     ghost use Rattle.grammar_sample.specs.contracts.kinds.Kind.{the_type};
     ghost use denote.Enum.Bare.{sameb};
     ghost use Rattle.grammar_sample.specs.Kinds.{kind_of};
-    ghost use Rattle.grammar_sample.specs.NodeIn.{node_in_arguments_ref};
-
-    /// The same node, borrowed from its tree.
-    pub fn as_ref(&self) -> ArgumentsRef<'_>
-        ensures { node_in_arguments_ref result ≡ self.now }
-    {
-        ArgumentsRef {
-            syntax: self.syntax.as_ref(),
-        }
-    }
 
     /// The first token `LeftParen`.
     pub fn left_paren_token(&self) -> Result<Option<SyntaxToken<Sample>>, Fault>
@@ -4803,55 +2572,8 @@ impl Arguments {
     }
 }
 
-/// [`Arguments`], borrowed from its tree.
-#[derive(Clone, Copy, PartialEq, Eq, Hash, Debug)]
-pub struct ArgumentsRef<'tree> {
-    syntax: SyntaxNodeRef<'tree, Sample>,
-    ghost casts: { casts_at kind_of is_arguments (node_place syntax) ≡ true },
-}
-
-impl<'tree> AstNodeRef<'tree> for ArgumentsRef<'tree> {
-    type Language = Sample;
-
-    ghost use Rattle.std.specs.Prelude.{◌≡◌, true};
-    ghost use Rattle.std.specs.Option.{option_map};
-    ghost use Rattle.rowan.specs.Ast.{casts_at, if_casts};
-    ghost use Rattle.rowan.specs.Refs.{node_place};
-    ghost use Rattle.grammar_sample.specs.Casts.{is_arguments};
-    ghost use Rattle.grammar_sample.specs.Kinds.{kind_of};
-    ghost use Rattle.grammar_sample.specs.NodeIn.{node_in_arguments_ref};
-
-    ghost casts = { is_arguments };
-
-    ghost node_of = { node_in_arguments_ref };
-
-    fn can_cast(kind: Kind) -> bool
-        ensures { result ≡ is_arguments kind }
-    {
-        matches!(kind, Kind::Arguments)
-    }
-
-    fn cast(syntax: SyntaxNodeRef<'tree, Sample>) -> Option<ArgumentsRef<'tree>>
-        ensures { let casting = casts_at kind_of is_arguments in
-            option_map node_in_arguments_ref result ≡ if_casts casting (node_place syntax.entry) }
-    {
-        if ArgumentsRef::can_cast(syntax.kind()) {
-            Some(ArgumentsRef { syntax })
-        } else {
-            None
-        }
-    }
-
-    fn syntax(&self) -> SyntaxNodeRef<'tree, Sample>
-        ensures node { node_place result ≡ node_in_arguments_ref self.now }
-        ensures casts { casts_at kind_of is_arguments (node_place result) ≡ true }
-    {
-        self.syntax
-    }
-}
-
 impl<'tree> ArgumentsRef<'tree> {
-    ghost use Rattle.std.specs.Prelude.{◌≡◌, filter, IfOk, IfErr};
+    ghost use Rattle.std.specs.Prelude.{◌≡◌, filter};
     ghost use Rattle.std.specs.List.{find};
     ghost use Rattle.std.specs.Option.{option_map};
     ghost use Rattle.rowan.specs.Types.NodeOrToken.TheVariants.{Token};
@@ -4863,22 +2585,13 @@ impl<'tree> ArgumentsRef<'tree> {
     ghost use denote.Enum.Bare.{sameb};
     ghost use Rattle.grammar_sample.specs.Kinds.{kind_of};
     ghost use Rattle.grammar_sample.specs.Casts.{is_value};
-    ghost use Rattle.grammar_sample.specs.NodeIn.{node_in_arguments_ref};
-
-    /// The same node in a wrapper that keeps the tree. Refused with `Memory` alone.
-    pub fn to_owned(&self) -> Result<Arguments, Fault>
-        ensures ok { IfOk result (λ owned. owned ≡ node_in_arguments_ref self.now) }
-        ensures err { IfErr result (λ e. e ≡ Fault.Memory) }
-    {
-        let syntax = self.syntax.to_owned()?;
-        Ok(Arguments { syntax })
-    }
+    ghost use Rattle.grammar_sample.specs.NodeIn.{place_in};
 
     /// The first token `LeftParen`.
     pub fn left_paren_token(&self) -> Option<SyntaxTokenRef<'tree, Sample>>
         ensures { let means = means_kind kind_of (sameb the_type) Kind.LeftParen in
             option_map Token (option_map token_place result)
-            ≡ find (is_token_of means) (children_with_tokens (node_in_arguments_ref self.now)) }
+            ≡ find (is_token_of means) (children_with_tokens (place_in self.now)) }
     {
         support::token_of(self.syntax, Kind::LeftParen)
     }
@@ -4886,7 +2599,7 @@ impl<'tree> ArgumentsRef<'tree> {
     /// The children that are `Value`, in order.
     pub fn values(&self) -> AstNodesRef<'tree, ValueRef<'tree>>
         ensures { let casts = casts_at kind_of is_value in
-            rest_that_casts casts result ≡ filter casts (children (node_in_arguments_ref self.now)) }
+            rest_that_casts casts result ≡ filter casts (children (place_in self.now)) }
     {
         support::children_ref(self.syntax)
     }
@@ -4895,7 +2608,7 @@ impl<'tree> ArgumentsRef<'tree> {
     pub fn right_paren_token(&self) -> Option<SyntaxTokenRef<'tree, Sample>>
         ensures { let means = means_kind kind_of (sameb the_type) Kind.RightParen in
             option_map Token (option_map token_place result)
-            ≡ find (is_token_of means) (children_with_tokens (node_in_arguments_ref self.now)) }
+            ≡ find (is_token_of means) (children_with_tokens (place_in self.now)) }
     {
         support::token_of(self.syntax, Kind::RightParen)
     }

@@ -1,10 +1,7 @@
 //! The grammar of JSON.
 use crate::dialect::{MAX_DEPTH, Options};
-use crate::kinds::{Json, Kind};
-use rowan_parser::{Parser, TokenSet, token_set};
-
-/// The tokens at which an element of an array or an object ends.
-const ENDS: TokenSet = token_set![Kind::Comma, Kind::RBracket, Kind::RBrace];
+use crate::kinds::{ENDS, Json, Kind};
+use rowan_parser::Parser;
 
 /// A value, and nothing behind it.
 pub fn document(p: &mut Parser<Json>, options: &Options) {

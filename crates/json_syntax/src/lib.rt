@@ -3,8 +3,9 @@
 
 mod dialect;
 mod grammar;
-mod kinds;
+pub mod kinds;
 mod lexer;
+pub mod nodes;
 mod numerals;
 mod scanning;
 mod strings;
@@ -15,10 +16,11 @@ ghost use Rattle.rowan.specs.Term.{node_text};
 ghost use Rattle.rowan_parser.specs.Parsing.{WhyNoTree};
 
 pub use dialect::{MAX_DEPTH, Options};
+use kinds::BLANK;
 pub use kinds::{Json, Kind};
 pub use lexer::{JsonLexer, next_token};
 use rowan::Fault;
-use rowan_parser::{Parse, Parser, Trivia, token_set};
+use rowan_parser::{Parse, Parser, Trivia};
 use std::alloc::Global;
 
 /// Parses JSON with comments and trailing commas, with arrays and objects at most 512 deep: as
@@ -54,7 +56,7 @@ pub fn parse_with_options(alloc: Global, text: &str, options: Options) -> Result
 {
     let lexer = JsonLexer { options };
     let trivia = Trivia {
-        kinds: token_set![Kind::Whitespace, Kind::Comment],
+        kinds: BLANK,
         attached: &[],
     };
     let document = |p: &mut Parser<Json>| grammar::document(p, &options);

@@ -1,4 +1,6 @@
-//! Strict JSON beside `serde_json`: drawn and damaged texts, and texts that were chosen.
+//! Strict JSON beside `serde_json`, and by a parser that is written from a grammar: drawn and damaged
+//! texts, and texts that were chosen.
+use json_by_grammar::JsonParser;
 use json_syntax::{Options, parse_with_options};
 use rowan::Fault;
 use serde_json::Value;
@@ -145,8 +147,20 @@ fn compare(alloc: Global, text: &str) -> Result<Answer, Fault> {
     }
 }
 
+/// Whether the parser that is written from a grammar has errors where the one by hand has some, and
+/// else the same tree.
+fn agrees(alloc: Global, parser: &JsonParser, text: &str) -> Result<bool, Fault> {
+    let wanted = parse_with_options(alloc, text, Options::strict())?;
+    let parse = parser.parse(alloc, text)?;
+    if wanted.errors.is_empty() {
+        return Ok(parse.errors.is_empty() && parse.green == wanted.green);
+    }
+    Ok(!parse.errors.is_empty())
+}
+
 #[test]
 fn drawn_texts_are_as_serde_json_says(rt: HostRuntime) -> Result<(), Fail> {
+    let parser = JsonParser::new(rt.alloc())?;
     let mut draws = Draws { state: 1 };
     let mut taken: usize = 0;
     let mut refused: usize = 0;
@@ -157,6 +171,7 @@ fn drawn_texts_are_as_serde_json_says(rt: HostRuntime) -> Result<(), Fail> {
         }
         let answer = compare(rt.alloc(), text.as_str())?;
         assert!(rt; answer != Answer::Differ, "{text}");
+        assert!(rt; agrees(rt.alloc(), &parser, text.as_str())?, "{text}");
         taken = taken.saturating_add(usize::from(answer == Answer::BothTake));
         refused = refused.saturating_add(usize::from(answer == Answer::BothRefuse));
     }
@@ -188,7 +203,9 @@ const CHOSEN: [(&str, Answer); 18] = [
 
 #[test]
 fn chosen_texts_are_as_serde_json_says(rt: HostRuntime) -> Result<(), Fail> {
+    let parser = JsonParser::new(rt.alloc())?;
     for (text, answer) in CHOSEN {
+        assert!(rt; agrees(rt.alloc(), &parser, text)?, "{text}");
         let found = compare(rt.alloc(), text)?;
         assert!(rt; found == answer, "{text}: {found:?}");
     }

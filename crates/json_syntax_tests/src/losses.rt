@@ -1,3 +1,4 @@
+use json_by_grammar::JsonParser;
 use json_syntax::parse;
 use rowan::Fault;
 use std::alloc::Global;
@@ -46,18 +47,29 @@ const TEXTS: [&str; 40] = [
     "[\r\n\t1,\r\n\t2\r\n]",
 ];
 
+/// Bytes that end a token or begin one.
+const BYTES: &[u8] = b"{}[],:\"\\/1-nt \n@";
+
 /// Whether the tree of a text has this text.
 fn is_kept(alloc: Global, text: &str) -> Result<bool, Fault> {
     let parse = parse(alloc, text)?;
     Ok(parse.green.to_string(alloc)?.as_str() == text)
 }
 
+/// The same of the parser that is written from a grammar.
+fn is_kept_by(alloc: Global, parser: &JsonParser, text: &str) -> Result<bool, Fault> {
+    let parse = parser.parse(alloc, text)?;
+    Ok(parse.green.to_string(alloc)?.as_str() == text)
+}
+
 #[test]
 fn every_prefix_is_kept(rt: HostRuntime) -> Result<(), Fail> {
+    let parser = JsonParser::new(rt.alloc())?;
     for text in TEXTS {
         for (end, _) in text.char_indices() {
             let prefix = text.get(..end).unwrap_or("");
             assert!(rt; is_kept(rt.alloc(), prefix)?, "{prefix}");
+            assert!(rt; is_kept_by(rt.alloc(), &parser, prefix)?, "{prefix}");
         }
         assert!(rt; is_kept(rt.alloc(), text)?, "{text}");
     }
@@ -91,5 +103,29 @@ fn every_damage_is_kept(rt: HostRuntime) -> Result<(), Fail> {
 fn three_million_brackets_are_kept(rt: HostRuntime) -> Result<(), Fail> {
     let text = "[".repeat(rt.alloc(), 3_000_000)?;
     assert!(rt; is_kept(rt.alloc(), text.as_str())?);
+    Ok(())
+}
+
+#[test]
+fn damages_are_kept_by_a_written_parser(rt: HostRuntime) -> Result<(), Fail> {
+    let parser = JsonParser::new(rt.alloc())?;
+    for text in TEXTS {
+        for at in 0..text.len() {
+            for byte in BYTES {
+                if let Some(damaged) = damage(rt.alloc(), text, at, *byte)? {
+                    let is_kept = is_kept_by(rt.alloc(), &parser, damaged.as_str())?;
+                    assert!(rt; is_kept, "{damaged}");
+                }
+            }
+        }
+    }
+    Ok(())
+}
+
+#[test]
+fn three_million_brackets_are_kept_by_a_written_parser(rt: HostRuntime) -> Result<(), Fail> {
+    let parser = JsonParser::new(rt.alloc())?;
+    let text = "[".repeat(rt.alloc(), 3_000_000)?;
+    assert!(rt; is_kept_by(rt.alloc(), &parser, text.as_str())?);
     Ok(())
 }

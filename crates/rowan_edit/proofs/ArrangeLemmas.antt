@@ -1,20 +1,19 @@
 -- An arrangement comes to an edit, among those that stand in order.
-use Rattle.std.proofs.Common.{◌≡◌, ◌≢◌, ℕ, zero, suc, ◌+◌, ◌<◌, ◌≤◌, Bool, true, false, List, []}
+use Rattle.std.proofs.Common.{◌≡◌, ℕ, ◌+◌, ◌≤◌, Bool, true, false, List, []}
 use Rattle.std.proofs.Common.{◌∷◌, ◌++◌, length, Option, Some, None, append_assoc, inl, inr, refl}
 use Rattle.std.proofs.Common.{sym, ◌∙◌, ap, subst, arith}
-use Rattle.std.specs.Prelude.{◌⊎◌, not, cond, reverse, map}
+use Rattle.std.specs.Prelude.{◌⊎◌, not, cond, reverse}
 use Rattle.std.specs.Cmp.Lexicographic.{slice_cmp}
-use Rattle.std.specs.List.{AllByRecursion, filter}
+use Rattle.std.specs.List.{AllByRecursion}
 use Rattle.std.specs.Option.{is_some}
 use Rattle.std.specs.Ordering.{nat_cmp}
-use Rattle.std.specs.declared.cmp.Ordering.{Ordering}
 use Rattle.std.specs.declared.cmp.Ordering.TheVariants.{Less, Equal, Greater}
 use Rattle.std.proofs.lemmas.List.{map-append, append-nil, reverse-append}
 use Rattle.rowan_green.specs.declared.utility_types.NodeOrToken.TheVariants.{Node}
 use Rattle.rowan_green.specs.Path.{Path, subterm, subterm_of}
-use Rattle.rowan_green.specs.Term.{NodeTerm, Term, node_children}
+use Rattle.rowan_green.specs.Term.{NodeTerm, node_children}
 use Rattle.rowan_green.proofs.Paths.{subterm_of-append}
-use Rattle.rowan_cursor.specs.Moves.{children_of, child_count}
+use Rattle.rowan_cursor.specs.Moves.{children_of}
 use Rattle.rowan_edit.specs.declared.edit.Splice.{Splice}
 use Rattle.rowan_edit.specs.declared.plain_edits.Halves.{Halves}
 use Rattle.rowan_edit.specs.declared.plain_edits.Parted.{Parted}
@@ -28,7 +27,6 @@ use Rattle.rowan_edit.specs.Edit.{Edit, ends_before, lies_before, place}
 use Rattle.rowan_edit.specs.GreenEditor.{edit_of, edits_of, HaveRanges, AreListed}
 use Rattle.rowan_edit.specs.Inside.{rest_behind, with_path, edits_inside}
 use Rattle.rowan_edit.specs.Plan.{IsOf, EndInTurn, AreInOrder, added}
-use Rattle.rowan_edit.specs.Sites.{is_taken_at, site_of}
 use Rattle.rowan_edit.proofs.ExcludeLemmas.{IsBeyond, all-behind-gap, among-greater, beyond}
 use Rattle.rowan_edit.proofs.ExcludeLemmas.{beyond-late, beyond-next, beyond-outside}
 use Rattle.rowan_edit.proofs.ExcludeLemmas.{early-outside, less-before, path-equal, rest-splits}

@@ -1,9 +1,9 @@
 -- The tree of the plain edits is the one with edits and arrangements made one after the other.
-use Rattle.std.proofs.Common.{◌≡◌, ℕ, ◌+◌, ◌≤◌, Bool, true, false, List, [], ◌∷◌, ◌++◌, length, take}
-use Rattle.std.proofs.Common.{drop, Option, Some, None, refl, sym, ◌∙◌, ap, subst, arith, inl, inr}
-use Rattle.std.specs.Prelude.{◌⊎◌, not, cond, if◌then◌else◌, ◌||◌}
+use Rattle.std.proofs.Common.{◌≡◌, ℕ, ◌+◌, ◌≤◌, Bool, true, false, List, [], ◌∷◌, ◌++◌, length}
+use Rattle.std.proofs.Common.{Option, Some, None, refl, sym, ◌∙◌, ap, subst, arith, inl, inr}
+use Rattle.std.specs.Prelude.{not, cond, if◌then◌else◌, ◌||◌}
 use Rattle.std.specs.Cmp.Lexicographic.{slice_cmp}
-use Rattle.std.specs.List.{AllByRecursion, filter, list_any}
+use Rattle.std.specs.List.{AllByRecursion, list_any}
 use Rattle.std.specs.Option.{option_map, is_some}
 use Rattle.std.specs.Ordering.{nat_cmp}
 use Rattle.std.specs.declared.cmp.Ordering.TheVariants.{Less}
@@ -14,26 +14,25 @@ use Rattle.rowan_green.specs.Edits.{spliced}
 use Rattle.rowan_green.specs.Path.{Path, subterm, put}
 use Rattle.rowan_green.specs.Term.{NodeTerm, Term, node_of, node_kind, node_children}
 use Rattle.rowan_green.proofs.PutLemmas.{put-again, put-join, subterm-put}
-use Rattle.rowan_cursor.specs.Moves.{children_of, child_count}
-use Rattle.rowan_edit.specs.declared.pieces.Piece.{Piece}
+use Rattle.rowan_cursor.specs.Moves.{children_of}
 use Rattle.rowan_edit.specs.ArrangedTree.{with_pieces, put_pieces, arranged_once, all_made}
 use Rattle.rowan_edit.specs.ArrangedTree.{edits_early, edits_late, AreInPathOrder, IsPlanned}
 use Rattle.rowan_edit.specs.Arrangements.{Arrangement, ArrangedPlan, Excludes, IsArrangementOf}
 use Rattle.rowan_edit.specs.Arrangements.{AreFree, all_arranged, arranged, as_edit, edited_at}
 use Rattle.rowan_edit.specs.Arrangements.{edits_outside, gap, plain_edits}
 use Rattle.rowan_edit.specs.Edit.{Edit, edited, edited_once, put_spliced, with_spliced, place}
-use Rattle.rowan_edit.specs.Edit.{ends_before, lies_before}
+use Rattle.rowan_edit.specs.Edit.{ends_before}
 use Rattle.rowan_edit.specs.Inside.{rest_behind, edits_inside}
 use Rattle.rowan_edit.specs.Pieces.{named_in}
 use Rattle.rowan_edit.specs.Plan.{IsOf, EndInTurn, AreInOrder, added}
-use Rattle.rowan_edit.specs.Sites.{is_among, is_taken_at, site_of, sites_of, moved_over}
-use Rattle.rowan_edit.proofs.ArrangeLemmas.{AreOutside, all-beyond, all-beyond-outside}
+use Rattle.rowan_edit.specs.Sites.{is_taken_at, site_of, sites_of}
+use Rattle.rowan_edit.proofs.ArrangeLemmas.{all-beyond, all-beyond-outside}
 use Rattle.rowan_edit.proofs.ArrangeLemmas.{all-early-outside, beyond-not-before, early-before}
 use Rattle.rowan_edit.proofs.ArrangeLemmas.{inside-append, outside-append, outside-inside}
 use Rattle.rowan_edit.proofs.ArrangeLemmas.{outside-all, turn-rest, turn-without, all-without}
 use Rattle.rowan_edit.proofs.ArrangeLemmas.{beyond-behind, node-free}
 use Rattle.rowan_edit.proofs.ExcludeLemmas.{IsBeyond, late-behind, less-before, rest-splits}
-use Rattle.rowan_edit.proofs.Places.{Before, true-before, before-true, before-trans}
+use Rattle.rowan_edit.proofs.Places.{Before, true-before, before-true}
 use Rattle.rowan_edit.proofs.PlanLemmas.{EachEndsBefore, all-both, all-joined, added-behind}
 use Rattle.rowan_edit.proofs.PlanLemmas.{ends-trans, order-added}
 use Rattle.rowan_edit.proofs.SiteLaw.{elements-moved, node-edited, stays-inside}

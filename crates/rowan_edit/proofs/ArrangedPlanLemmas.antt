@@ -1,10 +1,10 @@
 -- The arrangements that an editor keeps: one more, which of them are excluded, and all of them on
 -- the way to plain edits.
-use Rattle.std.proofs.Common.{◌≡◌, ◌≢◌, ℕ, zero, suc, ◌+◌, ◌<◌, ◌≤◌, Bool, true, false, List, []}
-use Rattle.std.proofs.Common.{◌∷◌, ◌++◌, length, append_assoc, Some, None, inl, inr, refl, sym}
+use Rattle.std.proofs.Common.{◌≡◌, ◌≢◌, ℕ, suc, ◌+◌, ◌<◌, ◌≤◌, Bool, true, false, List, []}
+use Rattle.std.proofs.Common.{◌∷◌, ◌++◌, length, append_assoc, Some, inl, inr, refl, sym}
 use Rattle.std.proofs.Common.{◌∙◌, ap, subst, arith}
 use Rattle.std.specs.Prelude.{Result, Ok, Err, OnOk, OnErr}
-use Rattle.std.specs.Prelude.{◌⊎◌, ◌&&◌, cond, not, map, reverse, slice_index_or, Vec, nat_eq}
+use Rattle.std.specs.Prelude.{cond, not, reverse, Vec, nat_eq}
 use Rattle.std.specs.Cmp.Lexicographic.{slice_cmp}
 use Rattle.std.specs.List.{All, AllByRecursion, Contains, filter, list_all}
 use Rattle.std.specs.List.Sorted.{IsStrictlySortedBy}
@@ -40,7 +40,7 @@ use Rattle.rowan_edit.specs.Inside.{edits_inside}
 use Rattle.rowan_edit.specs.declared.refusal.Refusal.{Refusal}
 use Rattle.rowan_edit.specs.Pieces.{is_within}
 use Rattle.rowan_edit.specs.Plan.{Plan, AreInOrder, added, with_edit as plan_with}
-use Rattle.rowan_edit.specs.Sites.{is_among, is_taken_at, site_of}
+use Rattle.rowan_edit.specs.Sites.{is_among}
 use Rattle.rowan_edit.proofs.ExcludeLemmas.{all-added, among-from, among-if, among-overlap}
 use Rattle.rowan_edit.proofs.ExcludeLemmas.{path-equal, less-is, equal-is}
 

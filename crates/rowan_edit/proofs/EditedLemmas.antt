@@ -1,4 +1,4 @@
--- What editing gave, as a whole; and the edits of the text.
+-- The edits of the text, and the text of what an edit puts in.
 use Rattle.std.proofs.Common.{◌≡◌, ℕ, zero, suc, ◌+◌, ◌-◌, List, [], ◌∷◌, ◌++◌, take, Option}
 use Rattle.std.proofs.Common.{Some, refl, sym, ◌∙◌, ap, subst, arith}
 use Rattle.std.specs.Prelude.{slice_get}
@@ -11,26 +11,11 @@ use Rattle.rowan_edit.specs.declared.changes.Change.{Change}
 use Rattle.rowan_edit.specs.declared.edited.TextEdit.{TextEdit}
 use Rattle.rowan_edit.specs.Changes.{change_of, changes_of}
 use Rattle.rowan_edit.specs.Edit.{Edit, edited}
-use Rattle.rowan_edit.specs.Plan.{Plan, AreInOrder}
 use Rattle.rowan_edit.specs.Sites.{EditedPlaces, sites_of, ArePutAt}
 use Rattle.rowan_edit.specs.TextEdits.{IsEdited, IsTextEdit, AreTextEdits}
 use Rattle.rowan_edit.proofs.ElementLemmas.{part}
 use Rattle.rowan_edit.proofs.OpenNodeLemmas.{take-more}
 use Rattle.rowan_edit.proofs.PlacedLaw.{new-children}
-
-pub edited-whole : (root : NodeTerm) (es : List Edit) (plan : Plan) (e : Edited)
-    → (let seen : Plan = record { root = root; edits = es } in seen ≡ plan) → AreInOrder root es
-    → Node e.green ≡ edited (Node plan.root) plan.edits
-    → e.changes ≡ changes_of (Node plan.root) plan.edits
-    → (let places : EditedPlaces = record { root = root; sites = sites_of es } in
-    e.sites ≡ places)
-    → IsEdited plan.root plan.edits e
-edited-whole root es plan e view order green changes sites = record {
-  order = subst (λ (p : Plan). AreInOrder p.root p.edits) view order;
-  green = green;
-  changes = changes;
-  sites = sites ∙ ap (λ (p : Plan). record { root = p.root; sites = sites_of p.edits }) view;
-}
 
 -- ---- the edits of the text, one after the other
 

@@ -2,7 +2,7 @@
 use Rattle.std.proofs.Common.{◌≡◌, ◌≢◌, ℕ, zero, suc, ◌+◌, ◌<◌, ◌≤◌, Bool, true, false, List, []}
 use Rattle.std.proofs.Common.{◌∷◌, ◌++◌, length, Option, Some, None, append_assoc, inl, inr, refl}
 use Rattle.std.proofs.Common.{sym, ◌∙◌, ap, subst, arith, drop}
-use Rattle.std.specs.Prelude.{◌⊎◌, ◌&&◌, nat_lt, nat_le, nat_eq, not, if◌then◌else◌}
+use Rattle.std.specs.Prelude.{nat_lt, nat_le, nat_eq, if◌then◌else◌}
 use Rattle.std.specs.Cmp.{nat_cmp_is}
 use Rattle.std.specs.Cmp.Lexicographic.{slice_cmp}
 use Rattle.std.specs.List.{AllByRecursion}
@@ -14,13 +14,13 @@ use Rattle.std.proofs.lemmas.Bool.Decides.{Decides-eqb}
 use Rattle.rowan_green.specs.Path.{Path}
 use Rattle.rowan_edit.specs.Arrangements.{AreFree, gap}
 use Rattle.rowan_edit.specs.Arrangements.{Excludes}
-use Rattle.rowan_edit.specs.Edit.{Edit, Overlap, conflicts, ends_before, lies_before, place}
+use Rattle.rowan_edit.specs.Edit.{Edit, Overlap, conflicts, ends_before, place}
 use Rattle.rowan_edit.specs.Inside.{rest_behind}
 use Rattle.rowan_edit.specs.Plan.{added}
 use Rattle.rowan_edit.specs.Sites.{is_among, is_taken_at, site_of}
 use Rattle.rowan_edit.specs.Zipper.{Fork}
 use Rattle.rowan_edit.proofs.OverlapLemmas.{conflict-overlaps}
-use Rattle.rowan_edit.proofs.Places.{Before, true-before, before-true, before-trans}
+use Rattle.rowan_edit.proofs.Places.{Before, true-before, before-trans}
 use Rattle.rowan_edit.proofs.PlanLemmas.{conflict-is}
 
 -- ---- what an edit takes away

@@ -1,21 +1,17 @@
 -- The changes of an editor's edits, once the new tree is within the limits.
-use Rattle.std.proofs.Common.{◌≡◌, ◌+◌, ◌≤◌, List, sym, ◌∙◌, ap, subst, arith}
+use Rattle.std.proofs.Common.{◌≡◌, ◌+◌, ◌≤◌, List, sym, subst, arith}
 use Rattle.rowan_green.specs.declared.utility_types.NodeOrToken.TheVariants.{Node}
 use Rattle.rowan_green.specs.Fits.{FitsNode, byte_limit}
 use Rattle.rowan_green.specs.Term.{NodeTerm, Term, term_len}
 use Rattle.rowan_green.proofs.Terms.{Fits-len}
 use Rattle.rowan_edit.specs.declared.changes.Change.{Change}
 use Rattle.rowan_edit.specs.declared.edit.Splice.{Splice}
-use Rattle.rowan_edit.specs.declared.ranked.Body.{Body}
-use Rattle.rowan_edit.specs.declared.ranked.Rank.{Rank}
 use Rattle.rowan_edit.specs.Changes.{changes_of, old_bytes, new_bytes}
 use Rattle.rowan_edit.specs.ChangesKept.{Follow, last_end}
 use Rattle.rowan_edit.specs.Edit.{edited}
 use Rattle.rowan_edit.specs.GreenEditor.{edits_of, AreListed, ArePairs}
 use Rattle.rowan_edit.specs.Plan.{Plan}
-use Rattle.rowan_edit.specs.Ranked.{edits_in, AreKept, AreSplicesOf}
 use Rattle.rowan_edit.proofs.ChangeLemmas.{pairs-are}
-use Rattle.rowan_edit.proofs.RankedLemmas.{listed, seen-listed}
 use Rattle.rowan_edit.proofs.RangeLaw.{follow-start, last-within, old-within, total}
 
 -- the list has the changes of the plan, and they are within the limits
@@ -46,23 +42,3 @@ whole-inside root ss cs n h pairs same fits =
       follow = subst (Follow 0) (sym is) follow;
       fits = subst (λ xs. last_end 0 xs + new_bytes xs ≤ byte_limit + old_bytes xs) (sym is) room;
     }
-
-pub whole : (root : NodeTerm) (ss : List Splice) (plan : Plan) (cs : List Change) (n : NodeTerm)
-    → (let seen : Plan = record { root = root; edits = edits_of ss } in seen ≡ plan)
-    → AreListed root ss → ArePairs ss cs → Node n ≡ edited (Node plan.root) plan.edits → FitsNode n
-    → AreWhole plan cs
-whole root ss plan cs n view h pairs same fits =
-    subst (λ (p : Plan). AreWhole p cs) view (whole-inside root ss cs n h pairs
-    (subst (λ (p : Plan). Node n ≡ edited (Node p.root) p.edits) (sym view) same) fits)
-
--- the same of the edits that an editor keeps, once they are in a list
-pub finished : (root : NodeTerm) (es : List (Rank × Body)) (ss lent : List Splice) (plan : Plan)
-    (cs : List Change) (n : NodeTerm) → AreSplicesOf es ss → AreKept root es
-    → (let kept : Plan = record { root = root; edits = edits_in es } in kept ≡ plan)
-    → lent ≡ ss → ArePairs lent cs → Node n ≡ edited (Node root) (edits_of ss) → FitsNode n
-    → AreWhole plan cs
-finished root es ss lent plan cs n are kept view same pairs green fits =
-    let seen = seen-listed root es ss plan are view in
-    whole root ss plan cs n seen (listed root es ss are kept)
-    (subst (λ xs. ArePairs xs cs) same pairs)
-    (green ∙ ap (λ (p : Plan). edited (Node p.root) p.edits) seen) fits

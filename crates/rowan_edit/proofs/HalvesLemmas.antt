@@ -1,6 +1,6 @@
 -- Edits go from the front to those behind, those inside of a node are taken out, and all are joined.
-use Rattle.std.proofs.Common.{◌≡◌, ℕ, true, false, List, [], ◌∷◌, ◌++◌, length, Some, None, refl, sym}
-use Rattle.std.proofs.Common.{◌∙◌, ap, subst, arith, append_assoc, Option, length-append}
+use Rattle.std.proofs.Common.{◌≡◌, true, false, List, [], ◌∷◌, ◌++◌, length, Some, None, refl, sym}
+use Rattle.std.proofs.Common.{◌∙◌, ap, subst, arith, append_assoc, length-append}
 use Rattle.std.specs.Prelude.{not, cond, reverse}
 use Rattle.std.specs.List.{AllByRecursion}
 use Rattle.std.specs.Option.{is_some}
@@ -12,7 +12,7 @@ use Rattle.rowan_edit.specs.declared.plain_edits.Parted.{Parted}
 use Rattle.rowan_edit.specs.Arrangements.{gap}
 use Rattle.rowan_edit.specs.Arrangements.{edits_outside}
 use Rattle.rowan_edit.specs.ArrangementsKept.{IsAt, IsParted}
-use Rattle.rowan_edit.specs.Edit.{Edit, ends_before}
+use Rattle.rowan_edit.specs.Edit.{ends_before}
 use Rattle.rowan_edit.specs.GreenEditor.{edit_of, edits_of}
 use Rattle.rowan_edit.specs.Inside.{rest_behind, with_path, edits_inside}
 use Rattle.rowan_edit.proofs.ArrangeLemmas.{inside-append, outside-append}

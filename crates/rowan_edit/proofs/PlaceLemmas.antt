@@ -11,7 +11,6 @@ use Rattle.rowan_cursor.specs.Cursor.{last_index}
 use Rattle.rowan_edit.specs.declared.ranked.Body.{Body}
 use Rattle.rowan_edit.specs.declared.ranked.Rank.{Rank}
 use Rattle.rowan_edit.specs.Changes.{range_of}
-use Rattle.rowan_edit.specs.Edit.{Edit}
 use Rattle.rowan_edit.specs.Ranked.{without_last, edit_in, IsEditIn}
 use Rattle.rowan_edit.proofs.RankLemmas.{front-of, last-of}
 use Rattle.rowan_edit.proofs.Untouched.{edit_at}

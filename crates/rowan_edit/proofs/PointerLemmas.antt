@@ -1,5 +1,5 @@
 -- Pointers to what stands at a path, and whether they lead there.
-use Rattle.std.proofs.Common.{◌≡◌, ◌≢◌, ℕ, Bool, true, false, List, [], ◌∷◌, ◌++◌, Option, Some, None, refl, sym}
+use Rattle.std.proofs.Common.{◌≡◌, ◌≢◌, ℕ, Bool, true, false, [], ◌∷◌, ◌++◌, Option, Some, None, refl, sym}
 use Rattle.std.proofs.Common.{◌∙◌, ap, subst}
 use Rattle.std.specs.List.{find}
 use Rattle.std.specs.Option.{option_map}
@@ -8,7 +8,7 @@ use Rattle.rowan_green.specs.Path.{Path, subterm}
 use Rattle.rowan_green.specs.Span.{Span}
 use Rattle.rowan_green.specs.Term.{NodeTerm, Term}
 use Rattle.rowan_cursor.specs.Cursor.{Cursor}
-use Rattle.rowan_cursor.specs.Moves.{Element, cursor_at, element_at, element_if, element_if_there}
+use Rattle.rowan_cursor.specs.Moves.{cursor_at, element_at, element_if, element_if_there}
 use Rattle.rowan_cursor.specs.Moves.{element_below, is_node}
 use Rattle.rowan.specs.Pointer.{Pointer, pointer_to, means_kind, is_meant, IsFirstMeant}
 use Rattle.rowan.specs.Pointer.{resolves_from, Resolves}

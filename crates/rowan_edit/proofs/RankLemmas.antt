@@ -1,5 +1,5 @@
 -- The order in which an editor keeps its edits, and one more edit among them.
-use Rattle.std.proofs.Common.{◌≡◌, ◌≢◌, ℕ, zero, suc, ◌+◌, ◌<◌, ◌≤◌, true, false, List, [], ◌∷◌}
+use Rattle.std.proofs.Common.{◌≡◌, ◌≢◌, ℕ, suc, ◌+◌, ◌<◌, ◌≤◌, true, false, List, [], ◌∷◌}
 use Rattle.std.proofs.Common.{◌++◌, length, append_assoc, inl, inr, refl, sym, ◌∙◌, ap, subst, arith}
 use Rattle.std.specs.Prelude.{◌⊎◌, ◌&&◌, cond, not}
 use Rattle.std.specs.List.{AllByRecursion, Contains}
@@ -19,12 +19,12 @@ use Rattle.rowan_green.specs.Path.{Path}
 use Rattle.rowan_cursor.specs.Cursor.{last_index}
 use Rattle.rowan_edit.specs.declared.ranked.Body.{Body}
 use Rattle.rowan_edit.specs.declared.ranked.Rank.{Rank}
-use Rattle.rowan_edit.specs.Edit.{Edit, ends_before, conflicts, lies_before, place}
+use Rattle.rowan_edit.specs.Edit.{Edit, ends_before, lies_before, place}
 use Rattle.rowan_edit.specs.Plan.{EndInTurn, HasConflict}
 use Rattle.rowan_edit.specs.Ranked.{without_last, rank_cmp, edit_in, edits_in, ends_first, IsRanked}
 use Rattle.rowan_edit.specs.Ranked.{IsNext, Cut, HasRoom}
 use Rattle.rowan_edit.proofs.Places.{Before, true-before}
-use Rattle.rowan_edit.proofs.PlanLemmas.{EachEndsBefore, EndsBeforeEach, ends-trans}
+use Rattle.rowan_edit.proofs.PlanLemmas.{EndsBeforeEach, ends-trans}
 use Rattle.rowan_edit.proofs.PlanLemmas.{ends-before-rest, conflict-is}
 
 -- ---- a path and its last index

@@ -1,5 +1,5 @@
 -- The edits that an editor keeps: one more of them, and all of them in a list.
-use Rattle.std.proofs.Common.{◌≡◌, ℕ, suc, ◌+◌, ◌<◌, ◌≤◌, true, false, List, [], ◌∷◌, ◌++◌, length}
+use Rattle.std.proofs.Common.{◌≡◌, ◌+◌, ◌<◌, true, false, List, [], ◌∷◌, ◌++◌, length}
 use Rattle.std.proofs.Common.{length-append, append_assoc, refl, sym, ◌∙◌, ap, subst, arith}
 use Rattle.std.specs.List.{AllByRecursion}
 use Rattle.std.specs.BTreeMap.{insert_entry}
@@ -8,13 +8,12 @@ use Rattle.std.specs.declared.cmp.Ordering.TheVariants.{Less, Greater}
 use Rattle.std.proofs.lemmas.List.{map-append, append-nil}
 use Rattle.rowan_green.specs.declared.utility_types.NodeOrToken.TheVariants.{Node}
 use Rattle.rowan_green.specs.Term.{NodeTerm}
-use Rattle.rowan_cursor.specs.Cursor.{last_index}
 use Rattle.rowan_edit.specs.declared.edit.Splice.{Splice}
 use Rattle.rowan_edit.specs.declared.ranked.Body.{Body}
 use Rattle.rowan_edit.specs.declared.ranked.Rank.{Rank}
 use Rattle.rowan_edit.specs.Changes.{range_of}
 use Rattle.rowan_edit.specs.Edit.{Edit, ends_before, conflicts}
-use Rattle.rowan_edit.specs.GreenEditor.{edit_of, edits_of, HaveRanges, AreListed}
+use Rattle.rowan_edit.specs.GreenEditor.{edits_of, HaveRanges, AreListed}
 use Rattle.rowan_edit.specs.Plan.{Plan, IsOf, AreInOrder, added}
 use Rattle.rowan_edit.specs.Ranked.{rank_cmp, edit_in, edits_in, ends_first, IsRanked, IsNext}
 use Rattle.rowan_edit.specs.Ranked.{HasRoom, HasRange, IsEditIn, AreKept, IsSpliceOf}

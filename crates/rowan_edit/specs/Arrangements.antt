@@ -3,7 +3,7 @@
 --     inside of them made. All places are those of the tree as it was. Edits and arrangements are
 --     made from the last place to the first, so what lies inside of a node comes before the node's
 --     own arrangement.
-use Rattle.std.specs.Prelude.{◌≡◌, ℕ, true, not, List, [], ◌∷◌, Option, Some, length, ◌⊎◌}
+use Rattle.std.specs.Prelude.{◌≡◌, true, not, List, [], ◌∷◌, Option, Some, length, ◌⊎◌}
 use Rattle.std.specs.Cmp.Lexicographic.{slice_cmp}
 use Rattle.std.specs.List.{AllByRecursion, Contains, filter, list_all}
 use Rattle.std.specs.Option.{is_some, option_map}

@@ -1,7 +1,6 @@
 -- Pointers to nodes of an edited tree.
 use Rattle.std.specs.Prelude.{◌≡◌, ◌≢◌, ◌⊎◌, ℕ, Bool, [], Option, Some, None}
 use Rattle.std.specs.Option.{option_and_then}
-use Rattle.rowan_green.specs.declared.fault.Fault.{Fault}
 use Rattle.rowan_green.specs.declared.fault.Fault.TheVariants.{Memory}
 use Rattle.rowan_green.specs.declared.utility_types.NodeOrToken.TheVariants.{Node}
 use Rattle.rowan_green.specs.Path.{Path, subterm}
@@ -15,7 +14,7 @@ use Rattle.rowan_edit.specs.declared.refusal.Refusal.{Refusal}
 use Rattle.rowan_edit.specs.declared.refusal.Refusal.TheVariants.{Conflict, NotFound, Root}
 use Rattle.rowan_edit.specs.declared.refusal.Refusal.TheVariants.{OtherTree, Memory as NoRoom}
 use Rattle.rowan_edit.specs.EditErrors.{IsRefused}
-use Rattle.rowan_edit.specs.Sites.{EditedPlaces, path_after}
+use Rattle.rowan_edit.specs.Sites.{path_after}
 
 -- a pointer resolves to what is at a cursor, among all nodes of its tree
 abbrev pub LeadsTo : {K : Type 0} → (ℕ → K) → (K → K → Bool) → Cursor → Pointer K → Type 0

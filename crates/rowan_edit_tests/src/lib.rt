@@ -19,6 +19,8 @@ mod green_editor;
 #[cfg(test)]
 mod json;
 #[cfg(test)]
+mod limits;
+#[cfg(test)]
 mod make;
 #[cfg(test)]
 mod moved;

@@ -1,91 +1,86 @@
--- The kinds of grammars.
+-- Written by rowan_grammar from grammar.ungram: change that, and not this file.
+-- The kinds of Grammars.
 use Rattle.std.specs.Prelude.{ℕ, ◌==◌, List, codes, if◌then◌else◌}
 use Rattle.rowan_grammar.specs.declared.syntax.Kind.{Kind}
-use Rattle.rowan_grammar.specs.declared.syntax.Kind.TheVariants.{Word, Keyword, Literal, Unclosed}
-use Rattle.rowan_grammar.specs.declared.syntax.Kind.TheVariants.{Doc, Equals, Bar, Star, Question}
-use Rattle.rowan_grammar.specs.declared.syntax.Kind.TheVariants.{Open, Close, Colon, Unknown}
-use Rattle.rowan_grammar.specs.declared.syntax.Kind.TheVariants.{Whitespace, Comment, Head, Rule}
-use Rattle.rowan_grammar.specs.declared.syntax.Kind.TheVariants.{Choice, Sequence, Part, Label}
-use Rattle.rowan_grammar.specs.declared.syntax.Kind.TheVariants.{Group, Error, Root}
 
 -- the kind that a raw kind means
 abbrev pub kind_of : ℕ → Kind
 kind_of n =
-    if n == 0 then Word
-    else (if n == 1 then Keyword
-    else (if n == 2 then Literal
-    else (if n == 3 then Unclosed
-    else (if n == 4 then Doc
-    else (if n == 5 then Equals
-    else (if n == 6 then Bar
-    else (if n == 7 then Star
-    else (if n == 8 then Question
-    else (if n == 9 then Open
-    else (if n == 10 then Close
-    else (if n == 11 then Colon
-    else (if n == 12 then Unknown
-    else (if n == 13 then Whitespace
-    else (if n == 14 then Comment
-    else (if n == 15 then Head
-    else (if n == 16 then Rule
-    else (if n == 17 then Choice
-    else (if n == 18 then Sequence
-    else (if n == 19 then Part
-    else (if n == 20 then Label
-    else (if n == 21 then Group
-    else (if n == 23 then Root
-    else Error))))))))))))))))))))))
+    if n == 0 then Kind.Word
+    else (if n == 1 then Kind.Keyword
+    else (if n == 2 then Kind.Literal
+    else (if n == 3 then Kind.Unclosed
+    else (if n == 4 then Kind.Doc
+    else (if n == 5 then Kind.Equals
+    else (if n == 6 then Kind.Bar
+    else (if n == 7 then Kind.Star
+    else (if n == 8 then Kind.Question
+    else (if n == 9 then Kind.Open
+    else (if n == 10 then Kind.Close
+    else (if n == 11 then Kind.Colon
+    else (if n == 12 then Kind.Unknown
+    else (if n == 13 then Kind.Whitespace
+    else (if n == 14 then Kind.Comment
+    else (if n == 15 then Kind.Head
+    else (if n == 16 then Kind.Rule
+    else (if n == 17 then Kind.Choice
+    else (if n == 18 then Kind.Sequence
+    else (if n == 19 then Kind.Part
+    else (if n == 20 then Kind.Label
+    else (if n == 21 then Kind.Group
+    else (if n == 23 then Kind.Root
+    else Kind.Error))))))))))))))))))))))
 
 -- the raw kind of a kind
 abbrev pub number_of : Kind → ℕ
-number_of Word = 0
-number_of Keyword = 1
-number_of Literal = 2
-number_of Unclosed = 3
-number_of Doc = 4
-number_of Equals = 5
-number_of Bar = 6
-number_of Star = 7
-number_of Question = 8
-number_of Open = 9
-number_of Close = 10
-number_of Colon = 11
-number_of Unknown = 12
-number_of Whitespace = 13
-number_of Comment = 14
-number_of Head = 15
-number_of Rule = 16
-number_of Choice = 17
-number_of Sequence = 18
-number_of Part = 19
-number_of Label = 20
-number_of Group = 21
-number_of Error = 22
-number_of Root = 23
+number_of Kind.Word = 0
+number_of Kind.Keyword = 1
+number_of Kind.Literal = 2
+number_of Kind.Unclosed = 3
+number_of Kind.Doc = 4
+number_of Kind.Equals = 5
+number_of Kind.Bar = 6
+number_of Kind.Star = 7
+number_of Kind.Question = 8
+number_of Kind.Open = 9
+number_of Kind.Close = 10
+number_of Kind.Colon = 11
+number_of Kind.Unknown = 12
+number_of Kind.Whitespace = 13
+number_of Kind.Comment = 14
+number_of Kind.Head = 15
+number_of Kind.Rule = 16
+number_of Kind.Choice = 17
+number_of Kind.Sequence = 18
+number_of Kind.Part = 19
+number_of Kind.Label = 20
+number_of Kind.Group = 21
+number_of Kind.Error = 22
+number_of Kind.Root = 23
 
 -- how the kinds are called
 abbrev pub name_of : Kind → List ℕ
-name_of Word = codes "WORD"
-name_of Keyword = codes "KEYWORD"
-name_of Literal = codes "LITERAL"
-name_of Unclosed = codes "UNCLOSED"
-name_of Doc = codes "DOC"
-name_of Equals = codes "EQUALS"
-name_of Bar = codes "BAR"
-name_of Star = codes "STAR"
-name_of Question = codes "QUESTION"
-name_of Open = codes "OPEN"
-name_of Close = codes "CLOSE"
-name_of Colon = codes "COLON"
-name_of Unknown = codes "UNKNOWN"
-name_of Whitespace = codes "WHITESPACE"
-name_of Comment = codes "COMMENT"
-name_of Head = codes "HEAD"
-name_of Rule = codes "RULE"
-name_of Choice = codes "CHOICE"
-name_of Sequence = codes "SEQUENCE"
-name_of Part = codes "PART"
-name_of Label = codes "LABEL"
-name_of Group = codes "GROUP"
-name_of Error = codes "ERROR"
-name_of Root = codes "ROOT"
+name_of Kind.Word = codes "WORD"
+name_of Kind.Keyword = codes "KEYWORD"
+name_of Kind.Literal = codes "LITERAL"
+name_of Kind.Unclosed = codes "UNCLOSED"
+name_of Kind.Doc = codes "DOC"
+name_of Kind.Equals = codes "EQUALS"
+name_of Kind.Bar = codes "BAR"
+name_of Kind.Star = codes "STAR"
+name_of Kind.Question = codes "QUESTION"
+name_of Kind.Open = codes "OPEN"
+name_of Kind.Close = codes "CLOSE"
+name_of Kind.Colon = codes "COLON"
+name_of Kind.Unknown = codes "UNKNOWN"
+name_of Kind.Whitespace = codes "WHITESPACE"
+name_of Kind.Comment = codes "COMMENT"
+name_of Kind.Head = codes "HEAD"
+name_of Kind.Rule = codes "RULE"
+name_of Kind.Choice = codes "CHOICE"
+name_of Kind.Sequence = codes "SEQUENCE"
+name_of Kind.Part = codes "PART"
+name_of Kind.Label = codes "LABEL"
+name_of Kind.Group = codes "GROUP"
+name_of Kind.Error = codes "ERROR"
+name_of Kind.Root = codes "ROOT"

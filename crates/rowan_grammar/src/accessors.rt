@@ -138,7 +138,9 @@ pub fn add_calls(
     index: usize,
 ) -> Result<(), AllocError> {
     for call in scope.calls(index).iter() {
-        add_call(out, scope, form, index, call)?;
+        if scope.has_call(form, call) {
+            add_call(out, scope, form, index, call)?;
+        }
     }
     Ok(())
 }
@@ -267,7 +269,7 @@ fn arguments_of(
 }
 
 /// The type of what a call gives.
-fn result_of(scope: &Scope<'_>, form: Form, call: &Call) -> Result<String, AllocError> {
+pub fn result_of(scope: &Scope<'_>, form: Form, call: &Call) -> Result<String, AllocError> {
     let template = match (form, call.gives) {
         (Form::Owned, Gives::Token(_) | Gives::NthToken(_)) =>
             "@Result<@Option<@SyntaxToken<$1>>, Fault>",
@@ -275,10 +277,10 @@ fn result_of(scope: &Scope<'_>, form: Form, call: &Call) -> Result<String, Alloc
         (Form::Owned, _) => "@Result<@Option<$0>, Fault>",
         (Form::Borrowed, Gives::Token(_) | Gives::NthToken(_)) =>
             "@Option<@SyntaxTokenRef<'tree, $1>>",
-        (Form::Borrowed, Gives::Children(_)) => "@AstNodesRef<'tree, $0Ref<'tree>>",
-        (Form::Borrowed, _) => "@Option<$0Ref<'tree>>",
+        (Form::Borrowed, Gives::Children(_)) => "@AstNodesRef<'tree, $0<'tree>>",
+        (Form::Borrowed, _) => "@Option<$0<'tree>>",
     };
-    let name = scope.grammar.name(call.item().unwrap_or(0));
+    let name = scope.grammar.wrapper(form, call.item().unwrap_or(0));
     let mut out = String::new(scope.alloc);
     scope.fill(&mut out, template, &[name, scope.language])?;
     Ok(out)
@@ -296,7 +298,7 @@ struct Uses {
 }
 
 impl Uses {
-    fn of(form: Form, calls: &[Call]) -> Uses {
+    fn of(scope: &Scope<'_>, form: Form, calls: &[Call]) -> Uses {
         let mut uses = Uses {
             form,
             token: false,
@@ -305,7 +307,7 @@ impl Uses {
             nth_token: false,
             nth_child: false,
         };
-        for call in calls.iter() {
+        for call in calls.iter().filter(|call| scope.has_call(form, call)) {
             match call.gives {
                 Gives::Token(_) => uses.token = true,
                 Gives::Child(_) => uses.child = true,
@@ -347,8 +349,23 @@ pub fn add_call_imports(
     form: Form,
     index: usize,
 ) -> Result<(), AllocError> {
+    add_clause_words(out, scope, form, index)?;
+    let itself = match form {
+        Form::Owned => None,
+        Form::Borrowed => Some(scope.node_of(form, index)?),
+    };
+    add_nodes_in(out, scope, form, itself, scope.calls(index))
+}
+
+/// What the contracts of the calls of a node or a trait name, but for the nodes in wrappers.
+pub fn add_clause_words(
+    out: &mut String,
+    scope: &Scope<'_>,
+    form: Form,
+    index: usize,
+) -> Result<(), AllocError> {
     let calls = scope.calls(index);
-    let uses = Uses::of(form, calls);
+    let uses = Uses::of(scope, form, calls);
     add_words(
         out,
         scope,
@@ -357,8 +374,8 @@ pub fn add_call_imports(
             (true, "◌≡◌"),
             (uses.has_nth() || uses.has_many_casts(), "filter"),
             (uses.has_nth(), "slice_get"),
-            (true, "IfOk"),
-            (true, "IfErr"),
+            (form == Form::Owned, "IfOk"),
+            (form == Form::Owned, "IfErr"),
         ],
     )?;
     let has_first = uses.token || uses.child;
@@ -375,16 +392,15 @@ pub fn add_call_imports(
     add_tree_words(out, scope, uses)?;
     if uses.has_token() || uses.nth_child {
         let module = format!(in scope.alloc;
-            "Rattle.{}.specs.contracts.kinds.Kind",
-            scope.crate_name
+            "Rattle.{}.specs.contracts.{}.Kind",
+            scope.crate_name, scope.module
         )?;
         add_words(out, scope, module.as_str(), &[(true, "the_type")])?;
         add_words(out, scope, "denote.Enum.Bare", &[(true, "sameb")])?;
     }
     let kinds = format!(in scope.alloc; "Rattle.{}.specs.Kinds", scope.crate_name)?;
     add_words(out, scope, kinds.as_str(), &[(uses.has_kinds(), "kind_of")])?;
-    add_casts(out, scope, form, calls)?;
-    add_nodes_in(out, scope, form, index)
+    add_casts(out, scope, form, calls)
 }
 
 /// The words for trees and wrappers that the contracts name.
@@ -462,7 +478,7 @@ fn add_casts(
     let head = format!(in scope.alloc; "    ghost use Rattle.{}.specs.Casts.{{", scope.crate_name)?;
     let mut imports = Imports::new(scope.alloc, head.as_str(), ";")?;
     let mut named: HashMap<usize, bool> = HashMap::new(scope.alloc);
-    for call in calls.iter() {
+    for call in calls.iter().filter(|call| scope.has_call(form, call)) {
         let item = match call.gives {
             Gives::Child(item) | Gives::NthChild(item, _) => item,
             Gives::Children(item) if form == Form::Borrowed => item,
@@ -476,33 +492,36 @@ fn add_casts(
     out.push_str(imports.finish()?)
 }
 
-/// The nodes in the wrappers of the children that the calls give, and in the borrowed one of the node
-/// itself.
-fn add_nodes_in(
+/// The nodes in the wrappers of the children that the calls give, behind the word for that of the
+/// wrapper itself, if there is one.
+pub fn add_nodes_in(
     out: &mut String,
     scope: &Scope<'_>,
     form: Form,
-    index: usize,
+    itself: Option<String>,
+    calls: &[Call],
 ) -> Result<(), AllocError> {
     let head = format!(in scope.alloc;
         "    ghost use Rattle.{}.specs.NodeIn.{{",
         scope.crate_name
     )?;
     let mut imports = Imports::new(scope.alloc, head.as_str(), ";")?;
-    let mut named: HashMap<usize, bool> = HashMap::new(scope.alloc);
-    let itself = scope.node_of(Form::Borrowed, index)?;
-    imports.add(itself.as_str())?;
-    if form == Form::Borrowed {
-        named.insert(index, true)?;
+    let mut named: HashMap<String, bool> = HashMap::new(scope.alloc);
+    if let Some(itself) = itself {
+        imports.add(itself.as_str())?;
+        named.insert(itself, true)?;
     }
-    for call in scope.calls(index).iter() {
+    for call in calls.iter().filter(|call| scope.has_call(form, call)) {
         let (Gives::Child(item) | Gives::NthChild(item, _)) = call.gives else {
             continue;
         };
         let has_word = form == Form::Borrowed || scope.grammar.sort(item) == Sort::Choice;
-        if has_word && named.insert(item, true)?.is_none() {
+        if has_word {
             let name = scope.node_of(form, item)?;
-            imports.add(name.as_str())?;
+            if !named.contains_key(name.as_str()) {
+                imports.add(name.as_str())?;
+                named.insert(name, true)?;
+            }
         }
     }
     out.push_str(imports.finish()?)

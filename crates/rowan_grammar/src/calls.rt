@@ -1,5 +1,6 @@
 //! The calls of a wrapper: one for each part of its rule.
 use crate::alike::Sets;
+use crate::forms::Form;
 use crate::grammar::{Grammar, Item};
 use crate::names::{is_word, plural, upper};
 use crate::place::text_at;
@@ -48,6 +49,16 @@ impl Call {
             Gives::Token(item) | Gives::Child(item) | Gives::Children(item) => Some(item),
             Gives::NthChild(item, _) => Some(item),
             Gives::NthToken(_) => None,
+        }
+    }
+
+    /// Whether wrappers of a form have it: what it gives needs a wrapper of that form.
+    pub fn is_in(&self, grammar: &Grammar, form: Form) -> bool {
+        match self.gives {
+            Gives::Token(_) | Gives::NthToken(_) => true,
+            Gives::Child(item) | Gives::NthChild(item, _) | Gives::Children(item) => grammar
+                .forms(item)
+                .has(form),
         }
     }
 

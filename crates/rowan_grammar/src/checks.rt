@@ -1,20 +1,19 @@
 //! What can be wrong with a grammar whose items were read.
 use crate::calls::{Call, Calls, Clash, calls_of};
-use crate::grammar::{Grammar, Item, Sort, kinds_of};
-use crate::names::{is_call_name, why_no_crate, why_no_language, why_no_type};
+use crate::grammar::{Grammar, Item, Sort};
+use crate::names::{
+    is_call_name, why_no_crate, why_no_language, why_no_module, why_no_set, why_no_trait,
+    why_no_type,
+};
 use crate::place::{Problem, part_of, text_at, top};
+use crate::predictive::Rules;
 use crate::reach::{Looker, count_arms, doubtful_choices, leads_to, set};
 use crate::rings::{Ring, Want, rings};
+use crate::shared::Shared;
 use rowan::TextRange;
 use rowan_parser::Severity;
 use std::alloc::{AllocError, Global};
 use std::collections::HashMap;
-
-/// How many kinds a language may have.
-const MAX_KINDS: usize = 65536;
-
-/// How many kinds a `TokenSet` takes.
-const MAX_TOKENS: usize = 128;
 
 /// To how many nodes all choices together may lead.
 const MAX_ARMS: usize = 1_000_000;
@@ -29,12 +28,15 @@ pub struct Checker<'t> {
     pub text: &'t str,
     pub problems: Vec<Problem>,
     pub looker: Looker,
-    /// The calls of each item; none of those that are not nodes.
+    /// The calls of each item; none of those that are neither nodes nor traits.
     pub calls: Vec<Calls>,
+    pub traits: Vec<Shared>,
+    /// The rules of the parser, where one is asked for and nothing is in its way.
+    pub rules: Option<Rules>,
 }
 
 impl Checker<'_> {
-    fn add(
+    pub fn add(
         &mut self,
         severity: Severity,
         range: TextRange,
@@ -48,7 +50,7 @@ impl Checker<'_> {
         Ok(())
     }
 
-    fn error(&mut self, range: TextRange, message: String) -> Result<(), AllocError> {
+    pub fn error(&mut self, range: TextRange, message: String) -> Result<(), AllocError> {
         self.add(Severity::Error, range, message)
     }
 
@@ -62,7 +64,10 @@ impl Checker<'_> {
         self.check_choices(grammar)?;
         self.check_ends(grammar)?;
         self.check_calls(grammar)?;
-        self.check_uses(grammar)
+        self.check_sets(grammar)?;
+        self.check_traits(grammar)?;
+        self.check_uses(grammar)?;
+        self.check_parser(grammar)
     }
 
     /// The language, its crate and the root have to be named, and one item has to be the error
@@ -73,6 +78,10 @@ impl Checker<'_> {
         self.check_line(grammar.language, "language", why_no_language(language))?;
         self.check_line(grammar.crate_name, "crate", why_no_crate(crate_name))?;
         self.check_line(grammar.root, "root", None)?;
+        if let Some(range) = grammar.kinds {
+            let module = text_at(self.text, range);
+            self.check_name(range, module, why_no_module(module))?;
+        }
         let errors = grammar.items.iter().filter(|item| item.sort == Sort::Error);
         let count = errors.count();
         if count != 1 {
@@ -119,9 +128,11 @@ impl Checker<'_> {
         let language = part_of(self.text, grammar.language);
         for (index, item) in grammar.items.iter().enumerate() {
             let name = item.name.as_str();
-            let why = match name == language {
-                true => Some("is the name of the language"),
-                false => why_no_type(name),
+            let why = match item.sort {
+                _ if name == language => Some("is the name of the language"),
+                Sort::Set => why_no_set(name),
+                Sort::Trait => why_no_trait(name),
+                _ => why_no_type(name),
             };
             self.check_name(item.range, name, why)?;
             let mut key = item.name.clone()?;
@@ -135,30 +146,6 @@ impl Checker<'_> {
                 self.error(item.range, message)?;
             } else {
                 folded.insert(key, index)?;
-            }
-        }
-        self.check_borrowed(grammar, &folded)
-    }
-
-    /// No name may be that of a borrowed wrapper. The numbers of the items are by their names in small
-    /// letters.
-    fn check_borrowed(
-        &mut self,
-        grammar: &Grammar,
-        folded: &HashMap<String, usize>,
-    ) -> Result<(), AllocError> {
-        for item in grammar.items.iter() {
-            let mut key = format!(in self.alloc; "{}Ref", item.name)?;
-            key.make_ascii_lowercase();
-            if !item.is_wrapped() {
-                continue;
-            }
-            if let Some(other) = folded.get(key.as_str()) {
-                let whole = item.name.as_str();
-                let message = format!(in self.alloc;
-                    "the borrowed wrapper of `{whole}` has this name"
-                )?;
-                self.error(grammar.range(*other), message)?;
             }
         }
         Ok(())
@@ -193,27 +180,6 @@ impl Checker<'_> {
             self.error(range, message)?;
         }
         Ok(())
-    }
-
-    /// A kind has 16 bits. A token that no `TokenSet` takes is worth a warning.
-    fn check_kinds(&mut self, grammar: &Grammar) -> Result<(), AllocError> {
-        let kinds = kinds_of(self.alloc, grammar)?;
-        let count = kinds.len();
-        if let Some(index) = kinds.get(MAX_KINDS) {
-            let message = format!(in self.alloc;
-                "a language has at most {MAX_KINDS} kinds, and this one {count}"
-            )?;
-            self.error(grammar.range(*index), message)?;
-        }
-        match kinds.get(MAX_TOKENS) {
-            Some(index) if grammar.sort(*index).is_token() => {
-                let message = format!(in self.alloc;
-                    "a `TokenSet` takes the first {MAX_TOKENS} tokens, and not this one"
-                )?;
-                self.add(Severity::Warning, grammar.range(*index), message)
-            }
-            _ => Ok(()),
-        }
     }
 
     /// A choice may not lead to itself, and to each node in one way alone.
@@ -361,7 +327,7 @@ fn name_at(calls: &[Call], number: Option<usize>) -> Option<&str> {
 
 /// What the first of a ring leads to, and so on up to itself: `needs B, which needs A`. Of a long
 /// ring the beginning.
-fn way_around(
+pub fn way_around(
     alloc: Global,
     grammar: &Grammar,
     ring: &Ring,

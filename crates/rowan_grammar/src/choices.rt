@@ -2,6 +2,7 @@
 use crate::forms::Form;
 use crate::grammar::{Item, Sort};
 use crate::reach::{Reach, Step, steps_from};
+use crate::structs::add_wrapper_docs;
 use crate::writer::{Scope, WIDTH, add_docs, cast_head, fill, signature};
 use std::alloc::AllocError;
 
@@ -30,10 +31,7 @@ impl @AstNode for $0 {
     ghost node_of = { node_in_$1 };
 
     fn can_cast(kind: Kind) -> bool {
-        match kind {
-$4            _ => false,
-        }
-    }
+$4    }
 
 $5
         ensures { let casting = casts_at kind_of is_$1 in
@@ -52,16 +50,18 @@ $8        }
 
     ghost equal_kinds = { λ a b same. ap is_$1 (same_kind a b same) };
 }
+";
 
+const OWNED: &str = "
 impl $0 {
     ghost use Rattle.std.specs.Prelude.{◌≡◌};
-    ghost use Rattle.$2.specs.NodeIn.{node_in_$1, node_in_$1_ref};
+    ghost use Rattle.$2.specs.NodeIn.{node_in_$1, place_in_$1};
 
     /// The same node, borrowed from its tree.
-    pub fn as_ref(&self) -> $0Ref<'_>
-        ensures { node_in_$1_ref result ≡ node_in_$1 self.now }
+    pub fn as_ref(&self) -> $9<'_>
+        ensures { place_in_$1 result ≡ node_in_$1 self.now }
     {
-        $0Ref::cast(self.syntax().as_ref()).unwrap()
+        $9::cast(self.syntax().as_ref()).unwrap()
     }
 }
 ";
@@ -69,7 +69,7 @@ impl $0 {
 const CHOICE_REF: &str = "\
 }
 
-impl<'tree> @AstNodeRef<'tree> for $0Ref<'tree> {
+impl<'tree> @AstNodeRef<'tree> for $9<'tree> {
     type Language = $3;
 
     ghost use Rattle.std.specs.Prelude.{◌≡◌, true};
@@ -78,21 +78,20 @@ impl<'tree> @AstNodeRef<'tree> for $0Ref<'tree> {
     ghost use Rattle.rowan.specs.Refs.{node_place};
     ghost use Rattle.$2.specs.Casts.{is_$1};
     ghost use Rattle.$2.specs.Kinds.{kind_of};
-    ghost use Rattle.$2.specs.NodeIn.{node_in_$1_ref};
+    ghost use Rattle.$2.specs.NodeIn.{place_in_$1};
 
     ghost casts = { is_$1 };
 
-    ghost node_of = { node_in_$1_ref };
+    ghost node_of = { place_in_$1 };
 
     fn can_cast(kind: Kind) -> bool
         ensures { result ≡ is_$1 kind }
     {
-        $0::can_cast(kind)
-    }
+$4    }
 
 $5
         ensures { let casting = casts_at kind_of is_$1 in
-            option_map node_in_$1_ref result ≡ if_casts casting (node_place syntax.entry) }
+            option_map place_in_$1 result ≡ if_casts casting (node_place syntax.entry) }
     {
         match syntax.kind() {
 $6            _ => None,
@@ -101,21 +100,23 @@ $6            _ => None,
 
     #[tactic(auto, using($7))]
     fn syntax(&self) -> @SyntaxNodeRef<'tree, $3>
-        ensures node { node_place result ≡ node_in_$1_ref self.now }
+        ensures node { node_place result ≡ place_in_$1 self.now }
         ensures casts { casts_at kind_of is_$1 (node_place result) ≡ true }
     {
         match self {
 $8        }
     }
 }
+";
 
-impl<'tree> $0Ref<'tree> {
+const BORROWED: &str = "
+impl<'tree> $9<'tree> {
     ghost use Rattle.std.specs.Prelude.{◌≡◌, IfOk, IfErr};
-    ghost use Rattle.$2.specs.NodeIn.{node_in_$1, node_in_$1_ref};
+    ghost use Rattle.$2.specs.NodeIn.{node_in_$1, place_in_$1};
 
     /// The same node in a wrapper that keeps the tree. Refused with `Memory` alone.
     pub fn to_owned(&self) -> @Result<$0, Fault>
-        ensures ok { IfOk result (λ owned. node_in_$1 owned ≡ node_in_$1_ref self.now) }
+        ensures ok { IfOk result (λ owned. node_in_$1 owned ≡ place_in_$1 self.now) }
         ensures err { IfErr result (λ e. e ≡ Fault.Memory) }
     {
         let syntax = self.syntax().to_owned()?;
@@ -131,20 +132,23 @@ pub fn add_choice(
     item: &Item,
     index: usize,
 ) -> Result<(), AllocError> {
-    out.push('\n')?;
-    add_docs(out, "", item.docs.as_str(), item.rule.as_str())?;
-    out.push_str("#[derive(Clone, PartialEq, Eq, Hash, Debug, Drop)]\n")?;
-    add_form(out, scope, Form::Owned, item, index)?;
-    fill(
-        out,
-        "\n/// [`$0`], borrowed from its tree.\n",
-        &[item.name.as_str()],
-    )?;
-    out.push_str("#[derive(Clone, Copy, PartialEq, Eq, Hash, Debug)]\n")?;
-    add_form(out, scope, Form::Borrowed, item, index)?;
+    let forms = [Form::Owned, Form::Borrowed];
+    for form in forms {
+        if item.forms.has(form) {
+            add_wrapper_docs(out, form, item)?;
+            out.push_str(match form {
+                Form::Owned => "#[derive(Clone, PartialEq, Eq, Hash, Debug, Drop)]\n",
+                Form::Borrowed => "#[derive(Clone, Copy, PartialEq, Eq, Hash, Debug)]\n",
+            })?;
+            add_form(out, scope, form, item, index)?;
+        }
+    }
     for used in item.alternatives.iter() {
-        add_from(out, scope, Form::Owned, item, used.item)?;
-        add_from(out, scope, Form::Borrowed, item, used.item)?;
+        for form in forms {
+            if item.forms.has(form) {
+                add_from(out, scope, form, index, used.item)?;
+            }
+        }
     }
     Ok(())
 }
@@ -167,19 +171,26 @@ fn add_from(
     out: &mut String,
     scope: &Scope<'_>,
     form: Form,
-    whole: &Item,
+    whole: usize,
     one: usize,
 ) -> Result<(), AllocError> {
     let alloc = scope.alloc;
-    let from = wrapper_type(scope, form, scope.grammar.name(one))?;
-    let into = wrapper_type(scope, form, whole.name.as_str())?;
+    let from = wrapper_type(scope, form, one)?;
+    let into = wrapper_type(scope, form, whole)?;
     let line = impl_line(scope, form, from.as_str(), into.as_str())?;
     let parameter = format!(in alloc; "node: {from}")?;
     let end = format!(in alloc; "{into} {{")?;
     let head = signature(alloc, "    fn from", parameter.as_str(), end.as_str())?;
-    let body = from_body(scope, form, whole.name.as_str(), scope.grammar.name(one))?;
-    let words = from_words(scope, form, whole.snake.as_str(), one)?;
-    let gives = from_gives(scope, form, whole.snake.as_str(), one)?;
+    let body = from_body(scope, form, whole, one)?;
+    let mut words = scope.node_of(form, whole)?;
+    let mut gives = format!(in alloc; "{words} whole ≡ ")?;
+    if has_word(scope, form, one) {
+        let inner = scope.node_of(form, one)?;
+        write!(words, ", {inner}")?;
+        write!(gives, "{inner} node")?;
+    } else {
+        gives.push_str("node")?;
+    }
     let values = [
         line.as_str(),
         scope.crate_name,
@@ -191,9 +202,10 @@ fn add_from(
     fill(out, FROM, &values)
 }
 
-/// The type of the wrapper of the item with this name.
-fn wrapper_type(scope: &Scope<'_>, form: Form, name: &str) -> Result<String, AllocError> {
-    format!(in scope.alloc; "{name}{}{}", form.suffix(), form.lifetime())
+/// The type of the wrapper of an item.
+fn wrapper_type(scope: &Scope<'_>, form: Form, index: usize) -> Result<String, AllocError> {
+    let name = scope.grammar.wrapper(form, index);
+    format!(in scope.alloc; "{name}{}", form.lifetime())
 }
 
 /// The first line of an impl of `From`, or the first two where it is long.
@@ -211,53 +223,34 @@ fn impl_line(scope: &Scope<'_>, form: Form, from: &str, into: &str) -> Result<St
 }
 
 /// A node in its variant.
-fn from_body(scope: &Scope<'_>, form: Form, whole: &str, one: &str) -> Result<String, AllocError> {
-    let variant = format!(in scope.alloc; "{whole}{}::{one}", form.suffix())?;
+fn from_body(
+    scope: &Scope<'_>,
+    form: Form,
+    whole: usize,
+    one: usize,
+) -> Result<String, AllocError> {
+    let variant = variant_of(scope, form, whole, one)?;
     match variant.len() {
         0..=86 => format!(in scope.alloc; "{variant}(node)"),
         _ => format!(in scope.alloc; "{variant}(\n            node,\n        )"),
     }
 }
 
+/// The variant of an alternative.
+fn variant_of(
+    scope: &Scope<'_>,
+    form: Form,
+    whole: usize,
+    one: usize,
+) -> Result<String, AllocError> {
+    let wrapper = scope.grammar.wrapper(form, whole);
+    let name = scope.grammar.name(one);
+    format!(in scope.alloc; "{wrapper}::{name}")
+}
+
 /// Whether clauses name the node in the wrapper of an item by a word.
 fn has_word(scope: &Scope<'_>, form: Form, item: usize) -> bool {
     form == Form::Borrowed || scope.grammar.sort(item) == Sort::Choice
-}
-
-/// The words that say that a choice has the node of its alternative.
-fn from_words(
-    scope: &Scope<'_>,
-    form: Form,
-    whole: &str,
-    one: usize,
-) -> Result<String, AllocError> {
-    let alloc = scope.alloc;
-    let end = form.snake_suffix();
-    match has_word(scope, form, one) {
-        true => {
-            let inner = scope.grammar.snake(one);
-            format!(in alloc; "node_in_{whole}{end}, node_in_{inner}{end}")
-        }
-        false => format!(in alloc; "node_in_{whole}{end}"),
-    }
-}
-
-/// How these words say it.
-fn from_gives(
-    scope: &Scope<'_>,
-    form: Form,
-    whole: &str,
-    one: usize,
-) -> Result<String, AllocError> {
-    let alloc = scope.alloc;
-    let end = form.snake_suffix();
-    match has_word(scope, form, one) {
-        true => {
-            let inner = scope.grammar.snake(one);
-            format!(in alloc; "node_in_{whole}{end} whole ≡ node_in_{inner}{end} node")
-        }
-        false => format!(in alloc; "node_in_{whole}{end} whole ≡ node"),
-    }
 }
 
 /// One form of the wrapper of a choice, from the line of its enum on.
@@ -268,29 +261,57 @@ fn add_form(
     item: &Item,
     index: usize,
 ) -> Result<(), AllocError> {
-    add_variants(out, scope, form, item)?;
+    add_variants(out, scope, form, item, index)?;
     let reached = steps_from(scope.alloc, scope.grammar, index)?;
     let kinds = kinds_of(scope, &reached)?;
-    let cast = cast_head(scope, form, item.name.as_str())?;
+    let wrapper = wrapper_type(scope, form, index)?;
+    let cast = cast_head(scope, node_type(form), form, wrapper.as_str())?;
     let casts = casts_of(scope, form, &reached)?;
     let lemmas = lemmas_of(scope, form, item)?;
-    let arms = syntax_arms(scope, form, item)?;
+    let arms = syntax_arms(scope, form, item, index)?;
+    let can_cast = match form == Form::Borrowed && item.forms.owned {
+        true => format!(in scope.alloc; "        {}::can_cast(kind)\n", item.name)?,
+        false => format!(in scope.alloc;
+            "        match kind {{\n{kinds}            _ => false,\n        }}\n"
+        )?,
+    };
     let values = [
         item.name.as_str(),
         item.snake.as_str(),
         scope.crate_name,
         scope.language,
-        kinds.as_str(),
+        can_cast.as_str(),
         cast.as_str(),
         casts.as_str(),
         lemmas.as_str(),
         arms.as_str(),
+        item.borrowed.as_str(),
     ];
-    let template = match form {
-        Form::Owned => CHOICE,
-        Form::Borrowed => CHOICE_REF,
+    let (template, other) = match form {
+        Form::Owned => (CHOICE, OWNED),
+        Form::Borrowed => (CHOICE_REF, BORROWED),
     };
-    scope.fill(out, template, &values)
+    scope.fill(out, template, &values)?;
+    match item.forms.is_both() {
+        true => scope.fill(out, other, &values),
+        false => Ok(()),
+    }
+}
+
+/// The type of the nodes from which wrappers are cast.
+fn node_type(form: Form) -> &'static str {
+    match form {
+        Form::Owned => "SyntaxNode",
+        Form::Borrowed => "SyntaxNodeRef",
+    }
+}
+
+/// The type that wrappers of nodes of one kind are.
+fn wrapped(form: Form) -> &'static str {
+    match form {
+        Form::Owned => "NodeOf",
+        Form::Borrowed => "NodeOfRef",
+    }
 }
 
 /// The enum of a choice up to its closing brace.
@@ -299,22 +320,20 @@ fn add_variants(
     scope: &Scope<'_>,
     form: Form,
     item: &Item,
+    index: usize,
 ) -> Result<(), AllocError> {
-    let end = format!(in scope.alloc; "{}{}", form.suffix(), form.lifetime())?;
-    fill(
-        out,
-        "pub enum $0$1 {\n",
-        &[item.name.as_str(), end.as_str()],
-    )?;
+    let whole = wrapper_type(scope, form, index)?;
+    fill(out, "pub enum $0 {\n", &[whole.as_str()])?;
     for used in item.alternatives.iter() {
         add_docs(out, "    ", scope.grammar.docs(used.item), "")?;
         let name = scope.grammar.name(used.item);
-        let line = format!(in scope.alloc; "    {name}({name}{end}),")?;
+        let one = wrapper_type(scope, form, used.item)?;
+        let line = format!(in scope.alloc; "    {name}({one}),")?;
         let template = match line.len() > WIDTH {
-            true => "    $0(\n        $0$1,\n    ),\n",
-            false => "    $0($0$1),\n",
+            true => "    $0(\n        $1,\n    ),\n",
+            false => "    $0($1),\n",
         };
-        fill(out, template, &[name, end.as_str()])?;
+        fill(out, template, &[name, one.as_str()])?;
     }
     Ok(())
 }
@@ -343,11 +362,15 @@ fn casts_of(scope: &Scope<'_>, form: Form, reached: &Reach) -> Result<String, Al
 }
 
 /// The arms that give the node in an alternative.
-fn syntax_arms(scope: &Scope<'_>, form: Form, item: &Item) -> Result<String, AllocError> {
+fn syntax_arms(
+    scope: &Scope<'_>,
+    form: Form,
+    item: &Item,
+    index: usize,
+) -> Result<String, AllocError> {
     let mut out = String::new(scope.alloc);
     for used in item.alternatives.iter() {
-        let one = scope.grammar.name(used.item);
-        let variant = format!(in scope.alloc; "{}{}::{one}", item.name, form.suffix())?;
+        let variant = variant_of(scope, form, index, used.item)?;
         let template = match variant.len() {
             0..=64 => "            $0(node) => node.syntax(),\n",
             65..=79 => "            $0(node) =>\n                node.syntax(),\n",
@@ -392,8 +415,7 @@ fn made_of(
     reached: &Reach,
     step: Step,
 ) -> Result<Option<String>, AllocError> {
-    let end = form.suffix();
-    let mut made = format!(in scope.alloc; "{}{end} {{ syntax }}", scope.grammar.name(step.item))?;
+    let mut made = format!(in scope.alloc; "{} {{ syntax }}", wrapped(form))?;
     let mut at = step;
     for _ in 0..reached.steps.len() {
         let Some(before) = reached.steps.get(at.from) else {
@@ -402,9 +424,8 @@ fn made_of(
         if before.item == at.item {
             break;
         }
-        let whole = scope.grammar.name(before.item);
-        let one = scope.grammar.name(at.item);
-        made = format!(in scope.alloc; "{whole}{end}::{one}({made})")?;
+        let variant = variant_of(scope, form, before.item, at.item)?;
+        made = format!(in scope.alloc; "{variant}({made})")?;
         if made.len() > MAX_MADE {
             return Ok(None);
         }
@@ -421,21 +442,22 @@ fn add_long_arm(
     reached: &Reach,
     step: Step,
 ) -> Result<(), AllocError> {
-    let end = form.suffix();
     let kind = scope.grammar.name(step.item);
-    let one = scope.grammar.name(step.top);
     let whole = match reached.steps.first() {
-        Some(first) => scope.grammar.name(first.item),
-        None => "",
+        Some(first) => first.item,
+        None => step.top,
     };
     fill(out, "            Kind::$0 => {\n", &[kind])?;
     let template = match step.top == step.item {
         true => "                let node = $0 { syntax };\n",
         false => "                let node = $0::cast(syntax)?;\n",
     };
-    let wrapper = format!(in scope.alloc; "{one}{end}")?;
-    fill(out, template, &[wrapper.as_str()])?;
-    let variant = format!(in scope.alloc; "{whole}{end}::{one}")?;
+    let wrapper = match step.top == step.item {
+        true => wrapped(form),
+        false => scope.grammar.wrapper(form, step.top),
+    };
+    fill(out, template, &[wrapper])?;
+    let variant = variant_of(scope, form, whole, step.top)?;
     add_wrap(out, variant.as_str())?;
     out.push_str("                Some(node)\n            }\n")
 }

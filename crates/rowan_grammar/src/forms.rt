@@ -8,22 +8,6 @@ pub enum Form {
 }
 
 impl Form {
-    /// What is behind the name of a node or a choice in that of its wrapper.
-    pub fn suffix(self) -> &'static str {
-        match self {
-            Form::Owned => "",
-            Form::Borrowed => "Ref",
-        }
-    }
-
-    /// What is behind it in the words of clauses.
-    pub fn snake_suffix(self) -> &'static str {
-        match self {
-            Form::Owned => "",
-            Form::Borrowed => "_ref",
-        }
-    }
-
     /// What is behind the name of a wrapper in a type.
     pub fn lifetime(self) -> &'static str {
         match self {
@@ -32,11 +16,74 @@ impl Form {
         }
     }
 
+    /// How the word of clauses begins that stands for the node in the wrapper of a choice.
+    pub fn word(self) -> &'static str {
+        match self {
+            Form::Owned => "node_in",
+            Form::Borrowed => "place_in",
+        }
+    }
+
     /// The node as functions of `support` take it.
     pub fn parent(self) -> &'static str {
         match self {
             Form::Owned => "&self.syntax",
             Form::Borrowed => "self.syntax",
+        }
+    }
+}
+
+/// The forms in which something has a wrapper.
+#[derive(Clone, Copy, PartialEq, Eq, Debug)]
+pub struct Forms {
+    pub owned: bool,
+    pub borrowed: bool,
+}
+
+impl Forms {
+    pub const NONE: Forms = Forms {
+        owned: false,
+        borrowed: false,
+    };
+
+    pub const BOTH: Forms = Forms {
+        owned: true,
+        borrowed: true,
+    };
+
+    pub fn has(self, form: Form) -> bool {
+        match form {
+            Form::Owned => self.owned,
+            Form::Borrowed => self.borrowed,
+        }
+    }
+
+    pub fn with(self, form: Form) -> Forms {
+        match form {
+            Form::Owned => Forms {
+                owned: true,
+                ..self
+            },
+            Form::Borrowed => Forms {
+                borrowed: true,
+                ..self
+            },
+        }
+    }
+
+    /// Whether the wrappers lead to each other.
+    pub fn is_both(self) -> bool {
+        self.owned && self.borrowed
+    }
+
+    /// What a line `wrappers` says.
+    pub fn from_word(word: &str) -> Option<Forms> {
+        match word {
+            "both" => Some(Forms::BOTH),
+            "owned" => Some(Forms::NONE.with(Form::Owned)),
+            "borrowed" => Some(Forms::NONE.with(Form::Borrowed)),
+            "none" => Some(Forms::NONE),
+            _ => None,
         }
     }
 }

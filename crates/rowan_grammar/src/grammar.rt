@@ -1,8 +1,11 @@
 //! What a grammar says.
+use crate::forms::{Form, Forms};
 use crate::names::is_taken;
+use crate::parser_lines::ParserLines;
 use crate::place::top;
 use rowan::TextRange;
 use std::alloc::{AllocError, Global};
+use std::collections::HashMap;
 
 /// What a name of a grammar stands for.
 #[derive(Clone, Copy, PartialEq, Eq, Debug)]
@@ -15,6 +18,10 @@ pub enum Sort {
     Node,
     /// A rule all of whose alternatives are nodes or choices: it has no kind of its own.
     Choice,
+    /// A set of tokens.
+    Set,
+    /// A trait of the nodes that share some parts.
+    Trait,
 }
 
 /// A name or a text of a token in a rule, and the number of the item that it stands for.
@@ -49,6 +56,8 @@ pub struct Item {
     pub name: String,
     /// The name as calls have it.
     pub snake: String,
+    /// The name of the borrowed wrapper, once the names are settled.
+    pub borrowed: String,
     pub range: TextRange,
     /// The text that the token always has.
     pub literal: Option<TextRange>,
@@ -56,19 +65,22 @@ pub struct Item {
     pub docs: String,
     /// The rule in one line.
     pub rule: String,
-    /// Of a choice what it is one of.
+    /// Of a choice what it is one of, of a set its tokens.
     pub alternatives: Vec<Use>,
-    /// Of a node what may stand in it.
+    /// Of a node what may stand in it, of a trait what its nodes share.
     pub body: Part,
     /// Whether a rule names it.
     pub is_used: bool,
-    /// Whether the text of the token means something, so that it has a wrapper.
+    /// Whether the text of the token means something, so that it has wrappers.
     pub has_content: bool,
+    /// The forms in which it has a wrapper.
+    pub forms: Forms,
 }
 
 impl Item {
+    /// Whether it has a wrapper that keeps its tree, or one that borrows from it.
     pub fn is_wrapped(&self) -> bool {
-        self.sort == Sort::Node || self.sort == Sort::Choice || self.has_content
+        self.forms.owned || self.forms.borrowed
     }
 }
 
@@ -79,14 +91,33 @@ pub struct Content {
     pub name: String,
 }
 
+/// A name of a node or a choice that has a wrapper of a form.
+#[derive(Drop)]
+pub struct Wrap {
+    pub range: TextRange,
+    pub name: String,
+    pub form: Form,
+}
+
 /// A whole grammar.
 #[derive(Drop)]
 pub struct Grammar {
     pub language: Option<TextRange>,
     pub crate_name: Option<TextRange>,
     pub root: Option<TextRange>,
+    /// The module of the kinds.
+    pub kinds: Option<TextRange>,
+    /// The line that says which wrappers there are, but for those that are named, and what it says.
+    pub wrappers: Option<TextRange>,
+    pub forms: Forms,
+    /// The lines of the comments of the language and of its kinds.
+    pub language_docs: String,
+    pub kinds_docs: String,
     pub contents: Vec<Content>,
+    pub wraps: Vec<Wrap>,
     pub items: Vec<Item>,
+    /// What the head says of a parser.
+    pub parsing: ParserLines,
 }
 
 impl Grammar {
@@ -95,20 +126,52 @@ impl Grammar {
             language: None,
             crate_name: None,
             root: None,
+            kinds: None,
+            wrappers: None,
+            forms: Forms::BOTH,
+            language_docs: String::new(alloc),
+            kinds_docs: String::new(alloc),
             contents: Vec::new(alloc),
+            wraps: Vec::new(alloc),
             items: Vec::new(alloc),
+            parsing: ParserLines::new(alloc),
         }
     }
 
-    /// Puts an underscore behind each name that a word of the language is in the way of.
+    /// Settles how things are named: an underscore is behind each name that a word of the language is
+    /// in the way of, and behind that of a borrowed wrapper where another item is named so.
     pub fn rename(&mut self) -> Result<(), AllocError> {
+        let alloc = *self.items.allocator();
+        let mut names: HashMap<String, bool> = HashMap::new(alloc);
         for item in self.items.iter_mut() {
             if is_taken(item.name.as_str()) {
                 item.name.push('_')?;
                 item.snake.push('_')?;
             }
+            let mut key = item.name.clone()?;
+            key.make_ascii_lowercase();
+            names.insert(key, true)?;
+        }
+        for item in self.items.iter_mut() {
+            let mut key = format!(in alloc; "{}ref", item.name)?;
+            key.make_ascii_lowercase();
+            let end = if names.contains_key(key.as_str()) {
+                "Ref_"
+            } else {
+                "Ref"
+            };
+            item.borrowed = format!(in alloc; "{}{end}", item.name)?;
         }
         Ok(())
+    }
+
+    /// The name of the wrapper of an item.
+    pub fn wrapper(&self, form: Form, index: usize) -> &str {
+        match (self.items.get(index), form) {
+            (Some(item), Form::Owned) => item.name.as_str(),
+            (Some(item), Form::Borrowed) => item.borrowed.as_str(),
+            (None, _) => "",
+        }
     }
 
     pub fn name(&self, index: usize) -> &str {
@@ -146,6 +209,14 @@ impl Grammar {
         }
     }
 
+    /// The forms in which an item has a wrapper.
+    pub fn forms(&self, index: usize) -> Forms {
+        match self.items.get(index) {
+            Some(item) => item.forms,
+            None => Forms::NONE,
+        }
+    }
+
     /// What a choice is one of; nothing where the item is none.
     pub fn alternatives(&self, index: usize) -> &[Use] {
         match self.items.get(index) {
@@ -156,13 +227,27 @@ impl Grammar {
 }
 
 /// The numbers of the items that are kinds, in the order of the kinds: tokens, which a `TokenSet`
-/// takes if they come first, the kind of errors, and nodes.
+/// takes if they come first, and then nodes and the kind of errors, as the grammar has them.
 pub fn kinds_of(alloc: Global, grammar: &Grammar) -> Result<Vec<usize>, AllocError> {
     let mut kinds = Vec::new(alloc);
     add_numbers(&mut kinds, grammar, &[Sort::Token, Sort::Trivia])?;
-    add_numbers(&mut kinds, grammar, &[Sort::Error])?;
-    add_numbers(&mut kinds, grammar, &[Sort::Node])?;
+    add_numbers(&mut kinds, grammar, &[Sort::Error, Sort::Node])?;
     Ok(kinds)
+}
+
+/// Of each item the number of its kind.
+pub fn kind_numbers(
+    alloc: Global,
+    grammar: &Grammar,
+    kinds: &[usize],
+) -> Result<Vec<usize>, AllocError> {
+    let mut numbers: Vec<usize> = vec![in alloc; 0; grammar.items.len()]?;
+    for (number, item) in kinds.iter().enumerate() {
+        if let Some(slot) = numbers.get_mut(*item) {
+            *slot = number;
+        }
+    }
+    Ok(numbers)
 }
 
 /// The numbers of the tokens that have a wrapper.
@@ -174,6 +259,17 @@ pub fn contents_of(alloc: Global, grammar: &Grammar) -> Result<Vec<usize>, Alloc
         }
     }
     Ok(contents)
+}
+
+/// The numbers of the nodes that have a wrapper.
+pub fn nodes_of(alloc: Global, grammar: &Grammar) -> Result<Vec<usize>, AllocError> {
+    let mut nodes = Vec::new(alloc);
+    for (index, item) in grammar.items.iter().enumerate() {
+        if item.sort == Sort::Node && item.is_wrapped() {
+            nodes.push(index)?;
+        }
+    }
+    Ok(nodes)
 }
 
 /// Adds the numbers of the items of these sorts.
@@ -192,7 +288,7 @@ pub fn add_numbers(
 
 impl Sort {
     pub fn is_kind(self) -> bool {
-        self != Sort::Choice
+        !matches!(self, Sort::Choice | Sort::Set | Sort::Trait)
     }
 
     pub fn is_token(self) -> bool {

@@ -1,7 +1,9 @@
-//! The files of the kinds: `src/kinds.rt` and `specs/Kinds.antt`.
+//! The files of the kinds: that of the code, as `src/kinds.rt`, and `specs/Kinds.antt`.
 use crate::grammar::Sort;
 use crate::names::upper;
-use crate::texts::{add_text_specs, add_texts};
+use crate::sets::{add_set_specs, add_sets};
+use crate::signs::{add_sign_specs, add_table, has_signs};
+use crate::texts::{add_calls_of_kinds, add_text_specs, has_texts};
 use crate::writer::{ARGUMENTS, Imports, Scope, add_arm, add_docs, fill};
 use std::alloc::AllocError;
 
@@ -11,13 +13,11 @@ const BLOCK: usize = 32;
 const HEAD: &str = "\
 //! The kinds of the tokens and nodes of $1.
 $2use rowan::{Language, SyntaxKind};
-
-/// The language.
-#[derive(Clone, Copy, PartialEq, Eq, PartialOrd, Ord, Hash, Debug)]
+$3
+$4#[derive(Clone, Copy, PartialEq, Eq, PartialOrd, Ord, Hash, Debug)]
 pub struct $1;
 
-/// The kind of a token or a node.
-#[derive(Clone, Copy, PartialEq, Eq, PartialOrd, Ord, Hash, Debug)]
+$5#[derive(Clone, Copy, PartialEq, Eq, PartialOrd, Ord, Hash, Debug)]
 pub enum Kind {
 ";
 
@@ -45,16 +45,30 @@ fn kind_in_block_$0(raw: u16) -> Kind
 
 const ARM: &str = "$0$1 => Kind::$2,\n";
 
-/// The text of `src/kinds.rt`.
+/// The code of the kinds.
 pub fn kinds_code(scope: &Scope<'_>) -> Result<String, AllocError> {
     let mut out = String::new(scope.alloc);
     let blocks = block_count(scope);
     let imports = block_imports(scope, blocks)?;
-    fill(
-        &mut out,
-        HEAD,
-        &[scope.crate_name, scope.language, imports.as_str()],
+    let language_docs = docs_or(scope, &scope.grammar.language_docs, "The language.")?;
+    let kinds_docs = docs_or(
+        scope,
+        &scope.grammar.kinds_docs,
+        "The kind of a token or a node.",
     )?;
+    let sets = match scope.sets.is_empty() {
+        true => "",
+        false => "use rowan_parser::{TokenSet, token_set};\n",
+    };
+    let values = [
+        scope.crate_name,
+        scope.language,
+        imports.as_str(),
+        sets,
+        language_docs.as_str(),
+        kinds_docs.as_str(),
+    ];
+    fill(&mut out, HEAD, &values)?;
     for (number, index) in scope.kinds.iter().enumerate() {
         add_docs(&mut out, "    ", scope.grammar.docs(*index), "")?;
         let name = scope.grammar.name(*index);
@@ -66,12 +80,22 @@ pub fn kinds_code(scope: &Scope<'_>) -> Result<String, AllocError> {
     add_to_raw(&mut out, scope)?;
     add_kind_names(&mut out, scope)?;
     add_trivia(&mut out, scope)?;
+    add_sets(&mut out, scope)?;
+    add_table(&mut out, scope)?;
     if blocks > 1 {
         for block in 0..blocks {
             add_block(&mut out, scope, block)?;
         }
     }
-    add_texts(&mut out, scope)?;
+    add_calls_of_kinds(&mut out, scope)?;
+    Ok(out)
+}
+
+/// The lines of a comment, or this line where there is none.
+fn docs_or(scope: &Scope<'_>, docs: &String, line: &str) -> Result<String, AllocError> {
+    let mut out = String::new(scope.alloc);
+    let docs = if docs.is_empty() { line } else { docs.as_str() };
+    add_docs(&mut out, "", docs, "")?;
     Ok(out)
 }
 
@@ -161,15 +185,16 @@ fn add_kind_names(out: &mut String, scope: &Scope<'_>) -> Result<(), AllocError>
     out.push_str("        }\n    }\n}\n")
 }
 
-/// The kinds of what stands anywhere, as a parser takes them, and the kind of the root.
+/// The kinds of what stands anywhere, and the kind of the root.
 fn add_trivia(out: &mut String, scope: &Scope<'_>) -> Result<(), AllocError> {
     let mut line = String::new(scope.alloc);
     let mut lines = String::new(scope.alloc);
-    for (number, index) in scope.kinds.iter().enumerate() {
+    for index in scope.kinds.iter() {
         if scope.grammar.sort(*index) == Sort::Trivia {
             let comma = if line.is_empty() { "" } else { ", " };
-            write!(line, "{comma}SyntaxKind({number})")?;
-            write!(lines, "\n    SyntaxKind({number}),")?;
+            let name = scope.grammar.name(*index);
+            write!(line, "{comma}Kind::{name}")?;
+            write!(lines, "\n    Kind::{name},")?;
         }
     }
     let kinds = if line.len() > ARGUMENTS {
@@ -183,7 +208,7 @@ fn add_trivia(out: &mut String, scope: &Scope<'_>) -> Result<(), AllocError> {
 
 const TRIVIA: &str = "
 /// The kinds of the tokens that may stand anywhere.
-pub const TRIVIA: &[SyntaxKind] = &[$0];
+pub const TRIVIA: &[Kind] = &[$0];
 
 /// The kind of the node of a whole text.
 pub const ROOT: Kind = Kind::$1;
@@ -191,19 +216,38 @@ pub const ROOT: Kind = Kind::$1;
 
 const SPECS: &str = "\
 -- The kinds of $1.
-use Rattle.std.specs.Prelude.{ℕ, ◌==◌, $2List, codes, if◌then◌else◌, Bool, true, false}
+use Rattle.std.specs.Prelude.{ℕ, ◌==◌, $2List, codes, if◌then◌else◌$4}
+$5$6use Rattle.$0.specs.declared.$3.Kind.{Kind}
+
+";
+
+/// What the definitions for the texts of tokens need.
+const OF_TEXTS: &str = "\
 use Rattle.std.specs.Prelude.{Option, Some, None}
 use Rattle.std.specs.Str.{bytes_eq}
-use Rattle.$0.specs.declared.kinds.Kind.{Kind}
+";
 
+/// What the definition for the signs needs besides.
+const OF_SIGNS: &str = "\
+use Rattle.std.specs.Prelude.{nat_eq}
+use Rattle.std.specs.List.{starts_with}
 ";
 
 /// The text of `specs/Kinds.antt`. Kinds are named by their type, since a kind may have any name.
 pub fn kinds_specs(scope: &Scope<'_>) -> Result<String, AllocError> {
     let mut out = String::new(scope.alloc);
     let blocks = block_count(scope);
-    let less = if blocks > 1 { "nat_lt, " } else { "" };
-    fill(&mut out, SPECS, &[scope.crate_name, scope.language, less])?;
+    let has_tests = has_texts(scope) || !scope.sets.is_empty();
+    let values = [
+        scope.crate_name,
+        scope.language,
+        if blocks > 1 { "nat_lt, " } else { "" },
+        scope.module,
+        if has_tests { ", Bool, true, false" } else { "" },
+        if has_texts(scope) { OF_TEXTS } else { "" },
+        if has_signs(scope) { OF_SIGNS } else { "" },
+    ];
+    fill(&mut out, SPECS, &values)?;
     if blocks > 1 {
         for block in 0..blocks {
             let name = format!(in scope.alloc; "block_kind_{block}")?;
@@ -238,7 +282,13 @@ pub fn kinds_specs(scope: &Scope<'_>) -> Result<String, AllocError> {
             &[name, shown.as_str()],
         )?;
     }
-    add_text_specs(&mut out, scope)?;
+    if has_texts(scope) {
+        add_text_specs(&mut out, scope)?;
+    }
+    if has_signs(scope) {
+        add_sign_specs(&mut out, scope)?;
+    }
+    add_set_specs(&mut out, scope)?;
     Ok(out)
 }
 

@@ -1,26 +1,41 @@
 //! How names are spelled, and which are taken.
 use std::alloc::{AllocError, Global};
 
-/// How many letters a name may have. Longer ones could not be laid out as `rt fmt` does.
+/// How many letters a name may have, and that of a set. Longer ones could not be laid out as `rt fmt`
+/// does.
 const MAX_LETTERS: usize = 50;
+
+const MAX_OF_SET: usize = 30;
 
 /// Names that neither a kind nor a wrapper can have, since the language makes them, or what is
 /// written needs them: what is written has an underscore behind them.
 const TAKEN: &str = "\
-    Below Cursor Fault IfErr IfOk Kind Lib M Memory Prim Self Syntax TheBound TheConstants TheData \
-    TheDeep TheImpl TheInside TheLaw TheLaws TheLinks TheOpen TheOwn TheVariants Token TokenOf";
+    Below Cursor Fault IfErr IfOk Kind Lib M Memory NodeOf NodeOfRef Prim Self Syntax TheBound \
+    TheConstants TheData TheDeep TheImpl TheInside TheLaw TheLaws TheLinks TheOpen TheOwn TheVariants \
+    Token TokenOf TokenOfRef Type";
 
-/// Names from elsewhere that `src/kinds.rt` has.
-const OF_KINDS: &str = "Language SyntaxKind";
+/// Names from elsewhere that the file of the kinds has.
+const OF_KINDS: &str = "Language SyntaxKind TokenSet";
 
-/// Words of the language, and names of calls that each wrapper has, that a clause gives a meaning, or
-/// that the language makes: a call that is named so has an underscore behind its name.
+/// Names of constants that are written for each language: no set has them.
+const OF_CONSTANTS: &str = "Trivia Root";
+
+/// Modules that the files of a crate have besides that of the kinds.
+const MODULES: &str = "lib main nodes proofs specs";
+
+/// Words of the language and of its clauses: a call that is named so has an underscore behind its
+/// name.
 const WORDS: &str = "\
-    abstract as as_ref async await become box break can_cast cast clone_subtree const continue crate \
-    data deriving do drop dyn else ensures enum extern false final fn for gen ghost if impl in let \
-    loop macro match mod move mut open override priv pub record ref requires result return ruleset \
-    self static struct super syntax the_data the_own the_row the_size the_type to_owned trait true \
+    abstract as async await become box break const continue crate data deriving do drop dyn else \
+    ensures enum extern false final fn for gen ghost if impl in let loop macro match mod move mut \
+    open override priv pub record ref requires return ruleset self static struct super trait true \
     try type typeof unsafe unsized use virtual where while yield";
+
+/// Names of calls that each wrapper has, that a clause gives a meaning, or that the language makes: so
+/// has a call that is named so.
+const OF_CALLS: &str = "\
+    as_ref can_cast cast clone_subtree result syntax the_data the_own the_row the_size the_type \
+    to_owned";
 
 /// Crates that what is written names.
 const CRATES: &str = "core rowan std";
@@ -44,9 +59,39 @@ pub fn why_no_type(name: &str) -> Option<&'static str> {
     None
 }
 
+/// Why a set cannot have a name.
+pub fn why_no_set(name: &str) -> Option<&'static str> {
+    if is_in(OF_CONSTANTS, name) {
+        return Some("is a name that the written files need");
+    }
+    if name.len() > MAX_OF_SET {
+        return Some("has more than 30 letters");
+    }
+    why_no_type(name)
+}
+
+/// Why a trait cannot have a name.
+pub fn why_no_trait(name: &str) -> Option<&'static str> {
+    if is_in(TAKEN, name) || is_outside(name) {
+        return Some("is a name that the written files need");
+    }
+    why_no_type(name)
+}
+
+/// Why the module of the kinds cannot have a name.
+pub fn why_no_module(name: &str) -> Option<&'static str> {
+    if is_in(WORDS, name) || is_in(CRATES, name) || is_in(MODULES, name) {
+        return Some("is a name that no module of kinds can have");
+    }
+    if !is_call_name(name) {
+        return Some("is not spelled as `toml_kinds`");
+    }
+    None
+}
+
 /// Why a crate cannot have a name.
 pub fn why_no_crate(name: &str) -> Option<&'static str> {
-    if is_in(WORDS, name) || is_in(CRATES, name) {
+    if is_word(name) || is_in(CRATES, name) {
         return Some("is a name that no crate can have");
     }
     if !is_call_name(name) {
@@ -62,7 +107,7 @@ pub fn is_taken(name: &str) -> bool {
 
 /// Whether what is written has an underscore behind the name of a call.
 pub fn is_word(name: &str) -> bool {
-    is_in(WORDS, name)
+    is_in(WORDS, name) || is_in(OF_CALLS, name)
 }
 
 fn is_in(words: &str, name: &str) -> bool {
@@ -80,16 +125,25 @@ pub fn is_call_name(name: &str) -> bool {
         && !name.contains(|character: char| character.is_ascii_uppercase())
 }
 
-/// `InlineTable` as `inline_table`.
+/// `InlineTable` as `inline_table`, and `LBrace` as `l_brace`: a word begins at a capital letter behind
+/// one that is none, and at the last of several capital letters if another letter is behind it.
 pub fn snake(alloc: Global, name: &str) -> Result<String, AllocError> {
     let mut out = String::new(alloc);
+    let mut is_first = true;
     let mut is_inside = false;
-    for character in name.chars() {
-        if character.is_ascii_uppercase() && is_inside {
+    let mut letters = name.chars().peekable();
+    for _ in 0..name.len() {
+        let Some(letter) = letters.next() else {
+            break;
+        };
+        let is_capital = letter.is_ascii_uppercase();
+        let ends_capitals = matches!(letters.peek(), Some(next) if next.is_ascii_lowercase());
+        if is_capital && !is_first && (is_inside || ends_capitals) {
             out.push('_')?;
         }
-        is_inside = !character.is_ascii_uppercase();
-        out.push(character.to_ascii_lowercase())?;
+        is_first = false;
+        is_inside = !is_capital;
+        out.push(letter.to_ascii_lowercase())?;
     }
     Ok(out)
 }

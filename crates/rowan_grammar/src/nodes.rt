@@ -1,20 +1,25 @@
 //! The file of the wrappers: `src/nodes.rt`.
 use crate::calls::Gives;
 use crate::choices::add_choice;
+use crate::forms::Form;
 use crate::grammar::Sort;
-use crate::structs::add_node;
-use crate::tokens::add_token;
-use crate::writer::{Imports, Scope, fill};
+use crate::structs::{add_node, add_node_types};
+use crate::tokens::{add_token, add_token_types};
+use crate::traits::add_traits;
+use crate::writer::{Scope, fill};
 use std::alloc::AllocError;
 
 const HEAD: &str = "\
-//! Wrappers of the nodes of $0: owned ones, which keep the tree, and those that borrow it.
+//! Wrappers of the nodes of $0$1.
+$2use crate::$3::{$4};
+";
+
+/// What the ghost fields of borrowed wrappers name, and the contract of `nth_child`.
+const OF_FIELDS: &str = "\
 ghost use Rattle.std.specs.Prelude.{◌≡◌, true};
-$5ghost use Rattle.rowan.specs.Ast.{casts_at};
-ghost use Rattle.rowan.specs.Refs.{node_place$4};
+$0ghost use Rattle.rowan.specs.Ast.{casts_at};
 $1ghost use Rattle.$2.specs.Kinds.{kind_of};
 
-use crate::kinds::{$3};
 ";
 
 /// What the contract of `nth_child` names.
@@ -23,7 +28,7 @@ ghost use Rattle.std.specs.Prelude.{filter, slice_get, IfOk, IfErr};
 ghost use Rattle.std.specs.Option.{option_map, option_and_then};
 ghost use Rattle.rowan.specs.Moves.{children};
 ghost use Rattle.rowan.specs.Ast.{if_casts, has_one_of};
-ghost use Rattle.$0.specs.contracts.kinds.Kind.{the_type};
+ghost use Rattle.$0.specs.contracts.$1.Kind.{the_type};
 ghost use denote.Enum.Bare.{sameb};
 ";
 
@@ -55,51 +60,62 @@ struct Needs {
     nth_child: bool,
 }
 
+impl Needs {
+    fn has_calls(self) -> bool {
+        self.many || self.one || self.token || self.nth_child
+    }
+}
+
 /// The text of `src/nodes.rt`.
 pub fn nodes_code(scope: &Scope<'_>) -> Result<String, AllocError> {
     let mut out = String::new(scope.alloc);
-    let needs = needs_of(scope);
-    add_head(&mut out, scope, needs)?;
+    let owned = needs_of(scope, Form::Owned);
+    add_head(&mut out, scope, owned, needs_of(scope, Form::Borrowed))?;
+    add_node_types(&mut out, scope)?;
+    if !scope.contents.is_empty() {
+        add_token_types(&mut out, scope)?;
+    }
     for (index, item) in scope.grammar.items.iter().enumerate() {
         match item.sort {
+            _ if !item.is_wrapped() => {}
             Sort::Node => add_node(&mut out, scope, item, index)?,
             Sort::Choice => add_choice(&mut out, scope, item, index)?,
-            _ if item.has_content => add_token(&mut out, scope, item)?,
-            _ => {}
+            _ => add_token(&mut out, scope, item, index)?,
         }
     }
-    if needs.nth_child {
+    add_traits(&mut out, scope)?;
+    if owned.nth_child {
         scope.fill(&mut out, NTH, &[scope.language])?;
     }
     Ok(out)
 }
 
-fn add_head(out: &mut String, scope: &Scope<'_>, needs: Needs) -> Result<(), AllocError> {
-    let has_calls = needs.many || needs.one || needs.token || needs.nth_child;
+fn add_head(
+    out: &mut String,
+    scope: &Scope<'_>,
+    owned: Needs,
+    borrowed: Needs,
+) -> Result<(), AllocError> {
+    let has_owned = scope.has_nodes(Form::Owned);
+    let has_borrowed = scope.has_nodes(Form::Borrowed);
+    let has_contents = !scope.contents.is_empty();
+    let has_fault = owned.has_calls() || scope.has_both();
     let names = match scope.language < "Kind" {
         true => format!(in scope.alloc; "{}, Kind", scope.language)?,
         false => format!(in scope.alloc; "Kind, {}", scope.language)?,
     };
-    let start = format!(in scope.alloc; "ghost use Rattle.{}.specs.Casts.{{", scope.crate_name)?;
-    let mut casts = Imports::new(scope.alloc, start.as_str(), ";")?;
-    for index in scope.nodes.iter().chain(scope.contents.iter()) {
-        let name = format!(in scope.alloc; "is_{}", scope.grammar.snake(*index))?;
-        casts.add(name.as_str())?;
+    let mut of_fields = String::new(scope.alloc);
+    if has_borrowed || has_contents || owned.nth_child {
+        add_words_of_fields(&mut of_fields, scope, owned)?;
     }
-    let casts = String::from_str(scope.alloc, casts.finish()?)?;
-    let has_contents = !scope.contents.is_empty();
-    let has_tokens = needs.token || has_contents;
-    let mut of_nth = String::new(scope.alloc);
-    if needs.nth_child {
-        fill(&mut of_nth, OF_NTH, &[scope.crate_name])?;
-    }
+    let which = which(has_owned || has_contents, has_borrowed || has_contents);
+    let which = String::from_str(scope.alloc, which)?;
     let values = [
         scope.language,
-        casts.as_str(),
-        scope.crate_name,
+        which.as_str(),
+        of_fields.as_str(),
+        scope.module,
         names.as_str(),
-        if has_contents { ", token_place" } else { "" },
-        of_nth.as_str(),
     ];
     fill(out, HEAD, &values)?;
     add_use(
@@ -107,13 +123,13 @@ fn add_head(out: &mut String, scope: &Scope<'_>, needs: Needs) -> Result<(), All
         scope,
         "rowan::ast",
         &[
-            (needs.many, "AstChildren"),
-            (true, "AstNode"),
-            (true, "AstNodeRef"),
-            (needs.many, "AstNodesRef"),
+            (owned.many, "AstChildren"),
+            (has_owned, "AstNode"),
+            (has_borrowed, "AstNodeRef"),
+            (borrowed.many, "AstNodesRef"),
             (has_contents, "AstToken"),
             (has_contents, "AstTokenRef"),
-            (has_calls, "support"),
+            (owned.has_calls() || borrowed.has_calls(), "support"),
         ],
     )?;
     add_use(
@@ -121,14 +137,66 @@ fn add_head(out: &mut String, scope: &Scope<'_>, needs: Needs) -> Result<(), All
         scope,
         "rowan",
         &[
-            (true, "Fault"),
-            (true, "SyntaxNode"),
-            (true, "SyntaxNodeRef"),
-            (has_tokens, "SyntaxToken"),
-            (has_tokens, "SyntaxTokenRef"),
+            (has_fault || has_contents, "Fault"),
+            (has_owned, "SyntaxNode"),
+            (has_borrowed, "SyntaxNodeRef"),
+            (owned.token || has_contents, "SyntaxToken"),
+            (borrowed.token || has_contents, "SyntaxTokenRef"),
         ],
     )?;
-    add_use(out, scope, "std::marker", &[(true, "Model")])
+    let has_models = has_owned || has_contents;
+    add_use(out, scope, "std::marker", &[(has_models, "Model")])
+}
+
+/// The words that are named outside of impls.
+fn add_words_of_fields(
+    out: &mut String,
+    scope: &Scope<'_>,
+    owned: Needs,
+) -> Result<(), AllocError> {
+    let mut of_nth = String::new(scope.alloc);
+    if owned.nth_child {
+        fill(&mut of_nth, OF_NTH, &[scope.crate_name, scope.module])?;
+    }
+    let mut of_places = String::new(scope.alloc);
+    let places = places(scope.has_nodes(Form::Borrowed), !scope.contents.is_empty());
+    fill(&mut of_places, places, &[scope.crate_name])?;
+    let values = [of_nth.as_str(), of_places.as_str(), scope.crate_name];
+    fill(out, OF_FIELDS, &values)
+}
+
+/// The lines that import the places of what is borrowed, and which kinds cast to it.
+fn places(has_nodes: bool, has_tokens: bool) -> &'static str {
+    match (has_nodes, has_tokens) {
+        (false, false) => "",
+        (true, false) => PLACES_OF_NODES,
+        (false, true) => PLACES_OF_TOKENS,
+        (true, true) => PLACES,
+    }
+}
+
+const PLACES_OF_NODES: &str = "\
+ghost use Rattle.rowan.specs.Refs.{node_place};
+ghost use Rattle.$0.specs.Casts.{has_number};
+";
+
+const PLACES_OF_TOKENS: &str = "\
+ghost use Rattle.rowan.specs.Refs.{token_place};
+ghost use Rattle.$0.specs.Casts.{has_number};
+";
+
+const PLACES: &str = "\
+ghost use Rattle.rowan.specs.Refs.{node_place, token_place};
+ghost use Rattle.$0.specs.Casts.{has_number};
+";
+
+/// Which wrappers the file has.
+fn which(has_owned: bool, has_borrowed: bool) -> &'static str {
+    match (has_owned, has_borrowed) {
+        (true, true) => ": owned ones, which keep the tree, and those that borrow it",
+        (true, false) => ", which keep the tree",
+        _ => ", which borrow the tree",
+    }
 }
 
 /// A line that imports those of the names of a module that are wanted and that no wrapper has.
@@ -154,15 +222,23 @@ fn add_use(
     }
 }
 
-fn needs_of(scope: &Scope<'_>) -> Needs {
+/// What the calls of wrappers of a form need.
+fn needs_of(scope: &Scope<'_>, form: Form) -> Needs {
     let mut needs = Needs {
         many: false,
         one: false,
         token: false,
         nth_child: false,
     };
-    for calls in scope.calls.iter() {
-        for call in calls.calls.iter() {
+    for index in scope.nodes.iter() {
+        if !scope.grammar.forms(*index).has(form) {
+            continue;
+        }
+        for call in scope
+            .calls(*index)
+            .iter()
+            .filter(|call| scope.has_call(form, call))
+        {
             match call.gives {
                 Gives::Token(_) | Gives::NthToken(_) => needs.token = true,
                 Gives::Child(_) => needs.one = true,

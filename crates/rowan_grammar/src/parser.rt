@@ -72,15 +72,36 @@ fn rule(p: &mut Parser<Grammars>) -> Kind {
     Kind::Rule
 }
 
-/// A line of the head: its word, the name behind it, and for a token maybe its text.
+/// A line of the head: its word, the name behind it, for a token maybe its text, for a lexer its path,
+/// and for a set or a trait what is in it.
 fn head(p: &mut Parser<Grammars>) -> Kind {
-    let may_have_text = matches!(p.text(), "token" | "trivia");
+    let may_have_text = matches!(p.text(), "token" | "trivia" | "shown");
+    let may_have_path = p.text() == "lexer";
+    let has_parts = matches!(p.text(), "set" | "trait");
     p.bump_as(Kind::Keyword);
     p.bump();
     if may_have_text {
         p.eat(Kind::Literal);
     }
+    if may_have_path {
+        path(p);
+    }
+    if has_parts && p.expect(Kind::Equals, "`=` is wanted here") {
+        choice(p, MAX_DEPTH, false);
+    }
     Kind::Head
+}
+
+/// What stands in a path behind its first name.
+fn path(p: &mut Parser<Grammars>) {
+    for _ in 0..p.tokens_left() {
+        if !p.at(Kind::Colon) || p.nth(1) != Some(Kind::Colon) || p.nth(2) != Some(Kind::Word) {
+            break;
+        }
+        p.bump();
+        p.bump();
+        p.bump();
+    }
 }
 
 /// What is no item, up to the next one.
@@ -110,7 +131,22 @@ fn begins_item(p: &Parser<Grammars>) -> bool {
 fn is_head(word: &str) -> bool {
     matches!(
         word,
-        "language" | "crate" | "root" | "error" | "trivia" | "token" | "content"
+        "language"
+            | "crate"
+            | "root"
+            | "kinds"
+            | "wrappers"
+            | "owned"
+            | "borrowed"
+            | "parser"
+            | "lexer"
+            | "shown"
+            | "error"
+            | "trivia"
+            | "token"
+            | "content"
+            | "set"
+            | "trait"
     )
 }
 

@@ -21,6 +21,16 @@ pub fn top() -> TextRange {
     TextRange::new(TextSize::from(0), TextSize::from(0))
 }
 
+/// The range from the start of one range to the end of another, or the first where the other ends
+/// before it.
+pub fn cover(one: TextRange, other: TextRange) -> TextRange {
+    if one.start() <= other.end() {
+        TextRange::new(one.start(), other.end())
+    } else {
+        one
+    }
+}
+
 /// The part of a text; nothing where it has no such part.
 pub fn text_at(text: &str, range: TextRange) -> &str {
     let start = u32::from(range.start()) as usize;

@@ -1,4 +1,5 @@
 //! From the tree of a grammar to its items.
+use crate::forms::{Form, Forms};
 use crate::grammar::{Content, Grammar, Item, Part, Sort};
 use crate::names::snake;
 use crate::place::Problem;
@@ -8,6 +9,8 @@ use rowan_parser::Severity;
 use std::alloc::{AllocError, Global};
 use std::collections::HashMap;
 use std::mem;
+
+const SAID: &str = "a line of the head says this already";
 
 /// A grammar that is being read, and what is wrong with it.
 #[derive(Drop)]
@@ -49,16 +52,19 @@ impl Reader {
             let Some(name) = node.first_token_of_kind(Kind::Word) else {
                 continue;
             };
-            if node.kind() == Kind::Head {
-                self.head(node, name)?;
-            } else if let Some(choice) = node.first_child_by_kind(Kind::Choice) {
-                let item = self.add_item(node, name, Sort::Node)?;
+            if node.kind() == Kind::Head && !self.head(node, name)? {
+                continue;
+            }
+            if let Some(choice) = node.first_child_by_kind(Kind::Choice) {
+                let item = self.add_item(node, name, sort_of(node))?;
                 rules.push(Rule { choice, item })?;
                 self.check_end(node, name)?;
             }
         }
         self.read_contents()?;
-        self.read_rules(rules.as_slice())
+        self.read_rules(rules.as_slice())?;
+        self.read_shown()?;
+        self.read_forms()
     }
 
     /// Marks the tokens whose text means something.
@@ -69,7 +75,7 @@ impl Reader {
             match self.names.get(name).copied() {
                 Some(number) if self.grammar.sort(number).is_token() => {
                     if self.mark(number) {
-                        self.problem(content.range, "a line of the head says this already")?;
+                        self.problem(content.range, SAID)?;
                     }
                 }
                 _ => {
@@ -103,37 +109,71 @@ impl Reader {
         self.error(range, message)
     }
 
-    /// A line of the head.
+    /// A line of the head. Says whether parts stand in it, as in a rule.
     fn head(
         &mut self,
         head: SyntaxNodeRef<'_, Grammars>,
         name: SyntaxTokenRef<'_, Grammars>,
-    ) -> Result<(), AllocError> {
-        let range = name.text_range();
-        let sort = match first_text(head, Kind::Keyword) {
-            "error" => Sort::Error,
-            "trivia" => Sort::Trivia,
-            "token" => Sort::Token,
+    ) -> Result<bool, AllocError> {
+        match first_text(head, Kind::Keyword) {
+            "set" | "trait" => return Ok(true),
+            "error" => self.add_kind(head, name, Sort::Error)?,
+            "trivia" => self.add_kind(head, name, Sort::Trivia)?,
+            "token" => self.add_kind(head, name, Sort::Token)?,
             "content" => {
+                let range = name.text_range();
                 let name = String::from_str(self.alloc, name.text())?;
                 self.grammar.contents.push(Content { range, name })?;
-                return Ok(());
             }
-            word => return self.line(word, range),
-        };
+            "owned" => self.add_wrap(name, Form::Owned)?,
+            "borrowed" => self.add_wrap(name, Form::Borrowed)?,
+            "wrappers" => self.set_forms(name)?,
+            word @ ("parser" | "lexer" | "shown") => self.parser_line(word, head, name)?,
+            word => self.line(word, head, name.text_range())?,
+        }
+        Ok(false)
+    }
+
+    fn add_kind(
+        &mut self,
+        head: SyntaxNodeRef<'_, Grammars>,
+        name: SyntaxTokenRef<'_, Grammars>,
+        sort: Sort,
+    ) -> Result<(), AllocError> {
         self.add_item(head, name, sort)?;
         Ok(())
     }
 
-    /// A line of the head that names no kind.
-    fn line(&mut self, word: &str, range: TextRange) -> Result<(), AllocError> {
+    /// A line of the head that may stand there once.
+    fn line(
+        &mut self,
+        word: &str,
+        head: SyntaxNodeRef<'_, Grammars>,
+        range: TextRange,
+    ) -> Result<(), AllocError> {
         let old = match word {
-            "language" => mem::replace(&mut self.grammar.language, Some(range)),
+            "language" => {
+                self.grammar.language_docs = docs(self.alloc, head)?;
+                mem::replace(&mut self.grammar.language, Some(range))
+            }
+            "kinds" => {
+                self.grammar.kinds_docs = docs(self.alloc, head)?;
+                mem::replace(&mut self.grammar.kinds, Some(range))
+            }
             "crate" => mem::replace(&mut self.grammar.crate_name, Some(range)),
             _ => mem::replace(&mut self.grammar.root, Some(range)),
         };
+        self.check_once(old, range)
+    }
+
+    /// Complains where a line of the head has said the same.
+    pub fn check_once(
+        &mut self,
+        old: Option<TextRange>,
+        range: TextRange,
+    ) -> Result<(), AllocError> {
         match old {
-            Some(_) => self.problem(range, "a line of the head says this already"),
+            Some(_) => self.problem(range, SAID),
             None => Ok(()),
         }
     }
@@ -172,6 +212,7 @@ impl Reader {
             sort,
             name: String::from_str(self.alloc, name.text())?,
             snake: snake(self.alloc, name.text())?,
+            borrowed: String::new(self.alloc),
             range: name.text_range(),
             literal: literal.map(|token| token.text_range()),
             docs: docs(self.alloc, node)?,
@@ -180,9 +221,19 @@ impl Reader {
             body: Part::Group(Vec::new(self.alloc)),
             is_used: false,
             has_content: false,
+            forms: Forms::NONE,
         };
         self.grammar.items.push(item)?;
         Ok(number)
+    }
+}
+
+/// What a rule or a line of the head with parts in it names.
+fn sort_of(node: SyntaxNodeRef<'_, Grammars>) -> Sort {
+    match first_text(node, Kind::Keyword) {
+        "set" => Sort::Set,
+        "trait" => Sort::Trait,
+        _ => Sort::Node,
     }
 }
 

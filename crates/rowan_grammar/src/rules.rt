@@ -1,4 +1,5 @@
 //! From the trees of rules to what may stand in nodes, and to choices.
+use crate::forms::Forms;
 use crate::grammar::{Item, Part, Sort, Use};
 use crate::names::{camel, snake};
 use crate::reader::{Reader, Rule};
@@ -18,16 +19,27 @@ enum Alternatives {
     Longer,
 }
 
+const NO_TOKEN: &str = "a set has tokens alone, each by its name or its text";
+
 impl Reader {
-    /// Reads choices first: a label may stand for what a later one is.
+    /// Reads choices first: a label may stand for what a later one is. Traits come last: a label in
+    /// one stands for what it does in a node.
     pub fn read_rules(&mut self, rules: &[Rule<'_>]) -> Result<(), AllocError> {
         for rule in rules.iter() {
-            if self.is_choice(rule.choice) {
-                self.read_choice(*rule)?;
+            match self.grammar.sort(rule.item) {
+                Sort::Set => self.read_set(*rule)?,
+                Sort::Node if self.is_choice(rule.choice) => self.read_choice(*rule)?,
+                _ => {}
             }
         }
+        self.read_bodies(rules, Sort::Node)?;
+        self.read_bodies(rules, Sort::Trait)
+    }
+
+    /// Reads what may stand in the items of a sort.
+    fn read_bodies(&mut self, rules: &[Rule<'_>], sort: Sort) -> Result<(), AllocError> {
         for rule in rules.iter() {
-            if self.grammar.sort(rule.item) == Sort::Node {
+            if self.grammar.sort(rule.item) == sort {
                 let body = self.body(*rule)?;
                 if let Some(item) = self.grammar.items.get_mut(rule.item) {
                     item.body = body;
@@ -71,6 +83,28 @@ impl Reader {
         if let Some(item) = self.grammar.items.get_mut(rule.item) {
             item.sort = Sort::Choice;
             item.alternatives = alternatives;
+        }
+        Ok(())
+    }
+
+    /// The tokens of a set.
+    fn read_set(&mut self, rule: Rule<'_>) -> Result<(), AllocError> {
+        let mut tokens: Vec<Use> = Vec::new(self.alloc);
+        for sequence in rule.choice.children() {
+            let Some(token) = only_token(sequence) else {
+                if sequence.first_token().is_some() {
+                    self.problem(sequence.text_range(), NO_TOKEN)?;
+                }
+                continue;
+            };
+            match self.resolve(token)? {
+                Some(used) if self.grammar.sort(used.item).is_token() => tokens.push(used)?,
+                Some(used) => self.problem(used.range, NO_TOKEN)?,
+                None => {}
+            }
+        }
+        if let Some(item) = self.grammar.items.get_mut(rule.item) {
+            item.alternatives = tokens;
         }
         Ok(())
     }
@@ -191,6 +225,10 @@ impl Reader {
         match self.grammar.sort(used.item) {
             Sort::Token | Sort::Trivia => Ok(Some(Part::Token(used))),
             Sort::Node | Sort::Choice => Ok(Some(Part::Node(used))),
+            Sort::Set | Sort::Trait => {
+                self.problem(used.range, "sets and traits stand in no rule")?;
+                Ok(None)
+            }
             Sort::Error => {
                 self.problem(
                     used.range,
@@ -284,6 +322,7 @@ impl Reader {
         let item = Item {
             sort: Sort::Choice,
             snake: snake(self.alloc, name.as_str())?,
+            borrowed: String::new(self.alloc),
             name,
             range,
             literal: None,
@@ -293,6 +332,7 @@ impl Reader {
             body: Part::Group(Vec::new(self.alloc)),
             is_used: true,
             has_content: false,
+            forms: Forms::NONE,
         };
         self.grammar.items.push(item)?;
         Ok(number)
@@ -320,9 +360,17 @@ fn label_of<'tree>(
 fn only_name<'tree>(
     sequence: SyntaxNodeRef<'tree, Grammars>,
 ) -> Option<SyntaxTokenRef<'tree, Grammars>> {
+    only_token(sequence).filter(|token| token.kind() == Kind::Word)
+}
+
+/// The name or the text that an alternative is alone.
+fn only_token<'tree>(
+    sequence: SyntaxNodeRef<'tree, Grammars>,
+) -> Option<SyntaxTokenRef<'tree, Grammars>> {
     match sequence.first_token() {
-        Some(token) if token.kind() == Kind::Word && token.text_range() == sequence.text_range() =>
-            Some(token),
+        Some(token) if token.text_range() == sequence.text_range() => Some(token).filter(
+            |token| matches!(token.kind(), Kind::Word | Kind::Literal),
+        ),
         _ => None,
     }
 }

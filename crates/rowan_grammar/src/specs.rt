@@ -1,21 +1,33 @@
 //! The files of definitions and lemmas on wrappers: `specs/Casts.antt`, `specs/NodeIn.antt` and
 //! `proofs/CastLemmas.antt`.
+use crate::forms::Form;
 use crate::grammar::Sort;
 use crate::writer::{Imports, Scope, fill};
 use std::alloc::AllocError;
 
 const CASTS: &str = "\
 -- Wrappers of the nodes of $1: the kinds that cast to each of them.
-use Rattle.std.specs.Prelude.{◌≡◌, Bool, true, false$2}
-use Rattle.$0.specs.declared.kinds.Kind.{Kind}
-use Rattle.$0.specs.contracts.kinds.Kind.{the_type}
+use Rattle.std.specs.Prelude.{$2}
+use Rattle.$0.specs.declared.$3.Kind.{Kind}
+$4use Rattle.$0.specs.Kinds.{number_of}
+$5
+-- whether it is the kind with this number
+abbrev pub has_number : ℕ → Kind → Bool
+has_number n kind = number_of kind == n
+";
+
+/// What `same_kind` needs.
+const THE_TYPE: &str = "\
+use Rattle.$0.specs.contracts.$1.Kind.{the_type}
+";
+
+const SAME: &str = "\
 use denote.Enum.Bare.{same_true, sameb}
 ";
 
 const CASTS_NODE: &str = "
-abbrev pub is_$1 : Kind → Bool
-is_$1 Kind.$0 = true
-is_$1 _ = false
+abbrev pub is_$0 : Kind → Bool
+is_$0 = has_number $1
 ";
 
 const SAME_KIND: &str = "
@@ -27,14 +39,32 @@ same_kind a b same = same_true the_type tt a b same
 /// The text of `specs/Casts.antt`.
 pub fn casts_specs(scope: &Scope<'_>) -> Result<String, AllocError> {
     let mut out = String::new(scope.alloc);
-    let or = if scope.choices.is_empty() {
-        ""
-    } else {
-        ", ◌||◌"
+    let has_owned = scope.has_nodes(Form::Owned);
+    let words = match (has_owned, scope.choices.is_empty()) {
+        (true, true) => "◌≡◌, ℕ, ◌==◌, Bool, true",
+        (true, false) => "◌≡◌, ℕ, ◌==◌, Bool, true, ◌||◌",
+        (false, true) => "ℕ, ◌==◌, Bool",
+        (false, false) => "ℕ, ◌==◌, Bool, ◌||◌",
     };
-    fill(&mut out, CASTS, &[scope.crate_name, scope.language, or])?;
+    let words = String::from_str(scope.alloc, words)?;
+    let mut the_type = String::new(scope.alloc);
+    let mut same = String::new(scope.alloc);
+    if has_owned {
+        fill(&mut the_type, THE_TYPE, &[scope.crate_name, scope.module])?;
+        same.push_str(SAME)?;
+    }
+    let values = [
+        scope.crate_name,
+        scope.language,
+        words.as_str(),
+        scope.module,
+        the_type.as_str(),
+        same.as_str(),
+    ];
+    fill(&mut out, CASTS, &values)?;
     for index in scope.nodes.iter().chain(scope.contents.iter()) {
-        let names = [scope.grammar.name(*index), scope.grammar.snake(*index)];
+        let number = format!(in scope.alloc; "{}", scope.kind_number(*index))?;
+        let names = [scope.grammar.snake(*index), number.as_str()];
         fill(&mut out, CASTS_NODE, &names)?;
     }
     for index in scope.choices.iter() {
@@ -46,7 +76,9 @@ pub fn casts_specs(scope: &Scope<'_>) -> Result<String, AllocError> {
         )?;
         add_any(&mut out, scope, *index)?;
     }
-    out.push_str(SAME_KIND)?;
+    if has_owned {
+        out.push_str(SAME_KIND)?;
+    }
     Ok(out)
 }
 
@@ -72,86 +104,100 @@ fn add_any(out: &mut String, scope: &Scope<'_>, choice: usize) -> Result<(), All
 
 const NODES_IN: &str = "\
 -- The nodes in wrappers: in borrowed ones, and in those of more than one kind.
-use Rattle.rowan.specs.Cursor.{Cursor}
-use Rattle.rowan.specs.Refs.{node_place$0}
+$0use Rattle.rowan.specs.Cursor.{Cursor}
+$1";
+
+const NODE_TYPE: &str = "use Rattle.$0.specs.declared.nodes.NodeOfRef.{NodeOfRef}\n";
+
+const TOKEN_TYPE: &str = "use Rattle.$0.specs.declared.nodes.TokenOfRef.{TokenOfRef}\n";
+
+const PLACE_IN: &str = "
+-- where the node of a borrowed wrapper stands
+abbrev pub place_in : {kind : ℕ} → NodeOfRef kind → Cursor
+place_in wrapper = node_place wrapper.syntax
 ";
 
-const TOKEN_IN_REF: &str = "
-abbrev pub token_in_$1_ref : $0Ref → Cursor
-token_in_$1_ref wrapper = token_place wrapper.syntax
-";
-
-const NODE_IN_REF: &str = "
-abbrev pub node_in_$1_ref : $0Ref → Cursor
-node_in_$1_ref wrapper = node_place wrapper.syntax
+const TOKEN_IN: &str = "
+-- where the token of a borrowed wrapper stands
+abbrev pub token_in : {kind : ℕ} → TokenOfRef kind → Cursor
+token_in wrapper = token_place wrapper.syntax
 ";
 
 /// The text of `specs/NodeIn.antt`.
 pub fn nodes_in(scope: &Scope<'_>) -> Result<String, AllocError> {
     let mut out = String::new(scope.alloc);
-    let places = match scope.contents.is_empty() {
-        true => "",
-        false => ", token_place",
+    let has_borrowed = scope.has_nodes(Form::Borrowed);
+    let has_contents = !scope.contents.is_empty();
+    let numbers = match has_borrowed || has_contents {
+        true => "use Rattle.std.specs.Prelude.{ℕ}\n",
+        false => "",
     };
-    fill(&mut out, NODES_IN, &[places])?;
+    let numbers = String::from_str(scope.alloc, numbers)?;
+    let places = String::from_str(scope.alloc, places(has_borrowed, has_contents))?;
+    fill(&mut out, NODES_IN, &[numbers.as_str(), places.as_str()])?;
+    if has_borrowed {
+        fill(&mut out, NODE_TYPE, &[scope.crate_name])?;
+    }
+    if has_contents {
+        fill(&mut out, TOKEN_TYPE, &[scope.crate_name])?;
+    }
+    for form in [Form::Owned, Form::Borrowed] {
+        for index in scope.choices.iter() {
+            if scope.grammar.forms(*index).has(form) {
+                let name = scope.grammar.wrapper(form, *index);
+                let line = "use Rattle.$0.specs.declared.nodes.$1.{$1}\n";
+                fill(&mut out, line, &[scope.crate_name, name])?;
+            }
+        }
+    }
+    if has_borrowed {
+        out.push_str(PLACE_IN)?;
+    }
+    if has_contents {
+        out.push_str(TOKEN_IN)?;
+    }
     for index in scope.choices.iter() {
-        let name = scope.grammar.name(*index);
-        add_type(&mut out, scope, name, "")?;
-    }
-    for index in scope.nodes.iter().chain(scope.choices.iter()) {
-        let name = scope.grammar.name(*index);
-        add_type(&mut out, scope, name, "Ref")?;
-    }
-    for index in scope.contents.iter() {
-        let name = scope.grammar.name(*index);
-        add_type(&mut out, scope, name, "Ref")?;
-    }
-    for index in scope.nodes.iter() {
-        let names = [scope.grammar.name(*index), scope.grammar.snake(*index)];
-        fill(&mut out, NODE_IN_REF, &names)?;
-    }
-    for index in scope.contents.iter() {
-        let names = [scope.grammar.name(*index), scope.grammar.snake(*index)];
-        fill(&mut out, TOKEN_IN_REF, &names)?;
-    }
-    for index in scope.choices.iter() {
-        add_node_in(&mut out, scope, *index, "", "")?;
-        add_node_in(&mut out, scope, *index, "Ref", "_ref")?;
+        for form in [Form::Owned, Form::Borrowed] {
+            if scope.grammar.forms(*index).has(form) {
+                add_node_in(&mut out, scope, form, *index)?;
+            }
+        }
     }
     Ok(out)
 }
 
-/// The line that imports the type of a wrapper.
-fn add_type(out: &mut String, scope: &Scope<'_>, name: &str, end: &str) -> Result<(), AllocError> {
-    fill(
-        out,
-        "use Rattle.$0.specs.declared.nodes.$1$2.{$1$2}\n",
-        &[scope.crate_name, name, end],
-    )
+/// What the places of borrowed wrappers need.
+fn places(has_nodes: bool, has_tokens: bool) -> &'static str {
+    match (has_nodes, has_tokens) {
+        (false, false) => "",
+        (true, false) => "use Rattle.rowan.specs.Refs.{node_place}\n",
+        (false, true) => "use Rattle.rowan.specs.Refs.{token_place}\n",
+        (true, true) => "use Rattle.rowan.specs.Refs.{node_place, token_place}\n",
+    }
 }
 
-/// The node in the wrapper of a choice, by what is behind its names. What is borrowed is in a wrapper
-/// of its own also where it is a node.
+/// The node in the wrapper of a choice. What is borrowed is in a wrapper of its own also where it is
+/// a node.
 fn add_node_in(
     out: &mut String,
     scope: &Scope<'_>,
+    form: Form,
     choice: usize,
-    end: &str,
-    snake_end: &str,
 ) -> Result<(), AllocError> {
-    let whole = scope.grammar.name(choice);
-    let snake = scope.grammar.snake(choice);
-    let head = "\nabbrev pub node_in_$1$3 : $0$2 → Cursor\n";
-    fill(out, head, &[whole, snake, end, snake_end])?;
+    let whole = String::from_str(scope.alloc, scope.grammar.wrapper(form, choice))?;
+    let word = scope.node_of(form, choice)?;
+    let head = "\nabbrev pub $0 : $1 → Cursor\n";
+    fill(out, head, &[word.as_str(), whole.as_str()])?;
     for used in scope.grammar.alternatives(choice).iter() {
-        let is_plain = end.is_empty() && scope.grammar.sort(used.item) == Sort::Node;
+        let is_plain = form == Form::Owned && scope.grammar.sort(used.item) == Sort::Node;
         let template = match is_plain {
-            true => "node_in_$0$4 ($2$3.$1 node) = node\n",
-            false => "node_in_$0$4 ($2$3.$1 node) = node_in_$5$4 node\n",
+            true => "$0 ($1.$2 node) = node\n",
+            false => "$0 ($1.$2 node) = $3 node\n",
         };
         let one = scope.grammar.name(used.item);
-        let inner = scope.grammar.snake(used.item);
-        fill(out, template, &[snake, one, whole, end, snake_end, inner])?;
+        let inner = scope.node_of(form, used.item)?;
+        let values = [word.as_str(), whole.as_str(), one, inner.as_str()];
+        fill(out, template, &values)?;
     }
     Ok(())
 }
@@ -161,9 +207,7 @@ const LEMMAS: &str = "\
 use Rattle.std.specs.Prelude.{◌≡◌, ℕ, Bool, true, false, Option, Some, None}
 use Rattle.std.specs.Option.{option_map, option_map_or}
 use Rattle.std.proofs.lemmas.Bool.{or_left, or_right}
-use Rattle.rowan.specs.Cursor.{Cursor, kind}
-use Rattle.rowan.specs.Ast.{casts_at}
-use Rattle.$0.specs.declared.kinds.Kind.{Kind}
+$3use Rattle.$0.specs.declared.$2.Kind.{Kind}
 $1use Rattle.$0.specs.Kinds.{kind_of}
 
 cast_to_more : (p q : Kind → Bool) → ((k : Kind) → p k ≡ true → q k ≡ true)
@@ -174,15 +218,23 @@ cast_to_more p q more (Some raw) casts = more (kind_of raw) casts
 cast_to_more p q more None casts = casts
 ";
 
-/// A lemma on what a raw kind means, by which borrowed wrappers are proved, and one on a node, by
-/// which owned ones are.
-const LEMMA: &str = "
+/// What the lemmas on nodes need.
+const OF_NODES: &str = "\
+use Rattle.rowan.specs.Cursor.{Cursor, kind}
+use Rattle.rowan.specs.Ast.{casts_at}
+";
+
+/// A lemma on what a raw kind means, by which borrowed wrappers are proved.
+const RAW_LEMMA: &str = "
 pub $0_is_$1_raw : (raw : Option ℕ)
     → option_map_or is_$0 (option_map kind_of raw) false ≡ true
     → option_map_or is_$1 (option_map kind_of raw) false ≡ true
 $0_is_$1_raw = cast_to_more is_$0 is_$1
     (λ k casts. $2)
+";
 
+/// A lemma on a node, by which owned wrappers are proved.
+const LEMMA: &str = "
 pub $0_is_$1 : (c : Cursor)
     → casts_at kind_of is_$0 c ≡ true → casts_at kind_of is_$1 c ≡ true
 $0_is_$1 c = $0_is_$1_raw (kind c)
@@ -192,7 +244,15 @@ $0_is_$1 c = $0_is_$1_raw (kind c)
 pub fn cast_lemmas(scope: &Scope<'_>) -> Result<String, AllocError> {
     let mut out = String::new(scope.alloc);
     let imports = cast_imports(scope)?;
-    fill(&mut out, LEMMAS, &[scope.crate_name, imports.as_str()])?;
+    let mut choices = scope.choices.iter();
+    let has_owned = choices.any(|index| scope.grammar.forms(*index).owned);
+    let values = [
+        scope.crate_name,
+        imports.as_str(),
+        scope.module,
+        if has_owned { OF_NODES } else { "" },
+    ];
+    fill(&mut out, LEMMAS, &values)?;
     for index in scope.choices.iter() {
         add_lemmas(&mut out, scope, *index)?;
     }
@@ -204,11 +264,11 @@ fn add_lemmas(out: &mut String, scope: &Scope<'_>, choice: usize) -> Result<(), 
     for (number, used) in scope.grammar.alternatives(choice).iter().enumerate() {
         let one = scope.grammar.snake(used.item);
         let term = way_to(scope, choice, number)?;
-        fill(
-            out,
-            LEMMA,
-            &[one, scope.grammar.snake(choice), term.as_str()],
-        )?;
+        let values = [one, scope.grammar.snake(choice), term.as_str()];
+        fill(out, RAW_LEMMA, &values)?;
+        if scope.grammar.forms(choice).owned {
+            fill(out, LEMMA, &values)?;
+        }
     }
     Ok(())
 }

@@ -2,22 +2,24 @@
 use crate::accessors::{add_call_imports, add_calls, add_kinds};
 use crate::forms::Form;
 use crate::grammar::Item;
-use crate::writer::{Scope, add_docs, arguments, cast_head, fill};
+use crate::writer::{Scope, add_docs, cast_head, fill, kind_test};
 use std::alloc::AllocError;
 
-const NODE: &str = "\
-#[derive(Clone, PartialEq, Eq, Hash, Debug, Drop)]
-pub struct $0 {
-    syntax: @SyntaxNode<$3>,
+/// What wrappers of nodes of one kind are: a type for each number of a kind.
+const NODE_OF: &str = "
+/// A node whose kind has this number.
+#[derive(Clone, PartialEq, Eq, Hash, Drop)]
+pub struct NodeOf<const KIND: u16> {
+    syntax: @SyntaxNode<$1>,
 }
 
-impl @Model for $0 {
+impl<const KIND: u16> @Model for NodeOf<KIND> {
     ghost use Rattle.std.specs.Prelude.{◌≡◌, true};
     ghost use Rattle.rowan.specs.Cursor.{Cursor};
     ghost use Rattle.rowan.specs.CursorCode.{coded_cursor};
     ghost use Rattle.rowan.specs.Ast.{casts_at};
-    ghost use Rattle.$2.specs.Casts.{is_$1};
-    ghost use Rattle.$2.specs.Kinds.{kind_of};
+    ghost use Rattle.$0.specs.Casts.{has_number};
+    ghost use Rattle.$0.specs.Kinds.{kind_of};
 
     ghost Value = { Cursor };
 
@@ -27,118 +29,178 @@ impl @Model for $0 {
 
     ghost inverse = { λ node. record { syntax = node } };
 
-    ghost invariant = { λ wrapper. casts_at kind_of is_$1 wrapper.syntax ≡ true };
+    ghost invariant = { λ wrapper. casts_at kind_of (has_number KIND) wrapper.syntax ≡ true };
 }
 
-impl @AstNode for $0 {
-    type Language = $3;
+impl<const KIND: u16> @AstNode for NodeOf<KIND> {
+    type Language = $1;
 
     ghost use Rattle.std.specs.Prelude.{◌≡◌};
     ghost use Rattle.std.specs.Option.{option_map};
     ghost use Rattle.rowan.specs.Ast.{casts_at, if_casts};
-    ghost use Rattle.$2.specs.Casts.{is_$1, same_kind};
-    ghost use Rattle.$2.specs.Kinds.{kind_of};
+    ghost use Rattle.$0.specs.Casts.{has_number, same_kind};
+    ghost use Rattle.$0.specs.Kinds.{kind_of};
     ghost use Rattle.std.proofs.Common.{ap};
 
-    ghost casts = { is_$1 };
+    ghost casts = { has_number KIND };
 
     ghost node_of = { λ wrapper. wrapper };
 
     fn can_cast(kind: Kind) -> bool {
-        matches!($4)
+$3
     }
 
-$5
-        ensures { let casting = casts_at kind_of is_$1 in
+$2
+        ensures { let casting = casts_at kind_of (has_number KIND) in
             option_map (λ wrapper. wrapper) result ≡ if_casts casting syntax }
     {
-        if $0::can_cast(syntax.kind()) {
-            Some($0 { syntax })
+        if Self::can_cast(syntax.kind()) {
+            Some(NodeOf { syntax })
         } else {
             None
         }
     }
 
-    fn syntax(&self) -> &@SyntaxNode<$3> {
+    fn syntax(&self) -> &@SyntaxNode<$1> {
         &self.syntax
     }
 
-    ghost equal_kinds = { λ a b same. ap is_$1 (same_kind a b same) };
+    ghost equal_kinds = { λ a b same. ap (has_number KIND) (same_kind a b same) };
 }
 ";
 
-const OWNED: &str = "
+/// What leads from owned wrappers to borrowed ones.
+const AS_REF: &str = "
+impl<const KIND: u16> NodeOf<KIND> {
+    ghost use Rattle.std.specs.Prelude.{◌≡◌};
+    ghost use Rattle.$0.specs.NodeIn.{place_in};
+
     /// The same node, borrowed from its tree.
-    pub fn as_ref(&self) -> $0Ref<'_>
-        ensures { node_in_$1_ref result ≡ self.now }
+    pub fn as_ref(&self) -> NodeOfRef<'_, KIND>
+        ensures { place_in result ≡ self.now }
     {
-        $0Ref {
+        NodeOfRef {
             syntax: self.syntax.as_ref(),
         }
     }
+}
 ";
 
-const NODE_REF: &str = "
-/// [`$0`], borrowed from its tree.
-#[derive(Clone, Copy, PartialEq, Eq, Hash, Debug)]
-pub struct $0Ref<'tree> {
-    syntax: @SyntaxNodeRef<'tree, $3>,
-    ghost casts: { casts_at kind_of is_$1 (node_place syntax) ≡ true },
+/// The same of borrowed ones.
+const NODE_OF_REF: &str = "
+/// A node whose kind has this number, borrowed from its tree.
+#[derive(Clone, Copy, PartialEq, Eq, Hash)]
+pub struct NodeOfRef<'tree, const KIND: u16> {
+    syntax: @SyntaxNodeRef<'tree, $1>,
+    ghost casts: { casts_at kind_of (has_number KIND) (node_place syntax) ≡ true },
 }
 
-impl<'tree> @AstNodeRef<'tree> for $0Ref<'tree> {
-    type Language = $3;
+impl<'tree, const KIND: u16> @AstNodeRef<'tree> for NodeOfRef<'tree, KIND> {
+    type Language = $1;
 
     ghost use Rattle.std.specs.Prelude.{◌≡◌, true};
     ghost use Rattle.std.specs.Option.{option_map};
     ghost use Rattle.rowan.specs.Ast.{casts_at, if_casts};
     ghost use Rattle.rowan.specs.Refs.{node_place};
-    ghost use Rattle.$2.specs.Casts.{is_$1};
-    ghost use Rattle.$2.specs.Kinds.{kind_of};
-    ghost use Rattle.$2.specs.NodeIn.{node_in_$1_ref};
+    ghost use Rattle.$0.specs.Casts.{has_number};
+    ghost use Rattle.$0.specs.Kinds.{kind_of};
+    ghost use Rattle.$0.specs.NodeIn.{place_in};
 
-    ghost casts = { is_$1 };
+    ghost casts = { has_number KIND };
 
-    ghost node_of = { node_in_$1_ref };
+    ghost node_of = { place_in };
 
     fn can_cast(kind: Kind) -> bool
-        ensures { result ≡ is_$1 kind }
+        ensures { result ≡ has_number KIND kind }
     {
-        matches!($4)
+$3
     }
 
-$6
-        ensures { let casting = casts_at kind_of is_$1 in
-            option_map node_in_$1_ref result ≡ if_casts casting (node_place syntax.entry) }
+$2
+        ensures { let casting = casts_at kind_of (has_number KIND) in
+            option_map place_in result ≡ if_casts casting (node_place syntax.entry) }
     {
-        if $0Ref::can_cast(syntax.kind()) {
-            Some($0Ref { syntax })
+        if Self::can_cast(syntax.kind()) {
+            Some(NodeOfRef { syntax })
         } else {
             None
         }
     }
 
-    fn syntax(&self) -> @SyntaxNodeRef<'tree, $3>
-        ensures node { node_place result ≡ node_in_$1_ref self.now }
-        ensures casts { casts_at kind_of is_$1 (node_place result) ≡ true }
+    fn syntax(&self) -> @SyntaxNodeRef<'tree, $1>
+        ensures node { node_place result ≡ place_in self.now }
+        ensures casts { casts_at kind_of (has_number KIND) (node_place result) ≡ true }
     {
         self.syntax
     }
 }
-
-impl<'tree> $0Ref<'tree> {
 ";
 
-const BORROWED: &str = "
+/// What leads from borrowed wrappers to owned ones.
+const TO_OWNED: &str = "
+impl<'tree, const KIND: u16> NodeOfRef<'tree, KIND> {
+    ghost use Rattle.std.specs.Prelude.{◌≡◌, IfOk, IfErr};
+    ghost use Rattle.$0.specs.NodeIn.{place_in};
+
     /// The same node in a wrapper that keeps the tree. Refused with `Memory` alone.
-    pub fn to_owned(&self) -> @Result<$0, Fault>
-        ensures ok { IfOk result (λ owned. owned ≡ node_in_$1_ref self.now) }
+    pub fn to_owned(&self) -> @Result<NodeOf<KIND>, Fault>
+        ensures ok { IfOk result (λ owned. owned ≡ place_in self.now) }
         ensures err { IfErr result (λ e. e ≡ Fault.Memory) }
     {
         let syntax = self.syntax.to_owned()?;
-        Ok($0 { syntax })
+        Ok(NodeOf { syntax })
     }
+}
 ";
+
+const DEBUG: &str = "
+impl<const KIND: u16> std::fmt::Debug for $0 {
+    fn fmt<W: std::fmt::Write>(&self, f: &mut std::fmt::Formatter<W>) -> std::fmt::Result {
+        self.syntax.fmt(f)
+    }
+}
+";
+
+/// The name of the owned wrapper of one kind.
+const NODE: &str = "pub type $0 = NodeOf<$2>;\n";
+
+/// That of the borrowed one.
+const NODE_REF: &str = "pub type $1<'tree> = NodeOfRef<'tree, $2>;\n";
+
+/// The types that wrappers of nodes of one kind are.
+pub fn add_node_types(out: &mut String, scope: &Scope<'_>) -> Result<(), AllocError> {
+    let test = kind_test(scope)?;
+    if scope.has_nodes(Form::Owned) {
+        let cast = cast_head(scope, "SyntaxNode", Form::Owned, "NodeOf<KIND>")?;
+        let values = [
+            scope.crate_name,
+            scope.language,
+            cast.as_str(),
+            test.as_str(),
+        ];
+        scope.fill(out, NODE_OF, &values)?;
+        if scope.has_both() {
+            scope.fill(out, AS_REF, &values)?;
+        }
+        fill(out, DEBUG, &["NodeOf<KIND>"])?;
+    }
+    if scope.has_nodes(Form::Borrowed) {
+        let into = "NodeOfRef<'tree, KIND>";
+        let cast = cast_head(scope, "SyntaxNodeRef", Form::Borrowed, into)?;
+        let values = [
+            scope.crate_name,
+            scope.language,
+            cast.as_str(),
+            test.as_str(),
+        ];
+        scope.fill(out, NODE_OF_REF, &values)?;
+        if scope.has_both() {
+            scope.fill(out, TO_OWNED, &values)?;
+        }
+        fill(out, DEBUG, &["NodeOfRef<'_, KIND>"])?;
+    }
+    Ok(())
+}
 
 /// The wrappers of a node, and their calls.
 pub fn add_node(
@@ -147,33 +209,54 @@ pub fn add_node(
     item: &Item,
     index: usize,
 ) -> Result<(), AllocError> {
-    out.push('\n')?;
-    add_docs(out, "", item.docs.as_str(), item.rule.as_str())?;
-    let name = item.name.as_str();
-    let snake = item.snake.as_str();
-    let values = format!(in scope.alloc; "kind\nKind::{name}")?;
-    let matched = arguments(scope.alloc, values.as_str(), "")?;
-    let cast = cast_head(scope, Form::Owned, name)?;
-    let cast_ref = cast_head(scope, Form::Borrowed, name)?;
-    let values = [
-        name,
-        snake,
-        scope.crate_name,
-        scope.language,
-        matched.as_str(),
-        cast.as_str(),
-        cast_ref.as_str(),
-    ];
-    scope.fill(out, NODE, &values)?;
+    let number = format!(in scope.alloc; "{}", scope.kind_number(index))?;
+    let values = [item.name.as_str(), item.borrowed.as_str(), number.as_str()];
+    for form in [Form::Owned, Form::Borrowed] {
+        if item.forms.has(form) {
+            add_wrapper_docs(out, form, item)?;
+            let template = match form {
+                Form::Owned => NODE,
+                Form::Borrowed => NODE_REF,
+            };
+            fill(out, template, &values)?;
+        }
+    }
     add_kinds(out, scope, index)?;
-    fill(out, "\nimpl $0 {\n", &values)?;
-    add_call_imports(out, scope, Form::Owned, index)?;
-    fill(out, OWNED, &values)?;
-    add_calls(out, scope, Form::Owned, index)?;
-    out.push_str("}\n")?;
-    scope.fill(out, NODE_REF, &values)?;
-    add_call_imports(out, scope, Form::Borrowed, index)?;
-    scope.fill(out, BORROWED, &values)?;
-    add_calls(out, scope, Form::Borrowed, index)?;
+    for form in [Form::Owned, Form::Borrowed] {
+        if item.forms.has(form) {
+            add_own_calls(out, scope, form, index)?;
+        }
+    }
+    Ok(())
+}
+
+/// The comment of a wrapper. Where there are both, the borrowed one has the name of the other.
+pub fn add_wrapper_docs(out: &mut String, form: Form, item: &Item) -> Result<(), AllocError> {
+    out.push('\n')?;
+    if form == Form::Borrowed && item.forms.owned {
+        let name = item.name.as_str();
+        return fill(out, "/// [`$0`], borrowed from its tree.\n", &[name]);
+    }
+    add_docs(out, "", item.docs.as_str(), item.rule.as_str())
+}
+
+/// The calls that a wrapper of a node has beside those of its trait: nothing where it has none.
+fn add_own_calls(
+    out: &mut String,
+    scope: &Scope<'_>,
+    form: Form,
+    index: usize,
+) -> Result<(), AllocError> {
+    let mut calls = scope.calls(index).iter();
+    if !calls.any(|call| scope.has_call(form, call)) {
+        return Ok(());
+    }
+    let head = match form {
+        Form::Owned => "\nimpl $0 {\n",
+        Form::Borrowed => "\nimpl<'tree> $0<'tree> {\n",
+    };
+    fill(out, head, &[scope.grammar.wrapper(form, index)])?;
+    add_call_imports(out, scope, form, index)?;
+    add_calls(out, scope, form, index)?;
     out.push_str("}\n")
 }

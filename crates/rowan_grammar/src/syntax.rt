@@ -1,4 +1,5 @@
-//! The language of grammars: the kinds of their tokens and nodes.
+// Written by rowan_grammar from grammar.ungram: change that, and not this file.
+//! The kinds of the tokens and nodes of Grammars.
 use rowan::{Language, SyntaxKind};
 
 /// The language of grammars.
@@ -30,23 +31,23 @@ pub enum Kind {
     Whitespace = 13,
     /// A line from `//` on.
     Comment = 14,
-    /// A line of the head: `Doc* Keyword Word Literal?`.
+    /// A line of the head.
     Head = 15,
-    /// `Doc* Word '=' Choice`.
+    /// A node or a choice.
     Rule = 16,
-    /// `Sequence ('|' Sequence)*`: also where there is one alternative alone.
+    /// Alternatives: also where there is one alone.
     Choice = 17,
-    /// `Part*`: one alternative.
+    /// One alternative.
     Sequence = 18,
-    /// `Label* (Word | Literal | Group) ('*' | '?')*`.
+    /// What may stand at a place, and how often.
     Part = 19,
-    /// `Word ':'`.
+    /// What names the accessor of a part.
     Label = 20,
-    /// `'(' Choice ')'`.
+    /// Alternatives in parentheses.
     Group = 21,
     /// A node around what has no place where it stands.
     Error = 22,
-    /// `(Head | Rule)*`: a whole grammar.
+    /// A whole grammar.
     Root = 23,
 }
 
@@ -91,7 +92,32 @@ impl Language for Grammars {
     }
 
     fn kind_to_raw(kind: Kind) -> SyntaxKind {
-        SyntaxKind(kind as u16)
+        match kind {
+            Kind::Word => SyntaxKind(0),
+            Kind::Keyword => SyntaxKind(1),
+            Kind::Literal => SyntaxKind(2),
+            Kind::Unclosed => SyntaxKind(3),
+            Kind::Doc => SyntaxKind(4),
+            Kind::Equals => SyntaxKind(5),
+            Kind::Bar => SyntaxKind(6),
+            Kind::Star => SyntaxKind(7),
+            Kind::Question => SyntaxKind(8),
+            Kind::Open => SyntaxKind(9),
+            Kind::Close => SyntaxKind(10),
+            Kind::Colon => SyntaxKind(11),
+            Kind::Unknown => SyntaxKind(12),
+            Kind::Whitespace => SyntaxKind(13),
+            Kind::Comment => SyntaxKind(14),
+            Kind::Head => SyntaxKind(15),
+            Kind::Rule => SyntaxKind(16),
+            Kind::Choice => SyntaxKind(17),
+            Kind::Sequence => SyntaxKind(18),
+            Kind::Part => SyntaxKind(19),
+            Kind::Label => SyntaxKind(20),
+            Kind::Group => SyntaxKind(21),
+            Kind::Error => SyntaxKind(22),
+            Kind::Root => SyntaxKind(23),
+        }
     }
 
     fn kind_name(kind: Kind) -> &'static str {
@@ -123,3 +149,9 @@ impl Language for Grammars {
         }
     }
 }
+
+/// The kinds of the tokens that may stand anywhere.
+pub const TRIVIA: &[Kind] = &[Kind::Whitespace, Kind::Comment];
+
+/// The kind of the node of a whole text.
+pub const ROOT: Kind = Kind::Root;

@@ -1,6 +1,9 @@
-//! What is written of tokens that always have one text: words and signs.
+//! The calls of kinds as source text: what tells tokens that always have one text apart, words and
+//! signs, and what tells those in a set.
 use crate::place::text_at;
-use crate::writer::{Scope, fill};
+use crate::sets::{add_set_calls, add_set_words};
+use crate::signs::{add_sign_call, has_signs};
+use crate::writer::{Imports, Scope, fill};
 use std::alloc::AllocError;
 
 /// The signs that stand in a macro's brackets as they are.
@@ -9,14 +12,15 @@ const SIGNS: &str = "+-*/%^!&|=<>@.,;:#?~";
 const HEAD: &str = "
 impl Kind {
     ghost use Rattle.std.specs.Prelude.{◌≡◌};
-    ghost use Rattle.$0.specs.Kinds.{is_keyword, is_punct, keyword_of};
+$0";
 
+const CALLS: &str = "
     /// Whether its tokens are always one word.
     pub fn is_keyword(self) -> bool
         ensures { result ≡ is_keyword self }
     {
         match self {
-$1            _ => false,
+$0            _ => false,
         }
     }
 
@@ -25,7 +29,7 @@ $1            _ => false,
         ensures { result ≡ is_punct self }
     {
         match self {
-$2            _ => false,
+$1            _ => false,
         }
     }
 
@@ -33,9 +37,8 @@ $2            _ => false,
     pub fn from_keyword(text: &str) -> Option<Kind>
         ensures { result ≡ keyword_of text.now }
     {
-$3        None
+$2        None
     }
-}
 ";
 
 const MACRO: &str = "
@@ -45,12 +48,57 @@ macro_rules! T {
 $0}
 ";
 
-/// Adds the calls that tell words and signs apart, and the macro from texts to kinds.
-pub fn add_texts(out: &mut String, scope: &Scope<'_>) -> Result<(), AllocError> {
+/// Whether tokens of some kind always have one text.
+pub fn has_texts(scope: &Scope<'_>) -> bool {
+    scope
+        .kinds
+        .iter()
+        .any(|index| text_of(scope, *index).is_some())
+}
+
+/// Adds the calls of kinds, and the macro from texts to kinds: nothing where there are neither texts
+/// nor sets.
+pub fn add_calls_of_kinds(out: &mut String, scope: &Scope<'_>) -> Result<(), AllocError> {
+    let has_texts = has_texts(scope);
+    if !has_texts && scope.sets.is_empty() && !has_signs(scope) {
+        return Ok(());
+    }
+    let head = format!(in scope.alloc; "    ghost use Rattle.{}.specs.Kinds.{{", scope.crate_name)?;
+    let mut words = Imports::new(scope.alloc, head.as_str(), ";")?;
+    if has_texts {
+        for word in ["is_keyword", "is_punct", "keyword_of"] {
+            words.add(word)?;
+        }
+    }
+    if has_signs(scope) {
+        words.add("sign_of")?;
+    }
+    add_set_words(&mut words, scope)?;
+    fill(out, HEAD, &[words.finish()?])?;
+    let mut rules = String::new(scope.alloc);
+    if has_texts {
+        add_text_calls(out, &mut rules, scope)?;
+    }
+    if has_signs(scope) {
+        add_sign_call(out, scope)?;
+    }
+    add_set_calls(out, scope)?;
+    out.push_str("}\n")?;
+    match rules.is_empty() {
+        true => Ok(()),
+        false => fill(out, MACRO, &[rules.as_str()]),
+    }
+}
+
+/// Adds the calls that tell words and signs apart, and the rules from texts to kinds.
+fn add_text_calls(
+    out: &mut String,
+    rules: &mut String,
+    scope: &Scope<'_>,
+) -> Result<(), AllocError> {
     let mut keywords = String::new(scope.alloc);
     let mut signs = String::new(scope.alloc);
     let mut tests = String::new(scope.alloc);
-    let mut rules = String::new(scope.alloc);
     for index in scope.kinds.iter() {
         let Some(text) = text_of(scope, *index) else {
             continue;
@@ -63,19 +111,13 @@ pub fn add_texts(out: &mut String, scope: &Scope<'_>) -> Result<(), AllocError> 
         } else {
             fill(&mut signs, arm, &[name])?;
         }
-        add_rule(&mut rules, text, name)?;
+        add_rule(rules, scope.module, text, name)?;
     }
-    let values = [
-        scope.crate_name,
-        keywords.as_str(),
-        signs.as_str(),
-        tests.as_str(),
-    ];
-    fill(out, HEAD, &values)?;
-    match rules.is_empty() {
-        true => Ok(()),
-        false => fill(out, MACRO, &[rules.as_str()]),
-    }
+    fill(
+        out,
+        CALLS,
+        &[keywords.as_str(), signs.as_str(), tests.as_str()],
+    )
 }
 
 const TEST: &str = "        if text == \"$0\" {
@@ -85,7 +127,7 @@ const TEST: &str = "        if text == \"$0\" {
 
 /// Adds the rule of the macro for a text. A text that is neither a word nor of signs stands there as
 /// a character or as a text.
-fn add_rule(rules: &mut String, text: &str, name: &str) -> Result<(), AllocError> {
+fn add_rule(rules: &mut String, module: &str, text: &str, name: &str) -> Result<(), AllocError> {
     rules.push_str("    [")?;
     if is_word(text) || is_of_signs(text) {
         rules.push_str(text)?;
@@ -100,7 +142,11 @@ fn add_rule(rules: &mut String, text: &str, name: &str) -> Result<(), AllocError
         }
         rules.push(quote)?;
     }
-    fill(rules, "] => { $0crate::kinds::Kind::$1 };\n", &["$", name])
+    fill(
+        rules,
+        "] => { $0crate::$1::Kind::$2 };\n",
+        &["$", module, name],
+    )
 }
 
 /// Adds the definitions that the contracts of these calls name.
@@ -154,13 +200,13 @@ pub fn add_text_specs(out: &mut String, scope: &Scope<'_>) -> Result<(), AllocEr
 }
 
 /// The text that the tokens of a kind always have.
-fn text_of<'g>(scope: &Scope<'g>, index: usize) -> Option<&'g str> {
+pub fn text_of<'g>(scope: &Scope<'g>, index: usize) -> Option<&'g str> {
     let item = scope.grammar.items.get(index)?;
     let quoted = text_at(scope.text, item.literal?);
     quoted.strip_prefix('\'')?.strip_suffix('\'')
 }
 
-fn is_word(text: &str) -> bool {
+pub fn is_word(text: &str) -> bool {
     text.starts_with(|first: char| first.is_ascii_alphabetic() || first == '_')
         && text.chars().all(|character| character.is_ascii_alphanumeric() || character == '_')
 }

@@ -1,21 +1,24 @@
 //! The wrappers of tokens whose text means something, as source text.
+use crate::forms::Form;
 use crate::grammar::Item;
-use crate::writer::{Scope, add_docs, arguments, signature};
+use crate::writer::{Scope, add_docs, cast_head, fill, kind_test};
 use std::alloc::AllocError;
 
-const TOKEN: &str = "\
-#[derive(Clone, PartialEq, Eq, Hash, Debug, Drop)]
-pub struct $0 {
-    syntax: @SyntaxToken<$3>,
+/// What wrappers of tokens are: a type for each number of a kind.
+const TOKEN_OF: &str = "
+/// A token whose kind has this number.
+#[derive(Clone, PartialEq, Eq, Hash, Drop)]
+pub struct TokenOf<const KIND: u16> {
+    syntax: @SyntaxToken<$1>,
 }
 
-impl @Model for $0 {
+impl<const KIND: u16> @Model for TokenOf<KIND> {
     ghost use Rattle.std.specs.Prelude.{◌≡◌, true};
     ghost use Rattle.rowan.specs.Cursor.{Cursor};
     ghost use Rattle.rowan.specs.CursorCode.{coded_cursor};
     ghost use Rattle.rowan.specs.Ast.{casts_at};
-    ghost use Rattle.$2.specs.Casts.{is_$1};
-    ghost use Rattle.$2.specs.Kinds.{kind_of};
+    ghost use Rattle.$0.specs.Casts.{has_number};
+    ghost use Rattle.$0.specs.Kinds.{kind_of};
 
     ghost Value = { Cursor };
 
@@ -25,151 +28,179 @@ impl @Model for $0 {
 
     ghost inverse = { λ token. record { syntax = token } };
 
-    ghost invariant = { λ wrapper. casts_at kind_of is_$1 wrapper.syntax ≡ true };
+    ghost invariant = { λ wrapper. casts_at kind_of (has_number KIND) wrapper.syntax ≡ true };
 }
 
-impl @AstToken for $0 {
-    type Language = $3;
+impl<const KIND: u16> @AstToken for TokenOf<KIND> {
+    type Language = $1;
 
     ghost use Rattle.std.specs.Prelude.{◌≡◌};
     ghost use Rattle.std.specs.Option.{option_map};
     ghost use Rattle.rowan.specs.Ast.{casts_at, if_casts};
-    ghost use Rattle.$2.specs.Casts.{is_$1};
-    ghost use Rattle.$2.specs.Kinds.{kind_of};
+    ghost use Rattle.$0.specs.Casts.{has_number};
+    ghost use Rattle.$0.specs.Kinds.{kind_of};
 
-    ghost casts = { is_$1 };
+    ghost casts = { has_number KIND };
 
     ghost token_of = { λ wrapper. wrapper };
 
     fn can_cast(kind: Kind) -> bool {
-        matches!($4)
+$4
     }
 
-$5
-        ensures { let casting = casts_at kind_of is_$1 in
+$2
+        ensures { let casting = casts_at kind_of (has_number KIND) in
             option_map (λ wrapper. wrapper) result ≡ if_casts casting syntax }
     {
-        if $0::can_cast(syntax.kind()) {
-            Some($0 { syntax })
+        if Self::can_cast(syntax.kind()) {
+            Some(TokenOf { syntax })
         } else {
             None
         }
     }
 
-    fn syntax(&self) -> &@SyntaxToken<$3> {
+    fn syntax(&self) -> &@SyntaxToken<$1> {
         &self.syntax
     }
 }
 
-impl $0 {
+impl<const KIND: u16> TokenOf<KIND> {
     ghost use Rattle.std.specs.Prelude.{◌≡◌};
-    ghost use Rattle.$2.specs.NodeIn.{token_in_$1_ref};
+    ghost use Rattle.$0.specs.NodeIn.{token_in};
 
     /// The same token, borrowed from its tree.
-    pub fn as_ref(&self) -> $0Ref<'_>
-        ensures { token_in_$1_ref result ≡ self.now }
+    pub fn as_ref(&self) -> TokenOfRef<'_, KIND>
+        ensures { token_in result ≡ self.now }
     {
-        $0Ref {
+        TokenOfRef {
             syntax: self.syntax.as_ref(),
         }
     }
 }
 
-/// [`$0`], borrowed from its tree.
-#[derive(Clone, Copy, PartialEq, Eq, Hash, Debug)]
-pub struct $0Ref<'tree> {
-    syntax: @SyntaxTokenRef<'tree, $3>,
-    ghost casts: { casts_at kind_of is_$1 (token_place syntax) ≡ true },
+impl<const KIND: u16> std::fmt::Debug for TokenOf<KIND> {
+    fn fmt<W: std::fmt::Write>(&self, f: &mut std::fmt::Formatter<W>) -> std::fmt::Result {
+        self.syntax.fmt(f)
+    }
+}
+";
+
+/// The same of borrowed ones.
+const TOKEN_OF_REF: &str = "
+/// A token whose kind has this number, borrowed from its tree.
+#[derive(Clone, Copy, PartialEq, Eq, Hash)]
+pub struct TokenOfRef<'tree, const KIND: u16> {
+    syntax: @SyntaxTokenRef<'tree, $1>,
+    ghost casts: { casts_at kind_of (has_number KIND) (token_place syntax) ≡ true },
 }
 
-impl<'tree> @AstTokenRef<'tree> for $0Ref<'tree> {
-    type Language = $3;
+impl<'tree, const KIND: u16> @AstTokenRef<'tree> for TokenOfRef<'tree, KIND> {
+    type Language = $1;
 
     ghost use Rattle.std.specs.Prelude.{◌≡◌, true};
     ghost use Rattle.std.specs.Option.{option_map};
     ghost use Rattle.rowan.specs.Ast.{casts_at, if_casts};
     ghost use Rattle.rowan.specs.Cursor.{text_at};
     ghost use Rattle.rowan.specs.Refs.{token_place};
-    ghost use Rattle.$2.specs.Casts.{is_$1};
-    ghost use Rattle.$2.specs.Kinds.{kind_of};
-    ghost use Rattle.$2.specs.NodeIn.{token_in_$1_ref};
+    ghost use Rattle.$0.specs.Casts.{has_number};
+    ghost use Rattle.$0.specs.Kinds.{kind_of};
+    ghost use Rattle.$0.specs.NodeIn.{token_in};
 
-    ghost casts = { is_$1 };
+    ghost casts = { has_number KIND };
 
-    ghost token_of = { token_in_$1_ref };
+    ghost token_of = { token_in };
 
     fn can_cast(kind: Kind) -> bool
-        ensures { result ≡ is_$1 kind }
+        ensures { result ≡ has_number KIND kind }
     {
-        matches!($4)
+$4
     }
 
-$6
-        ensures { let casting = casts_at kind_of is_$1 in
-            option_map token_in_$1_ref result ≡ if_casts casting (token_place syntax.entry) }
+$3
+        ensures { let casting = casts_at kind_of (has_number KIND) in
+            option_map token_in result ≡ if_casts casting (token_place syntax.entry) }
     {
-        if $0Ref::can_cast(syntax.kind()) {
-            Some($0Ref { syntax })
+        if Self::can_cast(syntax.kind()) {
+            Some(TokenOfRef { syntax })
         } else {
             None
         }
     }
 
-    fn syntax(&self) -> @SyntaxTokenRef<'tree, $3>
-        ensures token { token_place result ≡ token_in_$1_ref self.now }
-        ensures casts { casts_at kind_of is_$1 (token_place result) ≡ true }
+    fn syntax(&self) -> @SyntaxTokenRef<'tree, $1>
+        ensures token { token_place result ≡ token_in self.now }
+        ensures casts { casts_at kind_of (has_number KIND) (token_place result) ≡ true }
     {
         self.syntax
     }
 
     fn text(&self) -> &'tree str
-        ensures { result.now ≡ text_at (token_in_$1_ref self.now) }
+        ensures { result.now ≡ text_at (token_in self.now) }
     {
         self.syntax.text()
     }
 }
 
-impl<'tree> $0Ref<'tree> {
+impl<'tree, const KIND: u16> TokenOfRef<'tree, KIND> {
     ghost use Rattle.std.specs.Prelude.{◌≡◌, IfOk, IfErr};
-    ghost use Rattle.$2.specs.NodeIn.{token_in_$1_ref};
+    ghost use Rattle.$0.specs.NodeIn.{token_in};
 
     /// The same token in a wrapper that keeps the tree. Refused with `Memory` alone.
-    pub fn to_owned(&self) -> @Result<$0, Fault>
-        ensures ok { IfOk result (λ owned. owned ≡ token_in_$1_ref self.now) }
+    pub fn to_owned(&self) -> @Result<TokenOf<KIND>, Fault>
+        ensures ok { IfOk result (λ owned. owned ≡ token_in self.now) }
         ensures err { IfErr result (λ e. e ≡ Fault.Memory) }
     {
         let syntax = self.syntax.to_owned()?;
-        Ok($0 { syntax })
+        Ok(TokenOf { syntax })
+    }
+}
+
+impl<const KIND: u16> std::fmt::Debug for TokenOfRef<'_, KIND> {
+    fn fmt<W: std::fmt::Write>(&self, f: &mut std::fmt::Formatter<W>) -> std::fmt::Result {
+        self.syntax.fmt(f)
     }
 }
 ";
 
+/// The names of the wrappers of one kind.
+const TOKEN: &str = "\
+pub type $0 = TokenOf<$2>;
+
+/// [`$0`], borrowed from its tree.
+pub type $1<'tree> = TokenOfRef<'tree, $2>;
+";
+
+/// The types that wrappers of tokens are.
+pub fn add_token_types(out: &mut String, scope: &Scope<'_>) -> Result<(), AllocError> {
+    let test = kind_test(scope)?;
+    let cast = cast_head(scope, "SyntaxToken", Form::Owned, "TokenOf<KIND>")?;
+    let borrowed = cast_head(
+        scope,
+        "SyntaxTokenRef",
+        Form::Borrowed,
+        "TokenOfRef<'tree, KIND>",
+    )?;
+    let values = [
+        scope.crate_name,
+        scope.language,
+        cast.as_str(),
+        borrowed.as_str(),
+        test.as_str(),
+    ];
+    scope.fill(out, TOKEN_OF, &values)?;
+    scope.fill(out, TOKEN_OF_REF, &values)
+}
+
 /// The wrappers of a token.
-pub fn add_token(out: &mut String, scope: &Scope<'_>, item: &Item) -> Result<(), AllocError> {
-    let alloc = scope.alloc;
+pub fn add_token(
+    out: &mut String,
+    scope: &Scope<'_>,
+    item: &Item,
+    index: usize,
+) -> Result<(), AllocError> {
     out.push('\n')?;
     add_docs(out, "", item.docs.as_str(), "")?;
-    let name = item.name.as_str();
-    let values = format!(in alloc; "kind\nKind::{name}")?;
-    let matched = arguments(alloc, values.as_str(), "")?;
-    let language = scope.language;
-    let option = scope.outside("Option");
-    let token = scope.outside("SyntaxToken");
-    let parameter = format!(in alloc; "syntax: {token}<{language}>")?;
-    let result = format!(in alloc; "{option}<{name}>")?;
-    let owned = signature(alloc, "    fn cast", parameter.as_str(), result.as_str())?;
-    let token = scope.outside("SyntaxTokenRef");
-    let parameter = format!(in alloc; "syntax: {token}<'tree, {language}>")?;
-    let result = format!(in alloc; "{option}<{name}Ref<'tree>>")?;
-    let borrowed = signature(alloc, "    fn cast", parameter.as_str(), result.as_str())?;
-    let values = [
-        name,
-        item.snake.as_str(),
-        scope.crate_name,
-        language,
-        matched.as_str(),
-        owned.as_str(),
-        borrowed.as_str(),
-    ];
-    scope.fill(out, TOKEN, &values)
+    let number = format!(in scope.alloc; "{}", scope.kind_number(index))?;
+    let values = [item.name.as_str(), item.borrowed.as_str(), number.as_str()];
+    fill(out, TOKEN, &values)
 }

@@ -3,6 +3,8 @@ use crate::calls::{Alike, Call, Calls};
 use crate::forms::Form;
 use crate::grammar::{Grammar, Sort};
 use crate::names::path_of;
+use crate::predictive::Rules;
+use crate::shared::Shared;
 use std::alloc::{AllocError, Global};
 use std::collections::HashMap;
 
@@ -15,16 +17,27 @@ pub struct Scope<'g> {
     /// The calls of each item.
     pub calls: &'g [Calls],
     pub crate_name: &'g str,
+    /// The module of the kinds.
+    pub module: &'g str,
     pub language: &'g str,
     /// The names of the error kind and of the root.
     pub error: &'g str,
     pub root: &'g str,
-    /// The numbers of the items that are kinds, those of nodes among them, and those of choices.
+    /// The numbers of the items that are kinds.
     pub kinds: &'g [usize],
+    /// Of each item the number of its kind.
+    pub numbers: &'g [usize],
+    /// The numbers of the nodes and of the choices that have a wrapper.
     pub nodes: &'g [usize],
     pub choices: &'g [usize],
     /// The numbers of the tokens that have a wrapper.
     pub contents: &'g [usize],
+    /// The numbers of the sets.
+    pub sets: &'g [usize],
+    /// The traits, and what has them.
+    pub traits: &'g [Shared],
+    /// The rules of the parser, where one is asked for.
+    pub rules: Option<&'g Rules>,
     /// The names from elsewhere that wrappers have.
     pub taken: &'g HashMap<String, bool>,
 }
@@ -75,21 +88,50 @@ impl Scope<'_> {
         }
     }
 
+    /// Whether a node has a wrapper of a form, or a choice.
+    pub fn has_nodes(&self, form: Form) -> bool {
+        let mut items = self.nodes.iter().chain(self.choices.iter());
+        items.any(|index| self.grammar.forms(*index).has(form))
+    }
+
+    /// Whether some node has wrappers that lead to each other.
+    pub fn has_both(&self) -> bool {
+        let mut items = self.nodes.iter();
+        items.any(|index| self.grammar.forms(*index).is_both())
+    }
+
+    /// Whether wrappers of a form have a call.
+    pub fn has_call(&self, form: Form, call: &Call) -> bool {
+        call.is_in(self.grammar, form)
+    }
+
+    /// The number of the kind of an item.
+    pub fn kind_number(&self, index: usize) -> usize {
+        match self.numbers.get(index) {
+            Some(number) => *number,
+            None => 0,
+        }
+    }
+
     /// The function from a wrapper to its node, as clauses have it.
     pub fn node_of(&self, form: Form, item: usize) -> Result<String, AllocError> {
-        let snake = self.grammar.snake(item);
-        match form {
-            Form::Borrowed => format!(in self.alloc; "node_in_{snake}_ref"),
-            Form::Owned if self.grammar.sort(item) == Sort::Choice => format!(in self.alloc;
-                "node_in_{snake}"
-            ),
-            Form::Owned => String::from_str(self.alloc, "(λ node. node)"),
+        if self.grammar.sort(item) == Sort::Choice {
+            let snake = self.grammar.snake(item);
+            return format!(in self.alloc; "{}_{snake}", form.word());
         }
+        let word = match form {
+            Form::Owned => "(λ node. node)",
+            Form::Borrowed => "place_in",
+        };
+        String::from_str(self.alloc, word)
     }
 }
 
 /// The longest line of what is written, where it can be broken.
 pub const WIDTH: usize = 100;
+
+/// How long the raw kind may be that is compared on one line with a number.
+const MAX_TESTED: usize = 92;
 
 /// How long arguments on one line may be, and the elements of a list.
 pub const ARGUMENTS: usize = 60;
@@ -133,32 +175,36 @@ pub fn signature(
     Ok(line)
 }
 
-/// The head of `cast` for a wrapper of the item with this name.
-pub fn cast_head(scope: &Scope<'_>, form: Form, name: &str) -> Result<String, AllocError> {
+/// The head of `cast` from a node or a token of this type to a wrapper.
+pub fn cast_head(
+    scope: &Scope<'_>,
+    from: &'static str,
+    form: Form,
+    into: &str,
+) -> Result<String, AllocError> {
+    let alloc = scope.alloc;
     let language = scope.language;
     let option = scope.outside("Option");
-    let (parameter, result) = match form {
-        Form::Owned => {
-            let node = scope.outside("SyntaxNode");
-            (
-                format!(in scope.alloc; "syntax: {node}<{language}>")?,
-                format!(in scope.alloc; "{option}<{name}>")?,
-            )
-        }
-        Form::Borrowed => {
-            let node = scope.outside("SyntaxNodeRef");
-            (
-                format!(in scope.alloc; "syntax: {node}<'tree, {language}>")?,
-                format!(in scope.alloc; "{option}<{name}Ref<'tree>>")?,
-            )
-        }
+    let from = scope.outside(from);
+    let lifetime = match form {
+        Form::Owned => "",
+        Form::Borrowed => "'tree, ",
     };
-    signature(
-        scope.alloc,
-        "    fn cast",
-        parameter.as_str(),
-        result.as_str(),
-    )
+    let parameter = format!(in alloc; "syntax: {from}<{lifetime}{language}>")?;
+    let result = format!(in alloc; "{option}<{into}>")?;
+    signature(alloc, "    fn cast", parameter.as_str(), result.as_str())
+}
+
+/// The test that a kind has the number of a wrapper.
+pub fn kind_test(scope: &Scope<'_>) -> Result<String, AllocError> {
+    let raw = format!(in scope.alloc;
+        "        <{} as rowan::Language>::kind_to_raw(kind).0",
+        scope.language
+    )?;
+    match raw.len() > MAX_TESTED {
+        true => format!(in scope.alloc; "{raw}\n            == KIND"),
+        false => format!(in scope.alloc; "{raw} == KIND"),
+    }
 }
 
 /// Arguments of a call in a function's body, which are given one a line: each on a line of its own

@@ -5,15 +5,18 @@ ghost use Rattle.rowan_parser.specs.Parsing.{WhyNoTree};
 
 use crate::calls::Calls;
 use crate::checks::Checker;
-use crate::forms::Form;
-use crate::grammar::{Grammar, Sort, add_numbers, contents_of, kinds_of};
+use crate::forms::{Form, Forms};
+use crate::grammar::{Grammar, Sort, add_numbers, contents_of, kind_numbers, kinds_of, nodes_of};
 use crate::kinds::{kinds_code, kinds_specs};
 use crate::names::is_outside;
 use crate::nodes::nodes_code;
 use crate::parser::parse;
+use crate::parsers::parser_code;
 use crate::place::{Problem, part_of, render};
 use crate::reach::{Looker, choices_of};
 use crate::reader::Reader;
+use crate::sets::set_lemmas;
+use crate::shared::Shared;
 use crate::specs::{cast_lemmas, casts_specs, nodes_in};
 use crate::syntax::Grammars;
 use crate::writer::Scope;
@@ -92,6 +95,8 @@ fn made_of(alloc: Global, text: &str, name: &str, has_files: bool) -> Result<Wri
         problems,
         looker: Looker::new(),
         calls: Vec::new(alloc),
+        traits: Vec::new(alloc),
+        rules: None,
     };
     checker.check(&grammar)?;
     grammar.rename()?;
@@ -126,7 +131,7 @@ fn answer(
     let messages = render(alloc, &mut checker.problems, text, name)?;
     let calls = checker.calls.as_slice();
     let files = match has_files && !has_errors {
-        true => files_of(alloc, text, name, grammar, calls)?,
+        true => files_of(checker, text, name, grammar)?,
         false => Vec::new(alloc),
     };
     let summary = summary_of(grammar, calls);
@@ -138,7 +143,7 @@ fn answer(
     })
 }
 
-fn is_error(problem: &Problem) -> bool {
+pub fn is_error(problem: &Problem) -> bool {
     problem.severity == Severity::Error
 }
 
@@ -156,70 +161,102 @@ fn summary_of(grammar: &Grammar, calls: &[Calls]) -> Summary {
             summary.wrappers = summary.wrappers.saturating_add(1);
         }
     }
-    for calls in calls.iter() {
-        summary.calls = summary.calls.saturating_add(calls.calls.len());
+    for (item, calls) in grammar.items.iter().zip(calls.iter()) {
+        if item.is_wrapped() {
+            summary.calls = summary.calls.saturating_add(calls.calls.len());
+        }
     }
     summary
 }
 
 fn files_of(
-    alloc: Global,
+    checker: &Checker<'_>,
     text: &str,
     name: &str,
     grammar: &Grammar,
-    calls: &[Calls],
 ) -> Result<Vec<File>, AllocError> {
+    let alloc = checker.alloc;
     let kinds = kinds_of(alloc, grammar)?;
-    let mut nodes = Vec::new(alloc);
-    add_numbers(&mut nodes, grammar, &[Sort::Node])?;
-    let choices = choices_of(alloc, grammar)?;
+    let numbers = kind_numbers(alloc, grammar, kinds.as_slice())?;
+    let nodes = nodes_of(alloc, grammar)?;
+    let choices = wrapped_choices(alloc, grammar)?;
     let contents = contents_of(alloc, grammar)?;
+    let mut sets = Vec::new(alloc);
+    add_numbers(&mut sets, grammar, &[Sort::Set])?;
     let scope = Scope {
         alloc,
         text,
         grammar,
-        calls,
+        calls: checker.calls.as_slice(),
         crate_name: part_of(text, grammar.crate_name),
+        module: match part_of(text, grammar.kinds) {
+            "" => "kinds",
+            module => module,
+        },
         language: part_of(text, grammar.language),
         error: error_name(grammar),
         root: root_name(grammar, part_of(text, grammar.root)),
         kinds: kinds.as_slice(),
+        numbers: numbers.as_slice(),
         nodes: nodes.as_slice(),
         choices: choices.as_slice(),
         contents: contents.as_slice(),
+        sets: sets.as_slice(),
+        traits: checker.traits.as_slice(),
+        rules: checker.rules.as_ref(),
         taken: &taken_names(alloc, grammar)?,
     };
     files_in(&scope, name)
 }
 
-/// The files of a grammar that is called by this name. Without choices one of them has no text.
+/// The choices that have a wrapper, each behind those among its alternatives.
+fn wrapped_choices(alloc: Global, grammar: &Grammar) -> Result<Vec<usize>, AllocError> {
+    let mut wrapped = Vec::new(alloc);
+    for choice in choices_of(alloc, grammar)?.iter() {
+        if grammar.forms(*choice) != Forms::NONE {
+            wrapped.push(*choice)?;
+        }
+    }
+    Ok(wrapped)
+}
+
+/// The files of a grammar that is called by this name. What the grammar has nothing for has no text.
 fn files_in(scope: &Scope<'_>, name: &str) -> Result<Vec<File>, AllocError> {
     let mut files = Vec::new(scope.alloc);
-    add_file(&mut files, "src/kinds.rt", name, Some(kinds_code(scope)?))?;
-    add_file(&mut files, "src/nodes.rt", name, Some(nodes_code(scope)?))?;
-    add_file(
-        &mut files,
-        "specs/Kinds.antt",
-        name,
-        Some(kinds_specs(scope)?),
-    )?;
-    add_file(
-        &mut files,
-        "specs/Casts.antt",
-        name,
-        Some(casts_specs(scope)?),
-    )?;
-    add_file(
-        &mut files,
-        "specs/NodeIn.antt",
-        name,
-        Some(nodes_in(scope)?),
-    )?;
-    let lemmas = match scope.choices.is_empty() {
-        true => None,
-        false => Some(cast_lemmas(scope)?),
+    let kinds = format!(in scope.alloc; "src/{}.rt", scope.module)?;
+    let has_choices = !scope.choices.is_empty();
+    let has_contents = !scope.contents.is_empty();
+    let has_casts = has_choices || has_contents || !scope.nodes.is_empty();
+    let has_nodes_in = has_choices || has_contents || scope.has_nodes(Form::Borrowed);
+    add_file(&mut files, kinds.as_str(), name, Some(kinds_code(scope)?))?;
+    let nodes = match has_casts {
+        true => Some(nodes_code(scope)?),
+        false => None,
+    };
+    add_file(&mut files, "src/nodes.rt", name, nodes)?;
+    let specs = kinds_specs(scope)?;
+    add_file(&mut files, "specs/Kinds.antt", name, Some(specs))?;
+    let casts = match has_casts {
+        true => Some(casts_specs(scope)?),
+        false => None,
+    };
+    add_file(&mut files, "specs/Casts.antt", name, casts)?;
+    let places = match has_nodes_in {
+        true => Some(nodes_in(scope)?),
+        false => None,
+    };
+    add_file(&mut files, "specs/NodeIn.antt", name, places)?;
+    let lemmas = match has_choices {
+        true => Some(cast_lemmas(scope)?),
+        false => None,
     };
     add_file(&mut files, "proofs/CastLemmas.antt", name, lemmas)?;
+    let lemmas = match scope.sets.is_empty() {
+        true => None,
+        false => Some(set_lemmas(scope)?),
+    };
+    add_file(&mut files, "proofs/SetLemmas.antt", name, lemmas)?;
+    add_file(&mut files, "src/parser.rt", name, parser_code(scope)?)?;
     Ok(files)
 }
 
@@ -271,16 +308,18 @@ fn root_name<'g>(grammar: &'g Grammar, root: &str) -> &'g str {
     ""
 }
 
-/// The names from elsewhere that wrappers have.
+/// The names from elsewhere that wrappers and traits have.
 fn taken_names(alloc: Global, grammar: &Grammar) -> Result<HashMap<String, bool>, AllocError> {
     let mut taken = HashMap::new(alloc);
     for item in grammar.items.iter() {
-        if item.is_wrapped() {
-            for form in [Form::Owned, Form::Borrowed] {
-                let name = format!(in alloc; "{}{}", item.name, form.suffix())?;
-                if is_outside(name.as_str()) {
-                    taken.insert(name, true)?;
-                }
+        for form in [Form::Owned, Form::Borrowed] {
+            let name = match form {
+                Form::Owned => item.name.as_str(),
+                Form::Borrowed => item.borrowed.as_str(),
+            };
+            let is_named = item.forms.has(form) || item.sort == Sort::Trait;
+            if is_named && is_outside(name) {
+                taken.insert(String::from_str(alloc, name)?, true)?;
             }
         }
     }

@@ -110,27 +110,55 @@ mod tests {
     fn files_are_marked(rt: HostRuntime) -> Result<(), Fail> {
         let text = nested(rt.alloc(), 3)?;
         let made = generate(rt.alloc(), text.as_str(), "folder/made.ungram")?;
-        assert!(rt; made.files.len() == 6);
+        assert!(rt; made.files.len() == 8);
         for file in made.files.iter() {
-            let text = file.text.as_ref().ok_or(Fault::NotFound)?;
-            assert!(rt; text.starts_with(file.mark.as_str()));
             assert!(rt; file.mark.contains("from made.ungram:"));
+            if let Some(text) = &file.text {
+                assert!(rt; text.starts_with(file.mark.as_str()));
+            }
         }
         Ok(())
     }
 
-    #[test]
-    fn files_of_choices_are_named_without_text(rt: HostRuntime) -> Result<(), Fail> {
-        let text = format!(in rt.alloc(); "{HEAD}Root = Root?\n")?;
-        let made = generate(rt.alloc(), text.as_str(), "made.ungram")?;
-        let mut names = String::new(rt.alloc());
+    /// The files that a grammar with these lines gives.
+    fn files_of(alloc: Global, lines: &str) -> Result<String, Fault> {
+        let text = format!(in alloc; "{HEAD}{lines}")?;
+        let made = generate(alloc, text.as_str(), "made.ungram")?;
+        let mut names = String::new(alloc);
         for file in made.files.iter() {
-            if file.text.is_none() {
-                names.push_str(file.path.as_str())?;
-                names.push(' ')?;
+            if file.text.is_some() {
+                writeln!(names, "{}", file.path)?;
             }
         }
-        assert!(rt; names.as_str() == "proofs/CastLemmas.antt ");
+        Ok(names)
+    }
+
+    /// Lines of a grammar, and the files that it gives.
+    const GIVEN: [(&str, &str); 4] = [
+        (
+            "Root = Root?",
+            "src/kinds.rt\nsrc/nodes.rt\nspecs/Kinds.antt\nspecs/Casts.antt\nspecs/NodeIn.antt\n",
+        ),
+        (
+            "kinds syntax\nwrappers none\nRoot = Root?",
+            "src/syntax.rt\nspecs/Kinds.antt\n",
+        ),
+        (
+            "wrappers none\nowned Root\nRoot = Root?",
+            "src/kinds.rt\nsrc/nodes.rt\nspecs/Kinds.antt\nspecs/Casts.antt\n",
+        ),
+        (
+            "wrappers none\ntoken T\nset Set = T\nRoot = T",
+            "src/kinds.rt\nspecs/Kinds.antt\nproofs/SetLemmas.antt\n",
+        ),
+    ];
+
+    #[test]
+    fn files_are_those_that_are_wanted(rt: HostRuntime) -> Result<(), Fail> {
+        for (lines, files) in GIVEN.iter() {
+            let given = files_of(rt.alloc(), lines)?;
+            assert!(rt; given.as_str() == *files, "{given}");
+        }
         Ok(())
     }
 }

@@ -3,8 +3,10 @@
 use crate::shape::Shape;
 use crate::transcript::{Phase, Stop, Transcript};
 use json_syntax::{Json, Options, parse_with_options};
+use little_syntax::{Little, LittleParser};
 use rowan::{Fault, Language, SyntaxNode, TextSize};
 use rowan_parser::{LineColumn, LineIndex, Parse, render_up_to};
+use rowan_predictive::{Rule, conflicts_of};
 use script_syntax::Script;
 use std::alloc::Global;
 
@@ -14,6 +16,8 @@ enum Grammar {
     Json,
     Strict,
     Script,
+    /// By a parser that was written from a grammar file, and is made for the case.
+    Little,
 }
 
 /// A case: a text, which is parsed, and a place in it.
@@ -25,7 +29,7 @@ struct ParseCase {
     offset: u32,
 }
 
-const PARSES: [ParseCase; 7] = [
+const PARSES: [ParseCase; 9] = [
     ParseCase {
         name: "a parse by events",
         grammar: Grammar::Json,
@@ -68,6 +72,27 @@ const PARSES: [ParseCase; 7] = [
         text: "let = 1 < 2 < 3\nf((((1, \"é ${2\nlet x",
         offset: 20,
     },
+    ParseCase {
+        name: "a parse by rules",
+        grammar: Grammar::Little,
+        text: "fn add(a, b) {\n  a + b * 2; // é\n}\n",
+        offset: 20,
+    },
+    ParseCase {
+        name: "a parse by rules with errors",
+        grammar: Grammar::Little,
+        text: "fn (a b) { let = 1 +; } }\nlet x",
+        offset: 12,
+    },
+];
+
+/// Rules of which the next token does not say which is meant, and which may be empty twice.
+const NO_GRAMMAR: [Rule; 5] = [
+    Rule::Choice(1, 2),
+    Rule::Token(3),
+    Rule::Token(3),
+    Rule::Star(4),
+    Rule::Empty,
 ];
 
 /// What a case made.
@@ -82,9 +107,26 @@ pub fn run_parses(log: &Transcript<'_>) -> Result<(), Stop> {
     for case in PARSES {
         match case.grammar {
             Grammar::Script => run_case::<Script>(log, case)?,
+            Grammar::Little => run_case::<Little>(log, case)?,
             _ => run_case::<Json>(log, case)?,
         }
     }
+    run_conflicts(log)
+}
+
+fn run_conflicts(log: &Transcript<'_>) -> Result<(), Stop> {
+    log.case("rules that are no grammar")?;
+    log.phase(Phase::Making)?;
+    let found = ask(
+        log,
+        "conflicts_of",
+        || Ok(conflicts_of(log.alloc(), &NO_GRAMMAR)?),
+    )?;
+    for error in found.iter() {
+        log.tell("conflict", error)?;
+    }
+    log.phase(Phase::Dropping)?;
+    drop(found);
     Ok(())
 }
 
@@ -110,7 +152,15 @@ fn parse(alloc: Global, case: ParseCase) -> Result<Parse, Fault> {
         Grammar::Json => json_syntax::parse(alloc, case.text),
         Grammar::Strict => parse_with_options(alloc, case.text, Options::strict()),
         Grammar::Script => script_syntax::parse(alloc, case.text),
+        Grammar::Little => parse_little(alloc, case.text),
     }
+}
+
+fn parse_little(alloc: Global, text: &str) -> Result<Parse, Fault> {
+    let Ok(parser) = LittleParser::new(alloc) else {
+        return Err(Fault::Memory);
+    };
+    parser.parse(alloc, text)
 }
 
 fn make<L: Language>(log: &Transcript<'_>, case: ParseCase) -> Result<Made<L>, Stop> {

@@ -1,9 +1,9 @@
 //! The grammar of scripts: statements and expressions.
-use crate::kinds::{Kind, Script};
+use crate::kinds::{BLOCK_ENDS, CLOSINGS, Kind, OPERANDS, Script};
 use crate::operators::{COMPARISON, operator, power_of, take_operator};
 use crate::recovery::{
-    BLOCK_ENDS, BRACKETS, CLOSINGS, OPERANDS, Place, close, deeper, end_statement, expect_here,
-    goes_on, has_next, is_here, no_statement,
+    BRACKETS, Place, close, deeper, end_statement, expect_here, goes_on, has_next, is_here,
+    no_statement,
 };
 use crate::types::{at_union, parameters, type_name, union_declaration};
 use rowan_parser::{CompletedMarker, Parser};

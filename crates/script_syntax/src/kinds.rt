@@ -1,8 +1,10 @@
-//! The kinds of tokens and nodes of scripts.
+// Written by rowan_grammar from script.ungram: change that, and not this file.
+//! The kinds of the tokens and nodes of Script.
 ghost use Rattle.std.specs.Prelude.{◌≡◌};
-ghost use Rattle.script_syntax.specs.Kinds.{high_kind, low_kind};
+ghost use Rattle.script_syntax.specs.Kinds.{block_kind_0, block_kind_1};
 
 use rowan::{Language, SyntaxKind};
+use rowan_parser::{TokenSet, token_set};
 
 /// The language of scripts.
 #[derive(Clone, Copy, PartialEq, Eq, PartialOrd, Ord, Hash, Debug)]
@@ -84,7 +86,7 @@ pub enum Kind {
     TypeArguments = 52,
     /// A node around what has no place where it stands.
     Error = 53,
-    /// The node of a whole text.
+    /// The node of a whole text: what `Parse::tree` makes of what `parse` answers.
     Root = 54,
 }
 
@@ -101,14 +103,70 @@ impl Language for Script {
 
     fn kind_from_raw(raw: SyntaxKind) -> Kind {
         if raw.0 < 32 {
-            low_kind(raw.0)
+            kind_in_block_0(raw.0)
         } else {
-            high_kind(raw.0)
+            kind_in_block_1(raw.0)
         }
     }
 
     fn kind_to_raw(kind: Kind) -> SyntaxKind {
-        SyntaxKind(kind as u16)
+        match kind {
+            Kind::Whitespace => SyntaxKind(0),
+            Kind::Comment => SyntaxKind(1),
+            Kind::Remark => SyntaxKind(2),
+            Kind::Name => SyntaxKind(3),
+            Kind::Number => SyntaxKind(4),
+            Kind::LetKw => SyntaxKind(5),
+            Kind::FnKw => SyntaxKind(6),
+            Kind::ReturnKw => SyntaxKind(7),
+            Kind::UnionKw => SyntaxKind(8),
+            Kind::Gt => SyntaxKind(9),
+            Kind::Lt => SyntaxKind(10),
+            Kind::Eq => SyntaxKind(11),
+            Kind::Plus => SyntaxKind(12),
+            Kind::Minus => SyntaxKind(13),
+            Kind::Star => SyntaxKind(14),
+            Kind::Slash => SyntaxKind(15),
+            Kind::Comma => SyntaxKind(16),
+            Kind::Colon => SyntaxKind(17),
+            Kind::Semicolon => SyntaxKind(18),
+            Kind::LParen => SyntaxKind(19),
+            Kind::RParen => SyntaxKind(20),
+            Kind::LBrace => SyntaxKind(21),
+            Kind::RBrace => SyntaxKind(22),
+            Kind::OpenQuote => SyntaxKind(23),
+            Kind::CloseQuote => SyntaxKind(24),
+            Kind::StringText => SyntaxKind(25),
+            Kind::Escape => SyntaxKind(26),
+            Kind::HoleOpen => SyntaxKind(27),
+            Kind::HoleClose => SyntaxKind(28),
+            Kind::Unknown => SyntaxKind(29),
+            Kind::Shr => SyntaxKind(30),
+            Kind::Shl => SyntaxKind(31),
+            Kind::GtEq => SyntaxKind(32),
+            Kind::LtEq => SyntaxKind(33),
+            Kind::EqEq => SyntaxKind(34),
+            Kind::Function => SyntaxKind(35),
+            Kind::Parameters => SyntaxKind(36),
+            Kind::Parameter => SyntaxKind(37),
+            Kind::Union => SyntaxKind(38),
+            Kind::Field => SyntaxKind(39),
+            Kind::Block => SyntaxKind(40),
+            Kind::Let => SyntaxKind(41),
+            Kind::Return => SyntaxKind(42),
+            Kind::Binary => SyntaxKind(43),
+            Kind::Call => SyntaxKind(44),
+            Kind::Arguments => SyntaxKind(45),
+            Kind::Group => SyntaxKind(46),
+            Kind::Text => SyntaxKind(47),
+            Kind::Hole => SyntaxKind(48),
+            Kind::Reference => SyntaxKind(49),
+            Kind::Literal => SyntaxKind(50),
+            Kind::TypeName => SyntaxKind(51),
+            Kind::TypeArguments => SyntaxKind(52),
+            Kind::Error => SyntaxKind(53),
+            Kind::Root => SyntaxKind(54),
+        }
     }
 
     fn kind_name(kind: Kind) -> &'static str {
@@ -172,8 +230,46 @@ impl Language for Script {
     }
 }
 
-fn low_kind(raw: u16) -> Kind
-    ensures { result ≡ low_kind raw }
+/// The kinds of the tokens that may stand anywhere.
+pub const TRIVIA: &[Kind] = &[Kind::Whitespace, Kind::Comment, Kind::Remark];
+
+/// The kind of the node of a whole text.
+pub const ROOT: Kind = Kind::Root;
+
+/// What stands anywhere.
+pub const BLANK: TokenSet = token_set![Kind::Whitespace, Kind::Comment, Kind::Remark];
+
+/// What may end brackets.
+pub const CLOSINGS: TokenSet = token_set![Kind::RParen, Kind::RBrace, Kind::HoleClose];
+
+/// Where an element of a list ends.
+pub const LIST_ENDS: TokenSet = token_set![
+    Kind::Comma,
+    Kind::RParen,
+    Kind::RBrace,
+    Kind::HoleClose
+];
+
+/// Where the statements of a block end.
+pub const BLOCK_ENDS: TokenSet = token_set![Kind::RBrace, Kind::HoleClose];
+
+/// Where a statement ends.
+pub const STATEMENT_ENDS: TokenSet = token_set![Kind::Semicolon, Kind::RBrace, Kind::HoleClose];
+
+/// How an operand begins.
+pub const OPERANDS: TokenSet = token_set![
+    Kind::Name,
+    Kind::Number,
+    Kind::OpenQuote,
+    Kind::LParen,
+    Kind::LBrace
+];
+
+/// How a statement begins that is no expression, but for a union.
+pub const KEYWORDS: TokenSet = token_set![Kind::LetKw, Kind::FnKw, Kind::ReturnKw];
+
+fn kind_in_block_0(raw: u16) -> Kind
+    ensures { result ≡ block_kind_0 raw }
 {
     match raw {
         0 => Kind::Whitespace,
@@ -212,8 +308,8 @@ fn low_kind(raw: u16) -> Kind
     }
 }
 
-fn high_kind(raw: u16) -> Kind
-    ensures { result ≡ high_kind raw }
+fn kind_in_block_1(raw: u16) -> Kind
+    ensures { result ≡ block_kind_1 raw }
 {
     match raw {
         32 => Kind::GtEq,
@@ -240,4 +336,158 @@ fn high_kind(raw: u16) -> Kind
         54 => Kind::Root,
         _ => Kind::Error,
     }
+}
+
+impl Kind {
+    ghost use Rattle.std.specs.Prelude.{◌≡◌};
+    ghost use Rattle.script_syntax.specs.Kinds.{is_keyword, is_punct, keyword_of, is_in_blank};
+    ghost use Rattle.script_syntax.specs.Kinds.{is_in_closings, is_in_list_ends, is_in_block_ends};
+    ghost use Rattle.script_syntax.specs.Kinds.{is_in_statement_ends, is_in_operands};
+    ghost use Rattle.script_syntax.specs.Kinds.{is_in_keywords};
+
+    /// Whether its tokens are always one word.
+    pub fn is_keyword(self) -> bool
+        ensures { result ≡ is_keyword self }
+    {
+        match self {
+            Kind::LetKw => true,
+            Kind::FnKw => true,
+            Kind::ReturnKw => true,
+            _ => false,
+        }
+    }
+
+    /// Whether its tokens always have one text that is no word.
+    pub fn is_punct(self) -> bool
+        ensures { result ≡ is_punct self }
+    {
+        match self {
+            Kind::Gt => true,
+            Kind::Lt => true,
+            Kind::Eq => true,
+            Kind::Plus => true,
+            Kind::Minus => true,
+            Kind::Star => true,
+            Kind::Slash => true,
+            Kind::Comma => true,
+            Kind::Colon => true,
+            Kind::Semicolon => true,
+            Kind::LParen => true,
+            Kind::RParen => true,
+            Kind::LBrace => true,
+            Kind::RBrace => true,
+            Kind::Shr => true,
+            Kind::Shl => true,
+            Kind::GtEq => true,
+            Kind::LtEq => true,
+            Kind::EqEq => true,
+            _ => false,
+        }
+    }
+
+    /// The kind of the tokens that are always this word.
+    pub fn from_keyword(text: &str) -> Option<Kind>
+        ensures { result ≡ keyword_of text.now }
+    {
+        if text == "let" {
+            return Some(Kind::LetKw);
+        }
+        if text == "fn" {
+            return Some(Kind::FnKw);
+        }
+        if text == "return" {
+            return Some(Kind::ReturnKw);
+        }
+        None
+    }
+
+    /// Whether its tokens are in `BLANK`.
+    #[tactic(auto, using(crate::proofs::SetLemmas::blank_has))]
+    pub fn is_in_blank(self) -> bool
+        ensures { result ≡ is_in_blank self }
+    {
+        let raw = Script::kind_to_raw(self);
+        BLANK.contains(raw)
+    }
+
+    /// Whether its tokens are in `CLOSINGS`.
+    #[tactic(auto, using(crate::proofs::SetLemmas::closings_has))]
+    pub fn is_in_closings(self) -> bool
+        ensures { result ≡ is_in_closings self }
+    {
+        let raw = Script::kind_to_raw(self);
+        CLOSINGS.contains(raw)
+    }
+
+    /// Whether its tokens are in `LIST_ENDS`.
+    #[tactic(auto, using(crate::proofs::SetLemmas::list_ends_has))]
+    pub fn is_in_list_ends(self) -> bool
+        ensures { result ≡ is_in_list_ends self }
+    {
+        let raw = Script::kind_to_raw(self);
+        LIST_ENDS.contains(raw)
+    }
+
+    /// Whether its tokens are in `BLOCK_ENDS`.
+    #[tactic(auto, using(crate::proofs::SetLemmas::block_ends_has))]
+    pub fn is_in_block_ends(self) -> bool
+        ensures { result ≡ is_in_block_ends self }
+    {
+        let raw = Script::kind_to_raw(self);
+        BLOCK_ENDS.contains(raw)
+    }
+
+    /// Whether its tokens are in `STATEMENT_ENDS`.
+    #[tactic(auto, using(crate::proofs::SetLemmas::statement_ends_has))]
+    pub fn is_in_statement_ends(self) -> bool
+        ensures { result ≡ is_in_statement_ends self }
+    {
+        let raw = Script::kind_to_raw(self);
+        STATEMENT_ENDS.contains(raw)
+    }
+
+    /// Whether its tokens are in `OPERANDS`.
+    #[tactic(auto, using(crate::proofs::SetLemmas::operands_has))]
+    pub fn is_in_operands(self) -> bool
+        ensures { result ≡ is_in_operands self }
+    {
+        let raw = Script::kind_to_raw(self);
+        OPERANDS.contains(raw)
+    }
+
+    /// Whether its tokens are in `KEYWORDS`.
+    #[tactic(auto, using(crate::proofs::SetLemmas::keywords_has))]
+    pub fn is_in_keywords(self) -> bool
+        ensures { result ≡ is_in_keywords self }
+    {
+        let raw = Script::kind_to_raw(self);
+        KEYWORDS.contains(raw)
+    }
+}
+
+/// The kind of a token by the text that it always has.
+#[macro_export]
+macro_rules! T {
+    [let] => { $crate::kinds::Kind::LetKw };
+    [fn] => { $crate::kinds::Kind::FnKw };
+    [return] => { $crate::kinds::Kind::ReturnKw };
+    [>] => { $crate::kinds::Kind::Gt };
+    [<] => { $crate::kinds::Kind::Lt };
+    [=] => { $crate::kinds::Kind::Eq };
+    [+] => { $crate::kinds::Kind::Plus };
+    [-] => { $crate::kinds::Kind::Minus };
+    [*] => { $crate::kinds::Kind::Star };
+    [/] => { $crate::kinds::Kind::Slash };
+    [,] => { $crate::kinds::Kind::Comma };
+    [:] => { $crate::kinds::Kind::Colon };
+    [;] => { $crate::kinds::Kind::Semicolon };
+    ['('] => { $crate::kinds::Kind::LParen };
+    [')'] => { $crate::kinds::Kind::RParen };
+    ['{'] => { $crate::kinds::Kind::LBrace };
+    ['}'] => { $crate::kinds::Kind::RBrace };
+    [>>] => { $crate::kinds::Kind::Shr };
+    [<<] => { $crate::kinds::Kind::Shl };
+    [>=] => { $crate::kinds::Kind::GtEq };
+    [<=] => { $crate::kinds::Kind::LtEq };
+    [==] => { $crate::kinds::Kind::EqEq };
 }

@@ -3,8 +3,9 @@
 #![tactic(auto)]
 
 mod grammar;
-mod kinds;
+pub mod kinds;
 mod lexer;
+pub mod nodes;
 mod operators;
 mod pieces;
 mod recovery;
@@ -16,11 +17,12 @@ ghost use Rattle.rowan.specs.Fits.{byte_limit};
 ghost use Rattle.rowan.specs.Term.{node_text};
 ghost use Rattle.rowan_parser.specs.Parsing.{WhyNoTree};
 
+use kinds::BLANK;
 pub use kinds::{Kind, Script};
 pub use lexer::Modes;
+pub use nodes::Root as Source;
 use rowan::{Fault, Language};
 use rowan_parser::{Parse, Parser, TokenSet, Trivia, token_set};
-pub use source::Source;
 use std::alloc::Global;
 
 /// Parses a text, with brackets at most 256 deep. Else as `parse_to_depth`.
@@ -31,8 +33,6 @@ pub fn parse(alloc: Global, text: &str) -> Result<Parse, Fault>
 {
     parse_to_depth(alloc, text, 256)
 }
-
-const TRIVIA: TokenSet = token_set![Kind::Whitespace, Kind::Comment, Kind::Remark];
 
 const DOCUMENTS: TokenSet = token_set![Kind::Comment];
 
@@ -48,7 +48,7 @@ pub fn parse_to_depth(alloc: Global, text: &str, depth: usize) -> Result<Parse, 
     ensures too_long { byte_limit < length text.now → result ≡ Err Fault.TextTooLong }
 {
     let trivia = Trivia {
-        kinds: TRIVIA,
+        kinds: BLANK,
         attached: &[Kind::Function, Kind::Union].map(|kind| (Script::kind_to_raw(kind), DOCUMENTS)),
     };
     let script = |p: &mut Parser<Script>| grammar::script(p, depth.min(MAX_DEPTH));

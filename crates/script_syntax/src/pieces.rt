@@ -42,13 +42,8 @@ pub(crate) fn code_piece(text: &str) -> Piece {
 }
 
 fn word(text: &str, len: usize) -> Piece {
-    let kind = match text.get(..len) {
-        Some("let") => Kind::LetKw,
-        Some("fn") => Kind::FnKw,
-        Some("return") => Kind::ReturnKw,
-        _ => Kind::Name,
-    };
-    Piece::new(kind, len)
+    let keyword = Kind::from_keyword(text.get(..len).unwrap_or(""));
+    Piece::new(keyword.unwrap_or(Kind::Name), len)
 }
 
 fn sign(byte: u8) -> Kind {

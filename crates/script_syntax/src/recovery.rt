@@ -1,42 +1,14 @@
 //! Ends of lines and of lists, and how the grammar goes on behind an error.
 ghost use Rattle.std.specs.Prelude.{◌≡◌, ◌+◌, IfSome};
 
-use crate::kinds::{Kind, Script};
+use crate::kinds::{CLOSINGS, KEYWORDS, Kind, LIST_ENDS, OPERANDS, STATEMENT_ENDS, Script};
 use rowan::Language;
 use rowan_parser::{Brackets, Parser, TokenSet, token_set};
-
-/// What may end brackets.
-pub(crate) const CLOSINGS: TokenSet = token_set![Kind::RParen, Kind::RBrace, Kind::HoleClose];
 
 pub(crate) const BRACKETS: Brackets = Brackets {
     open: token_set![Kind::LParen, Kind::LBrace, Kind::HoleOpen],
     close: CLOSINGS,
 };
-
-/// Where an element of a list ends.
-pub(crate) const LIST_ENDS: TokenSet = token_set![
-    Kind::Comma,
-    Kind::RParen,
-    Kind::RBrace,
-    Kind::HoleClose
-];
-
-/// Where the statements of a block end.
-pub(crate) const BLOCK_ENDS: TokenSet = token_set![Kind::RBrace, Kind::HoleClose];
-
-const STATEMENT_ENDS: TokenSet = token_set![Kind::Semicolon, Kind::RBrace, Kind::HoleClose];
-
-/// How an operand begins.
-pub(crate) const OPERANDS: TokenSet = token_set![
-    Kind::Name,
-    Kind::Number,
-    Kind::OpenQuote,
-    Kind::LParen,
-    Kind::LBrace
-];
-
-/// How a statement begins that is no expression, but for a union.
-pub(crate) const KEYWORDS: TokenSet = token_set![Kind::LetKw, Kind::FnKw, Kind::ReturnKw];
 
 /// Where an expression stands. The end of a line ends it, but not in brackets.
 #[derive(Clone, Copy)]

@@ -1,8 +1,6 @@
 //! Types, and names with types.
-use crate::kinds::{Kind, Script};
-use crate::recovery::{
-    CLOSINGS, KEYWORDS, LIST_ENDS, close, deeper, expect_here, has_next, is_here, skip,
-};
+use crate::kinds::{CLOSINGS, KEYWORDS, Kind, LIST_ENDS, Script};
+use crate::recovery::{close, deeper, expect_here, has_next, is_here, skip};
 use rowan_parser::{Brackets, Parser, TokenSet, token_set};
 
 const ANGLES: Brackets = Brackets {

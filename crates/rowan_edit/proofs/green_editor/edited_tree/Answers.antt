@@ -1,8 +1,5 @@
 use Rattle.std.proofs.Common.{List, sym, ◌∙◌, ap, subst}
-use Rattle.std.proofs.lemmas.Result.{err_from_is_err_and}
-use Rattle.rowan_green.specs.declared.utility_types.NodeOrToken.TheVariants.{Node}
 use Rattle.rowan_edit.specs.declared.edit.Splice.{Splice}
-use Rattle.rowan_edit.specs.Edit.{edited}
 use Rattle.rowan_edit.specs.GreenEditor.{edits_of, ArePairs}
 use Rattle.rowan_edit.specs.Plan.{EndInTurn}
 use Rattle.rowan_edit.specs.Sites.{EditedPlaces, sites_of}

@@ -5,7 +5,7 @@ use Rattle.rowan_edit.specs.Edit.{lies_before}
 use Rattle.rowan_edit.specs.GreenEditor.{edit_of, edits_of}
 use Rattle.rowan_edit.specs.Limits.{PassesLimitIn}
 use Rattle.rowan_edit.specs.Zipper.{path_of, place_of, Fork, HasPlace}
-use Rattle.rowan_edit.proofs.PlanLemmas.{AreLeft, left-first, last-left, next-left, all-made}
+use Rattle.rowan_edit.proofs.PlanLemmas.{left-first, last-left, next-left, all-made}
 use Rattle.rowan_edit.proofs.PlanLemmas.{fails-later}
 use Rattle.rowan_edit.proofs.Ways.{ok-from, err-from}
 use Rattle.rowan_edit.proofs.green_editor.new_root.Goals as goal

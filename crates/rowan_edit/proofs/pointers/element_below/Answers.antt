@@ -1,4 +1,4 @@
-use Rattle.std.proofs.Common.{◌++◌, ◌∷◌, take, drop, get_or, suc, sym, ◌∙◌, ap, Some}
+use Rattle.std.proofs.Common.{take, drop, get_or, suc, sym, ◌∙◌, ap, Some}
 use Rattle.std.specs.Option.{option_map}
 use Rattle.std.proofs.lemmas.List.{take_more}
 use Rattle.rowan_cursor.specs.Moves.{element_below}

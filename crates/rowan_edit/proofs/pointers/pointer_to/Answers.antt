@@ -1,11 +1,11 @@
-use Rattle.std.proofs.Common.{◌≡◌, true, false, Option, Some, None, sym, ◌∙◌, ap, subst}
+use Rattle.std.proofs.Common.{◌≡◌, true, false, Some, None, sym, ◌∙◌, ap, subst}
 use Rattle.std.specs.Prelude.{not}
 use Rattle.std.specs.Option.{option_map}
 use Rattle.std.proofs.lemmas.Slice.Eq.{bytes_eq-Decides}
 use Rattle.rowan.specs.Pointer.{means_kind, Resolves}
 use Rattle.rowan_cursor.specs.Cursor.{Cursor}
 use Rattle.rowan_api.specs.Refs.{node_place, element_place}
-use Rattle.rowan_edit.proofs.PointerLemmas.{no-node, not-there, leads-there}
+use Rattle.rowan_edit.proofs.PointerLemmas.{no-node, not-there}
 use Rattle.rowan_edit.proofs.pointers.pointer_to.Goals as goal
 
 pub returns-in_default-clause-ok : goal.returns-in_default-clause-ok

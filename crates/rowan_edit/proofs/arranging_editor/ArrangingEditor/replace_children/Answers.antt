@@ -1,7 +1,7 @@
 use Rattle.std.proofs.Common.{◌≡◌, inl, sym, ◌∙◌, ap, subst, List, true}
 use Rattle.std.specs.List.{list_all}
 use Rattle.rowan_edit.specs.Arrangements.{Arrangement, ArrangedPlan, HasPath, IsArrangementOf}
-use Rattle.rowan_edit.specs.Arrangements.{AreFree, put_in, with_arrangement}
+use Rattle.rowan_edit.specs.Arrangements.{AreFree, with_arrangement}
 use Rattle.rowan_edit.specs.ArrangementsKept.{arrangements_in, AreClear, HasChildren}
 use Rattle.rowan_edit.specs.Pieces.{is_within}
 use Rattle.rowan_edit.proofs.ArrangedPlanLemmas.{all-put, is-arranged, path-there, put-entry}

@@ -1,4 +1,4 @@
-use Rattle.std.proofs.Common.{◌≡◌, length, sym, ◌∙◌, ap, subst}
+use Rattle.std.proofs.Common.{◌≡◌, sym, ◌∙◌, ap, subst}
 use Rattle.std.proofs.lemmas.Result.{err_from_is_err_and}
 use Rattle.rowan_edit.specs.Arrangements.{gap, HasExcluding, AreFree}
 use Rattle.rowan_edit.specs.ArrangementsKept.{HasChildren}

@@ -1,4 +1,4 @@
-use Rattle.std.proofs.Common.{◌≡◌, [], ◌∷◌, ◌++◌, length, sym, ◌∙◌, ap, arith}
+use Rattle.std.proofs.Common.{length, sym, ◌∙◌, ap, arith}
 use Rattle.rowan_edit.specs.Edit.{lies_before}
 use Rattle.rowan_edit.specs.Ranked.{without_last}
 use Rattle.rowan_edit.proofs.RankLemmas.{front-of, lies-nowhere}

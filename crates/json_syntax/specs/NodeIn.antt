@@ -1,0 +1,16 @@
+-- Written by rowan_grammar from json.ungram: change that, and not this file.
+-- The nodes in wrappers: in borrowed ones, and in those of more than one kind.
+use Rattle.std.specs.Prelude.{ℕ}
+use Rattle.rowan.specs.Cursor.{Cursor}
+use Rattle.rowan.specs.Refs.{node_place}
+use Rattle.json_syntax.specs.declared.nodes.NodeOfRef.{NodeOfRef}
+use Rattle.json_syntax.specs.declared.nodes.ValueRef.{ValueRef}
+
+-- where the node of a borrowed wrapper stands
+abbrev pub place_in : {kind : ℕ} → NodeOfRef kind → Cursor
+place_in wrapper = node_place wrapper.syntax
+
+abbrev pub place_in_value : ValueRef → Cursor
+place_in_value (ValueRef.Object node) = place_in node
+place_in_value (ValueRef.Array node) = place_in node
+place_in_value (ValueRef.Literal node) = place_in node

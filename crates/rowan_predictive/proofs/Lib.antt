@@ -1,0 +1,17 @@
+pub mod Anchors
+pub mod Arranged
+pub mod Below
+pub mod Bounds
+pub mod Bridge
+pub mod CauseLemmas
+pub mod Chains
+pub mod Complete
+pub mod MessageLemmas
+pub mod Parsed
+pub mod SetLemmas
+pub mod Sound
+pub mod States
+pub mod Steps
+pub mod TokenLemmas
+pub mod Trees
+pub mod Whole

@@ -1,0 +1,17 @@
+pub mod Arranging
+pub mod ArrangingView
+pub mod Binary
+pub mod Causes
+pub mod Choice
+pub mod Costs
+pub mod Derivations
+pub mod Derived
+pub mod Machine
+pub mod Messages
+pub mod Parsing
+pub mod Predictive
+pub mod Props
+pub mod Sets
+pub mod Trees
+pub mod View
+pub mod Whole

@@ -1,0 +1,29 @@
+//! Parsers from grammars that are data: each text has a tree, and where the tokens derive from the
+//! grammar it is the tree of the derivation.
+#![tactic(auto)]
+
+mod arranging;
+mod choice;
+pub mod conflicts;
+mod costs;
+mod finding;
+pub mod grammars;
+pub mod laws;
+mod machine;
+mod making;
+mod messages;
+mod operators;
+pub mod parsing;
+mod places;
+pub mod refusals;
+pub mod rules;
+pub mod running;
+mod testing;
+
+pub use conflicts::conflicts_of;
+pub use grammars::Grammar;
+pub use operators::{Operators, operators_at};
+pub use parsing::Start;
+pub use refusals::GrammarError;
+pub use rules::{Action, Complaint, Rule};
+pub use running::Outcome;
