@@ -187,10 +187,9 @@ fn trivia_of(scope: &Scope<'_>) -> Result<String, AllocError> {
             let name = scope.grammar.name(*index);
             line.push_str(if line.is_empty() { "" } else { ", " })?;
             write!(line, "Kind::{name}")?;
-            writeln!(lines, "        Kind::{name},")?;
+            writeln!(lines, "    Kind::{name},")?;
         }
     }
-    lines.push_str("    ")?;
     Ok(if line.len() <= ARGUMENTS { line } else { lines })
 }
 
