@@ -1,16 +1,16 @@
 //! What can be wrong with a grammar whose items were read.
-use crate::calls::{Call, Calls, Clash, calls_of};
-use crate::grammar::{Grammar, Item, Sort};
-use crate::names::{
+use rowan::TextRange;
+use rowan_grammar_calls::calls::{Call, Calls, Clash, calls_of};
+use rowan_grammar_calls::predictive::Rules;
+use rowan_grammar_calls::reach::{Looker, count_arms, doubtful_choices, leads_to, set};
+use rowan_grammar_calls::rings::{Ring, Want, rings};
+use rowan_grammar_calls::shared::Shared;
+use rowan_grammar_model::grammar::{Grammar, Item, Sort};
+use rowan_grammar_model::names::{
     is_call_name, why_no_crate, why_no_language, why_no_module, why_no_set, why_no_trait,
     why_no_type,
 };
-use crate::place::{Problem, part_of, text_at, top};
-use crate::predictive::Rules;
-use crate::reach::{Looker, count_arms, doubtful_choices, leads_to, set};
-use crate::rings::{Ring, Want, rings};
-use crate::shared::Shared;
-use rowan::TextRange;
+use rowan_grammar_model::place::{Problem, part_of, text_at, top};
 use rowan_parser::Severity;
 use std::alloc::{AllocError, Global};
 use std::collections::HashMap;

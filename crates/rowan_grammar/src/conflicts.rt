@@ -1,10 +1,10 @@
 //! Where the next token does not say to a parser what to do, as messages.
 use crate::checks::{Checker, way_around};
-use crate::grammar::Grammar;
-use crate::place::text_at;
-use crate::predictive::{Of, Rules};
-use crate::rings::Ring;
 use rowan::TextRange;
+use rowan_grammar_calls::predictive::{Of, Rules};
+use rowan_grammar_calls::rings::Ring;
+use rowan_grammar_model::grammar::Grammar;
+use rowan_grammar_model::place::text_at;
 use rowan_predictive::GrammarError;
 use std::alloc::{AllocError, Global};
 

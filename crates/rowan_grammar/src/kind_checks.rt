@@ -1,10 +1,9 @@
 //! What can be wrong with kinds, with sets of tokens and with traits.
 use crate::checks::Checker;
-use crate::forms::Forms;
-use crate::grammar::{Grammar, Sort, kinds_of};
-use crate::reach::set;
-use crate::shared::shared_of;
-use crate::traits::can_share;
+use rowan_grammar_calls::reach::set;
+use rowan_grammar_calls::shared::{can_share, shared_of};
+use rowan_grammar_model::forms::Forms;
+use rowan_grammar_model::grammar::{Grammar, Sort, kinds_of};
 use rowan_parser::Severity;
 use std::alloc::AllocError;
 

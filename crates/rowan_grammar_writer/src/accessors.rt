@@ -1,0 +1,528 @@
+//! The calls of a wrapper as source text.
+use crate::writer::{ARGUMENTS, Imports, Scope, WIDTH, arguments, fill, signature};
+use rowan_grammar_calls::calls::{Alike, Call, Gives};
+use rowan_grammar_model::forms::Form;
+use rowan_grammar_model::grammar::Sort;
+use std::alloc::AllocError;
+use std::collections::HashMap;
+
+/// What a constant has around its name and its kinds.
+const ALIKE_HEAD: &str = "pub const : &[Kind] = &[];";
+
+const CHILD: &str = "
+    /// The first child that is `$0`.
+$1
+        ensures ok { let casts = casts_at kind_of is_$2 in
+            IfOk result (λ found.
+            option_map $3 found ≡ find casts (children self.now)) }
+        ensures err { IfErr result (λ e. e ≡ Fault.Memory) }
+    {
+        support::child(&self.syntax)
+    }
+";
+
+const CHILD_REF: &str = "
+    /// The first child that is `$0`.
+$1
+        ensures { let casts = casts_at kind_of is_$2 in
+            option_map $3 result ≡ find casts (children ($7 self.now)) }
+    {
+        support::child_ref(self.syntax)
+    }
+";
+
+const CHILDREN: &str = "
+    /// The children that are `$0`, in order.
+$1
+        ensures ok { IfOk result (λ nodes. nodes ≡ children self.now) }
+        ensures err { IfErr result (λ e. e ≡ Fault.Memory) }
+    {
+        support::children(&self.syntax)
+    }
+";
+
+const CHILDREN_REF: &str = "
+    /// The children that are `$0`, in order.
+$1
+        ensures { let casts = casts_at kind_of is_$2 in
+            rest_that_casts casts result ≡ filter casts (children ($7 self.now)) }
+    {
+        support::children_ref(self.syntax)
+    }
+";
+
+const TOKEN: &str = "
+    /// The first token `$0`.
+$1
+        ensures ok { let means = means_kind kind_of (sameb the_type) Kind.$0 in
+            IfOk result (λ found. option_map Token found
+            ≡ find (is_token_of means) (children_with_tokens self.now)) }
+        ensures err { IfErr result (λ e. e ≡ Fault.Memory) }
+    {
+        support::token($6)
+    }
+";
+
+const TOKEN_REF: &str = "
+    /// The first token `$0`.
+$1
+        ensures { let means = means_kind kind_of (sameb the_type) Kind.$0 in
+            option_map Token (option_map token_place result)
+            ≡ find (is_token_of means) (children_with_tokens ($7 self.now)) }
+    {
+        support::token_of($6)
+    }
+";
+
+const NTH_CHILD: &str = "
+    /// The child at index $5 among those of `$4`, if it is `$0`.
+$1
+        ensures ok { let alike = has_one_of kind_of (sameb the_type) $4.now in
+            let casts = casts_at kind_of is_$2 in IfOk result (λ found.
+            option_map $3 found ≡ option_and_then (if_casts casts)
+            (slice_get (filter alike (children self.now)) $5)) }
+        ensures err { IfErr result (λ e. e ≡ Fault.Memory) }
+    {
+        nth_child($6)
+    }
+";
+
+const NTH_CHILD_REF: &str = "
+    /// The child at index $5 among those of `$4`, if it is `$0`.
+$1
+        ensures { let alike = has_one_of kind_of (sameb the_type) $4.now in
+            let casts = casts_at kind_of is_$2 in
+            option_map $3 result ≡ option_and_then (if_casts casts)
+            (slice_get (filter alike (children ($7 self.now))) $5) }
+    {
+        support::nth_child_ref($6)
+    }
+";
+
+const NTH_TOKEN: &str = "
+    /// The token at index $5 among those of `$4`.
+$1
+        ensures ok { let alike = is_token_of (means_one_of kind_of (sameb the_type) $4.now) in
+            IfOk result (λ found. option_map Token found
+            ≡ slice_get (filter alike (children_with_tokens self.now)) $5) }
+        ensures err { IfErr result (λ e. e ≡ Fault.Memory) }
+    {
+        support::nth_token($6)
+    }
+";
+
+const NTH_TOKEN_REF: &str = "
+    /// The token at index $5 among those of `$4`.
+$1
+        ensures { let alike = is_token_of (means_one_of kind_of (sameb the_type) $4.now) in
+            option_map Token (option_map token_place result)
+            ≡ slice_get (filter alike (children_with_tokens ($7 self.now))) $5 }
+    {
+        support::nth_token_ref($6)
+    }
+";
+
+/// The constants with the kinds of the parts of a node that are alike.
+pub fn add_kinds(out: &mut String, scope: &Scope<'_>, index: usize) -> Result<(), AllocError> {
+    for alike in scope.alike(index).iter() {
+        add_alike(out, scope, alike)?;
+    }
+    Ok(())
+}
+
+/// The calls of the wrapper of a node.
+pub fn add_calls(
+    out: &mut String,
+    scope: &Scope<'_>,
+    form: Form,
+    index: usize,
+) -> Result<(), AllocError> {
+    for call in scope.calls(index).iter() {
+        if scope.has_call(form, call) {
+            add_call(out, scope, form, index, call)?;
+        }
+    }
+    Ok(())
+}
+
+/// The constant that has the kinds of parts that are alike.
+fn add_alike(out: &mut String, scope: &Scope<'_>, alike: &Alike) -> Result<(), AllocError> {
+    let mut line = String::new(scope.alloc);
+    let mut lines = String::new(scope.alloc);
+    for kind in alike.kinds.iter() {
+        let comma = if line.is_empty() { "" } else { ", " };
+        let name = scope.grammar.name(*kind);
+        write!(line, "{comma}Kind::{name}")?;
+        write!(lines, "\n    Kind::{name},")?;
+    }
+    let name = alike.name.as_str();
+    let len = ALIKE_HEAD
+        .len()
+        .saturating_add(name.len())
+        .saturating_add(line.len());
+    let template = match line.len() {
+        0..=ARGUMENTS if len <= WIDTH => "$0: &[Kind] = &[$1];\n",
+        0..=ARGUMENTS => "$0: &[Kind] =\n    &[$1];\n",
+        _ => "$0: &[Kind] = &[$2\n];\n",
+    };
+    out.push_str("\n/// The kinds of parts that are alike.\npub const ")?;
+    fill(out, template, &[name, line.as_str(), lines.as_str()])
+}
+
+/// The pieces of which a call is written.
+#[derive(Drop)]
+struct Pieces {
+    target: String,
+    snake: String,
+    /// The function from the wrapper of a child to its node.
+    node_of: String,
+    head: String,
+    /// What the function of `support` takes.
+    arguments: String,
+    kinds: String,
+    index: String,
+    /// The function from the wrapper to its node.
+    node_of_self: String,
+}
+
+impl Pieces {
+    fn fill(&self, out: &mut String, template: &str) -> Result<(), AllocError> {
+        let values = [
+            self.target.as_str(),
+            self.head.as_str(),
+            self.snake.as_str(),
+            self.node_of.as_str(),
+            self.kinds.as_str(),
+            self.index.as_str(),
+            self.arguments.as_str(),
+            self.node_of_self.as_str(),
+        ];
+        fill(out, template, &values)
+    }
+}
+
+fn add_call(
+    out: &mut String,
+    scope: &Scope<'_>,
+    form: Form,
+    index: usize,
+    call: &Call,
+) -> Result<(), AllocError> {
+    let alloc = scope.alloc;
+    let start = format!(in alloc; "    pub fn {}", call.name)?;
+    let result = result_of(scope, form, call)?;
+    let nth = call.nth();
+    let kinds = match nth.and_then(|nth| scope.alike(index).get(nth.alike)) {
+        Some(alike) => alike.name.as_str(),
+        None => "",
+    };
+    let item = call.item().unwrap_or(0);
+    let pieces = Pieces {
+        target: String::from_str(alloc, scope.grammar.name(item))?,
+        snake: String::from_str(alloc, scope.grammar.snake(item))?,
+        node_of: scope.node_of(form, item)?,
+        head: signature(alloc, start.as_str(), "&self", result.as_str())?,
+        arguments: arguments_of(scope, form, call, kinds)?,
+        kinds: String::from_str(alloc, kinds)?,
+        index: format!(in alloc; "{}", nth.map_or(0, |nth| nth.index))?,
+        node_of_self: scope.node_of(form, index)?,
+    };
+    pieces.fill(out, template_of(form, call.gives))
+}
+
+fn template_of(form: Form, gives: Gives) -> &'static str {
+    match (form, gives) {
+        (Form::Owned, Gives::Token(_)) => TOKEN,
+        (Form::Owned, Gives::NthToken(_)) => NTH_TOKEN,
+        (Form::Owned, Gives::Child(_)) => CHILD,
+        (Form::Owned, Gives::NthChild(_, _)) => NTH_CHILD,
+        (Form::Owned, Gives::Children(_)) => CHILDREN,
+        (Form::Borrowed, Gives::Token(_)) => TOKEN_REF,
+        (Form::Borrowed, Gives::NthToken(_)) => NTH_TOKEN_REF,
+        (Form::Borrowed, Gives::Child(_)) => CHILD_REF,
+        (Form::Borrowed, Gives::NthChild(_, _)) => NTH_CHILD_REF,
+        (Form::Borrowed, Gives::Children(_)) => CHILDREN_REF,
+    }
+}
+
+/// What the function of `support` takes.
+fn arguments_of(
+    scope: &Scope<'_>,
+    form: Form,
+    call: &Call,
+    kinds: &str,
+) -> Result<String, AllocError> {
+    let alloc = scope.alloc;
+    let parent = form.parent();
+    match call.gives {
+        Gives::Token(item) => {
+            let kind = scope.grammar.name(item);
+            let values = format!(in alloc; "{parent}\nKind::{kind}")?;
+            arguments(alloc, values.as_str(), ",")
+        }
+        Gives::NthToken(nth) | Gives::NthChild(_, nth) => {
+            let values = format!(in alloc; "{parent}\n{kinds}\n{}", nth.index)?;
+            arguments(alloc, values.as_str(), ",")
+        }
+        Gives::Child(_) | Gives::Children(_) => String::from_str(alloc, parent),
+    }
+}
+
+/// The type of what a call gives.
+pub fn result_of(scope: &Scope<'_>, form: Form, call: &Call) -> Result<String, AllocError> {
+    let template = match (form, call.gives) {
+        (Form::Owned, Gives::Token(_) | Gives::NthToken(_)) =>
+            "@Result<@Option<@SyntaxToken<$1>>, Fault>",
+        (Form::Owned, Gives::Children(_)) => "@AstChildren<$0>",
+        (Form::Owned, _) => "@Result<@Option<$0>, Fault>",
+        (Form::Borrowed, Gives::Token(_) | Gives::NthToken(_)) =>
+            "@Option<@SyntaxTokenRef<'tree, $1>>",
+        (Form::Borrowed, Gives::Children(_)) => "@AstNodesRef<'tree, $0<'tree>>",
+        (Form::Borrowed, _) => "@Option<$0<'tree>>",
+    };
+    let name = scope.grammar.wrapper(form, call.item().unwrap_or(0));
+    let mut out = String::new(scope.alloc);
+    scope.fill(&mut out, template, &[name, scope.language])?;
+    Ok(out)
+}
+
+/// Which contracts some calls have.
+#[derive(Clone, Copy)]
+struct Uses {
+    form: Form,
+    token: bool,
+    child: bool,
+    many: bool,
+    nth_token: bool,
+    nth_child: bool,
+}
+
+impl Uses {
+    fn of(scope: &Scope<'_>, form: Form, calls: &[Call]) -> Uses {
+        let mut uses = Uses {
+            form,
+            token: false,
+            child: false,
+            many: false,
+            nth_token: false,
+            nth_child: false,
+        };
+        for call in calls.iter().filter(|call| scope.has_call(form, call)) {
+            match call.gives {
+                Gives::Token(_) => uses.token = true,
+                Gives::Child(_) => uses.child = true,
+                Gives::Children(_) => uses.many = true,
+                Gives::NthToken(_) => uses.nth_token = true,
+                Gives::NthChild(_, _) => uses.nth_child = true,
+            }
+        }
+        uses
+    }
+
+    fn has_nth(self) -> bool {
+        self.nth_token || self.nth_child
+    }
+
+    fn has_token(self) -> bool {
+        self.token || self.nth_token
+    }
+
+    fn has_child(self) -> bool {
+        self.child || self.nth_child || self.many
+    }
+
+    /// Whether the clause for many names what they cast to.
+    fn has_many_casts(self) -> bool {
+        self.many && self.form == Form::Borrowed
+    }
+
+    /// Whether clauses name the kinds of the language.
+    fn has_kinds(self) -> bool {
+        self.has_token() || self.child || self.nth_child || self.has_many_casts()
+    }
+}
+
+/// What the contracts of the calls of a node name.
+pub fn add_call_imports(
+    out: &mut String,
+    scope: &Scope<'_>,
+    form: Form,
+    index: usize,
+) -> Result<(), AllocError> {
+    add_clause_words(out, scope, form, index)?;
+    let itself = match form {
+        Form::Owned => None,
+        Form::Borrowed => Some(scope.node_of(form, index)?),
+    };
+    add_nodes_in(out, scope, form, itself, scope.calls(index))
+}
+
+/// What the contracts of the calls of a node or a trait name, but for the nodes in wrappers.
+pub fn add_clause_words(
+    out: &mut String,
+    scope: &Scope<'_>,
+    form: Form,
+    index: usize,
+) -> Result<(), AllocError> {
+    let calls = scope.calls(index);
+    let uses = Uses::of(scope, form, calls);
+    add_words(
+        out,
+        scope,
+        "Rattle.std.specs.Prelude",
+        &[
+            (true, "◌≡◌"),
+            (uses.has_nth() || uses.has_many_casts(), "filter"),
+            (uses.has_nth(), "slice_get"),
+            (form == Form::Owned, "IfOk"),
+            (form == Form::Owned, "IfErr"),
+        ],
+    )?;
+    let has_first = uses.token || uses.child;
+    add_words(out, scope, "Rattle.std.specs.List", &[(has_first, "find")])?;
+    add_words(
+        out,
+        scope,
+        "Rattle.std.specs.Option",
+        &[
+            (has_first || uses.has_nth(), "option_map"),
+            (uses.nth_child, "option_and_then"),
+        ],
+    )?;
+    add_tree_words(out, scope, uses)?;
+    if uses.has_token() || uses.nth_child {
+        let module = format!(in scope.alloc;
+            "Rattle.{}.specs.contracts.{}.Kind",
+            scope.crate_name, scope.module
+        )?;
+        add_words(out, scope, module.as_str(), &[(true, "the_type")])?;
+        add_words(out, scope, "denote.Enum.Bare", &[(true, "sameb")])?;
+    }
+    let kinds = format!(in scope.alloc; "Rattle.{}.specs.Kinds", scope.crate_name)?;
+    add_words(out, scope, kinds.as_str(), &[(uses.has_kinds(), "kind_of")])?;
+    add_casts(out, scope, form, calls)
+}
+
+/// The words for trees and wrappers that the contracts name.
+fn add_tree_words(out: &mut String, scope: &Scope<'_>, uses: Uses) -> Result<(), AllocError> {
+    add_words(
+        out,
+        scope,
+        "Rattle.rowan.specs.Types.NodeOrToken.TheVariants",
+        &[(uses.has_token(), "Token")],
+    )?;
+    add_words(
+        out,
+        scope,
+        "Rattle.rowan.specs.Moves",
+        &[
+            (uses.has_child(), "children"),
+            (uses.has_token(), "children_with_tokens"),
+        ],
+    )?;
+    add_words(
+        out,
+        scope,
+        "Rattle.rowan.specs.Ast",
+        &[
+            (
+                uses.child || uses.nth_child || uses.has_many_casts(),
+                "casts_at",
+            ),
+            (uses.nth_child, "if_casts"),
+            (uses.nth_child, "has_one_of"),
+            (uses.has_token(), "is_token_of"),
+            (uses.nth_token, "means_one_of"),
+            (uses.has_many_casts(), "rest_that_casts"),
+        ],
+    )?;
+    let has_places = uses.form == Form::Borrowed && uses.has_token();
+    add_words(
+        out,
+        scope,
+        "Rattle.rowan.specs.Refs",
+        &[(has_places, "token_place")],
+    )?;
+    add_words(
+        out,
+        scope,
+        "Rattle.rowan.specs.Pointer",
+        &[(uses.token, "means_kind")],
+    )
+}
+
+/// A line that imports the words that are wanted, if one is.
+fn add_words(
+    out: &mut String,
+    scope: &Scope<'_>,
+    module: &str,
+    words: &[(bool, &str)],
+) -> Result<(), AllocError> {
+    let head = format!(in scope.alloc; "    ghost use {module}.{{")?;
+    let mut imports = Imports::new(scope.alloc, head.as_str(), ";")?;
+    for (is_wanted, word) in words.iter() {
+        if *is_wanted {
+            imports.add(word)?;
+        }
+    }
+    out.push_str(imports.finish()?)
+}
+
+/// What casts to the wrappers of the children that the calls give.
+fn add_casts(
+    out: &mut String,
+    scope: &Scope<'_>,
+    form: Form,
+    calls: &[Call],
+) -> Result<(), AllocError> {
+    let head = format!(in scope.alloc; "    ghost use Rattle.{}.specs.Casts.{{", scope.crate_name)?;
+    let mut imports = Imports::new(scope.alloc, head.as_str(), ";")?;
+    let mut named: HashMap<usize, bool> = HashMap::new(scope.alloc);
+    for call in calls.iter().filter(|call| scope.has_call(form, call)) {
+        let item = match call.gives {
+            Gives::Child(item) | Gives::NthChild(item, _) => item,
+            Gives::Children(item) if form == Form::Borrowed => item,
+            _ => continue,
+        };
+        if named.insert(item, true)?.is_none() {
+            let name = format!(in scope.alloc; "is_{}", scope.grammar.snake(item))?;
+            imports.add(name.as_str())?;
+        }
+    }
+    out.push_str(imports.finish()?)
+}
+
+/// The nodes in the wrappers of the children that the calls give, behind the word for that of the
+/// wrapper itself, if there is one.
+pub fn add_nodes_in(
+    out: &mut String,
+    scope: &Scope<'_>,
+    form: Form,
+    itself: Option<String>,
+    calls: &[Call],
+) -> Result<(), AllocError> {
+    let head = format!(in scope.alloc;
+        "    ghost use Rattle.{}.specs.NodeIn.{{",
+        scope.crate_name
+    )?;
+    let mut imports = Imports::new(scope.alloc, head.as_str(), ";")?;
+    let mut named: HashMap<String, bool> = HashMap::new(scope.alloc);
+    if let Some(itself) = itself {
+        imports.add(itself.as_str())?;
+        named.insert(itself, true)?;
+    }
+    for call in calls.iter().filter(|call| scope.has_call(form, call)) {
+        let (Gives::Child(item) | Gives::NthChild(item, _)) = call.gives else {
+            continue;
+        };
+        let has_word = form == Form::Borrowed || scope.grammar.sort(item) == Sort::Choice;
+        if has_word {
+            let name = scope.node_of(form, item)?;
+            if !named.contains_key(name.as_str()) {
+                imports.add(name.as_str())?;
+                named.insert(name, true)?;
+            }
+        }
+    }
+    out.push_str(imports.finish()?)
+}

@@ -1,0 +1,498 @@
+//! The wrappers of choices as source text.
+use crate::structs::add_wrapper_docs;
+use crate::writer::{Scope, WIDTH, add_docs, cast_head, fill, signature};
+use rowan_grammar_calls::reach::{Reach, Step, steps_from};
+use rowan_grammar_model::forms::Form;
+use rowan_grammar_model::grammar::{Item, Sort};
+use std::alloc::AllocError;
+
+/// How long a kind and what is made of its node are together at most on one line.
+const MAX_ARM: usize = 70;
+
+/// How long what is made of a node is at most in one expression.
+const MAX_MADE: usize = 78;
+
+const CHOICE: &str = "\
+}
+
+impl @AstNode for $0 {
+    type Language = $3;
+
+    ghost use Rattle.std.specs.Prelude.{◌≡◌};
+    ghost use Rattle.std.specs.Option.{option_map};
+    ghost use Rattle.rowan.specs.Ast.{casts_at, if_casts};
+    ghost use Rattle.$2.specs.Casts.{is_$1, same_kind};
+    ghost use Rattle.$2.specs.Kinds.{kind_of};
+    ghost use Rattle.$2.specs.NodeIn.{node_in_$1};
+    ghost use Rattle.std.proofs.Common.{ap};
+
+    ghost casts = { is_$1 };
+
+    ghost node_of = { node_in_$1 };
+
+    fn can_cast(kind: Kind) -> bool {
+$4    }
+
+$5
+        ensures { let casting = casts_at kind_of is_$1 in
+            option_map node_in_$1 result ≡ if_casts casting syntax }
+    {
+        match syntax.kind() {
+$6            _ => None,
+        }
+    }
+
+    #[tactic(auto, using($7))]
+    fn syntax(&self) -> &@SyntaxNode<$3> {
+        match self {
+$8        }
+    }
+
+    ghost equal_kinds = { λ a b same. ap is_$1 (same_kind a b same) };
+}
+";
+
+const OWNED: &str = "
+impl $0 {
+    ghost use Rattle.std.specs.Prelude.{◌≡◌};
+    ghost use Rattle.$2.specs.NodeIn.{node_in_$1, place_in_$1};
+
+    /// The same node, borrowed from its tree.
+    pub fn as_ref(&self) -> $9<'_>
+        ensures { place_in_$1 result ≡ node_in_$1 self.now }
+    {
+        $9::cast(self.syntax().as_ref()).unwrap()
+    }
+}
+";
+
+const CHOICE_REF: &str = "\
+}
+
+impl<'tree> @AstNodeRef<'tree> for $9<'tree> {
+    type Language = $3;
+
+    ghost use Rattle.std.specs.Prelude.{◌≡◌, true};
+    ghost use Rattle.std.specs.Option.{option_map};
+    ghost use Rattle.rowan.specs.Ast.{casts_at, if_casts};
+    ghost use Rattle.rowan.specs.Refs.{node_place};
+    ghost use Rattle.$2.specs.Casts.{is_$1};
+    ghost use Rattle.$2.specs.Kinds.{kind_of};
+    ghost use Rattle.$2.specs.NodeIn.{place_in_$1};
+
+    ghost casts = { is_$1 };
+
+    ghost node_of = { place_in_$1 };
+
+    fn can_cast(kind: Kind) -> bool
+        ensures { result ≡ is_$1 kind }
+    {
+$4    }
+
+$5
+        ensures { let casting = casts_at kind_of is_$1 in
+            option_map place_in_$1 result ≡ if_casts casting (node_place syntax.entry) }
+    {
+        match syntax.kind() {
+$6            _ => None,
+        }
+    }
+
+    #[tactic(auto, using($7))]
+    fn syntax(&self) -> @SyntaxNodeRef<'tree, $3>
+        ensures node { node_place result ≡ place_in_$1 self.now }
+        ensures casts { casts_at kind_of is_$1 (node_place result) ≡ true }
+    {
+        match self {
+$8        }
+    }
+}
+";
+
+const BORROWED: &str = "
+impl<'tree> $9<'tree> {
+    ghost use Rattle.std.specs.Prelude.{◌≡◌, IfOk, IfErr};
+    ghost use Rattle.$2.specs.NodeIn.{node_in_$1, place_in_$1};
+
+    /// The same node in a wrapper that keeps the tree. Refused with `Memory` alone.
+    pub fn to_owned(&self) -> @Result<$0, Fault>
+        ensures ok { IfOk result (λ owned. node_in_$1 owned ≡ place_in_$1 self.now) }
+        ensures err { IfErr result (λ e. e ≡ Fault.Memory) }
+    {
+        let syntax = self.syntax().to_owned()?;
+        Ok($0::cast(syntax).unwrap())
+    }
+}
+";
+
+/// The wrappers of a choice: enums of the wrappers of its alternatives.
+pub fn add_choice(
+    out: &mut String,
+    scope: &Scope<'_>,
+    item: &Item,
+    index: usize,
+) -> Result<(), AllocError> {
+    let forms = [Form::Owned, Form::Borrowed];
+    for form in forms {
+        if item.forms.has(form) {
+            add_wrapper_docs(out, form, item)?;
+            out.push_str(match form {
+                Form::Owned => "#[derive(Clone, PartialEq, Eq, Hash, Debug, Drop)]\n",
+                Form::Borrowed => "#[derive(Clone, Copy, PartialEq, Eq, Hash, Debug)]\n",
+            })?;
+            add_form(out, scope, form, item, index)?;
+        }
+    }
+    for used in item.alternatives.iter() {
+        for form in forms {
+            if item.forms.has(form) {
+                add_from(out, scope, form, index, used.item)?;
+            }
+        }
+    }
+    Ok(())
+}
+
+const FROM: &str = "
+$0
+    ghost use Rattle.std.specs.Prelude.{◌≡◌};
+    ghost use Rattle.$1.specs.NodeIn.{$2};
+
+    ghost from_gives = { λ node whole. $3 };
+
+$4
+        $5
+    }
+}
+";
+
+/// What makes a choice of one of its alternatives.
+fn add_from(
+    out: &mut String,
+    scope: &Scope<'_>,
+    form: Form,
+    whole: usize,
+    one: usize,
+) -> Result<(), AllocError> {
+    let alloc = scope.alloc;
+    let from = wrapper_type(scope, form, one)?;
+    let into = wrapper_type(scope, form, whole)?;
+    let line = impl_line(scope, form, from.as_str(), into.as_str())?;
+    let parameter = format!(in alloc; "node: {from}")?;
+    let end = format!(in alloc; "{into} {{")?;
+    let head = signature(alloc, "    fn from", parameter.as_str(), end.as_str())?;
+    let body = from_body(scope, form, whole, one)?;
+    let mut words = scope.node_of(form, whole)?;
+    let mut gives = format!(in alloc; "{words} whole ≡ ")?;
+    if has_word(scope, form, one) {
+        let inner = scope.node_of(form, one)?;
+        write!(words, ", {inner}")?;
+        write!(gives, "{inner} node")?;
+    } else {
+        gives.push_str("node")?;
+    }
+    let values = [
+        line.as_str(),
+        scope.crate_name,
+        words.as_str(),
+        gives.as_str(),
+        head.as_str(),
+        body.as_str(),
+    ];
+    fill(out, FROM, &values)
+}
+
+/// The type of the wrapper of an item.
+fn wrapper_type(scope: &Scope<'_>, form: Form, index: usize) -> Result<String, AllocError> {
+    let name = scope.grammar.wrapper(form, index);
+    format!(in scope.alloc; "{name}{}", form.lifetime())
+}
+
+/// The first line of an impl of `From`, or the first two where it is long.
+fn impl_line(scope: &Scope<'_>, form: Form, from: &str, into: &str) -> Result<String, AllocError> {
+    let generics = match form {
+        Form::Owned => " ",
+        Form::Borrowed => "<'tree> ",
+    };
+    let name = scope.outside("From");
+    let line = format!(in scope.alloc; "impl{generics}{name}<{from}> for {into} {{")?;
+    if line.len() > WIDTH {
+        return format!(in scope.alloc; "impl{generics}{name}<{from}>\n    for {into} {{");
+    }
+    Ok(line)
+}
+
+/// A node in its variant.
+fn from_body(
+    scope: &Scope<'_>,
+    form: Form,
+    whole: usize,
+    one: usize,
+) -> Result<String, AllocError> {
+    let variant = variant_of(scope, form, whole, one)?;
+    match variant.len() {
+        0..=86 => format!(in scope.alloc; "{variant}(node)"),
+        _ => format!(in scope.alloc; "{variant}(\n            node,\n        )"),
+    }
+}
+
+/// The variant of an alternative.
+fn variant_of(
+    scope: &Scope<'_>,
+    form: Form,
+    whole: usize,
+    one: usize,
+) -> Result<String, AllocError> {
+    let wrapper = scope.grammar.wrapper(form, whole);
+    let name = scope.grammar.name(one);
+    format!(in scope.alloc; "{wrapper}::{name}")
+}
+
+/// Whether clauses name the node in the wrapper of an item by a word.
+fn has_word(scope: &Scope<'_>, form: Form, item: usize) -> bool {
+    form == Form::Borrowed || scope.grammar.sort(item) == Sort::Choice
+}
+
+/// One form of the wrapper of a choice, from the line of its enum on.
+fn add_form(
+    out: &mut String,
+    scope: &Scope<'_>,
+    form: Form,
+    item: &Item,
+    index: usize,
+) -> Result<(), AllocError> {
+    add_variants(out, scope, form, item, index)?;
+    let reached = steps_from(scope.alloc, scope.grammar, index)?;
+    let kinds = kinds_of(scope, &reached)?;
+    let wrapper = wrapper_type(scope, form, index)?;
+    let cast = cast_head(scope, node_type(form), form, wrapper.as_str())?;
+    let casts = casts_of(scope, form, &reached)?;
+    let lemmas = lemmas_of(scope, form, item)?;
+    let arms = syntax_arms(scope, form, item, index)?;
+    let can_cast = match form == Form::Borrowed && item.forms.owned {
+        true => format!(in scope.alloc; "        {}::can_cast(kind)\n", item.name)?,
+        false => format!(in scope.alloc;
+            "        match kind {{\n{kinds}            _ => false,\n        }}\n"
+        )?,
+    };
+    let values = [
+        item.name.as_str(),
+        item.snake.as_str(),
+        scope.crate_name,
+        scope.language,
+        can_cast.as_str(),
+        cast.as_str(),
+        casts.as_str(),
+        lemmas.as_str(),
+        arms.as_str(),
+        item.borrowed.as_str(),
+    ];
+    let (template, other) = match form {
+        Form::Owned => (CHOICE, OWNED),
+        Form::Borrowed => (CHOICE_REF, BORROWED),
+    };
+    scope.fill(out, template, &values)?;
+    match item.forms.is_both() {
+        true => scope.fill(out, other, &values),
+        false => Ok(()),
+    }
+}
+
+/// The type of the nodes from which wrappers are cast.
+fn node_type(form: Form) -> &'static str {
+    match form {
+        Form::Owned => "SyntaxNode",
+        Form::Borrowed => "SyntaxNodeRef",
+    }
+}
+
+/// The type that wrappers of nodes of one kind are.
+fn wrapped(form: Form) -> &'static str {
+    match form {
+        Form::Owned => "NodeOf",
+        Form::Borrowed => "NodeOfRef",
+    }
+}
+
+/// The enum of a choice up to its closing brace.
+fn add_variants(
+    out: &mut String,
+    scope: &Scope<'_>,
+    form: Form,
+    item: &Item,
+    index: usize,
+) -> Result<(), AllocError> {
+    let whole = wrapper_type(scope, form, index)?;
+    fill(out, "pub enum $0 {\n", &[whole.as_str()])?;
+    for used in item.alternatives.iter() {
+        add_docs(out, "    ", scope.grammar.docs(used.item), "")?;
+        let name = scope.grammar.name(used.item);
+        let one = wrapper_type(scope, form, used.item)?;
+        let line = format!(in scope.alloc; "    {name}({one}),")?;
+        let template = match line.len() > WIDTH {
+            true => "    $0(\n        $1,\n    ),\n",
+            false => "    $0($1),\n",
+        };
+        fill(out, template, &[name, one.as_str()])?;
+    }
+    Ok(())
+}
+
+/// The arms of the kinds that cast to a choice.
+fn kinds_of(scope: &Scope<'_>, reached: &Reach) -> Result<String, AllocError> {
+    let mut out = String::new(scope.alloc);
+    for step in reached.steps.iter() {
+        if scope.grammar.sort(step.item) == Sort::Node {
+            let name = scope.grammar.name(step.item);
+            fill(&mut out, "            Kind::$0 => true,\n", &[name])?;
+        }
+    }
+    Ok(out)
+}
+
+/// The arms that make the choice of nodes.
+fn casts_of(scope: &Scope<'_>, form: Form, reached: &Reach) -> Result<String, AllocError> {
+    let mut out = String::new(scope.alloc);
+    for (number, step) in reached.steps.iter().enumerate() {
+        if scope.grammar.sort(step.item) == Sort::Node {
+            add_cast_arm(&mut out, scope, form, reached, number)?;
+        }
+    }
+    Ok(out)
+}
+
+/// The arms that give the node in an alternative.
+fn syntax_arms(
+    scope: &Scope<'_>,
+    form: Form,
+    item: &Item,
+    index: usize,
+) -> Result<String, AllocError> {
+    let mut out = String::new(scope.alloc);
+    for used in item.alternatives.iter() {
+        let variant = variant_of(scope, form, index, used.item)?;
+        let template = match variant.len() {
+            0..=64 => "            $0(node) => node.syntax(),\n",
+            65..=79 => "            $0(node) =>\n                node.syntax(),\n",
+            _ => "            $0(\n                node,\n            ) => node.syntax(),\n",
+        };
+        fill(&mut out, template, &[variant.as_str()])?;
+    }
+    Ok(out)
+}
+
+/// The arm that wraps a node of the kind that was reached by the step with this number.
+fn add_cast_arm(
+    out: &mut String,
+    scope: &Scope<'_>,
+    form: Form,
+    reached: &Reach,
+    number: usize,
+) -> Result<(), AllocError> {
+    let Some(step) = reached.steps.get(number) else {
+        return Ok(());
+    };
+    let kind = scope.grammar.name(step.item);
+    match made_of(scope, form, reached, *step)? {
+        None => add_long_arm(out, scope, form, reached, *step),
+        Some(made) if kind.len().saturating_add(made.len()) <= MAX_ARM => {
+            writeln!(out, "            Kind::{kind} => Some({made}),")
+        }
+        Some(made) => {
+            let start = "            Kind::";
+            writeln!(
+                out,
+                "{start}{kind} => {{\n                Some({made})\n            }}"
+            )
+        }
+    }
+}
+
+/// A node in its variants in one expression, if that is short.
+fn made_of(
+    scope: &Scope<'_>,
+    form: Form,
+    reached: &Reach,
+    step: Step,
+) -> Result<Option<String>, AllocError> {
+    let mut made = format!(in scope.alloc; "{} {{ syntax }}", wrapped(form))?;
+    let mut at = step;
+    for _ in 0..reached.steps.len() {
+        let Some(before) = reached.steps.get(at.from) else {
+            break;
+        };
+        if before.item == at.item {
+            break;
+        }
+        let variant = variant_of(scope, form, before.item, at.item)?;
+        made = format!(in scope.alloc; "{variant}({made})")?;
+        if made.len() > MAX_MADE {
+            return Ok(None);
+        }
+        at = *before;
+    }
+    Ok(Some(made))
+}
+
+/// An arm that makes the alternative by which a node was reached, and then puts it into its variant.
+fn add_long_arm(
+    out: &mut String,
+    scope: &Scope<'_>,
+    form: Form,
+    reached: &Reach,
+    step: Step,
+) -> Result<(), AllocError> {
+    let kind = scope.grammar.name(step.item);
+    let whole = match reached.steps.first() {
+        Some(first) => first.item,
+        None => step.top,
+    };
+    fill(out, "            Kind::$0 => {\n", &[kind])?;
+    let template = match step.top == step.item {
+        true => "                let node = $0 { syntax };\n",
+        false => "                let node = $0::cast(syntax)?;\n",
+    };
+    let wrapper = match step.top == step.item {
+        true => wrapped(form),
+        false => scope.grammar.wrapper(form, step.top),
+    };
+    fill(out, template, &[wrapper])?;
+    let variant = variant_of(scope, form, whole, step.top)?;
+    add_wrap(out, variant.as_str())?;
+    out.push_str("                Some(node)\n            }\n")
+}
+
+/// Adds a statement that puts a node into a variant, on as many lines as `rt fmt` takes.
+fn add_wrap(out: &mut String, variant: &str) -> Result<(), AllocError> {
+    let template = match variant.len() {
+        0..=66 => "                let node = $0(node);\n",
+        67..=72 =>
+            "                let node = $0(\n                    node,\n                );\n",
+        73 => "                let node =\n                    $0(node);\n",
+        _ => LONG_WRAP,
+    };
+    fill(out, template, &[variant])
+}
+
+const LONG_WRAP: &str = "                let node =
+                    $0(
+                        node,
+                    );
+";
+
+/// The lemmas that what casts to an alternative casts to the whole.
+fn lemmas_of(scope: &Scope<'_>, form: Form, item: &Item) -> Result<String, AllocError> {
+    let template = match form {
+        Form::Owned => "crate::proofs::CastLemmas::$0_is_$1",
+        Form::Borrowed => "crate::proofs::CastLemmas::$0_is_$1_raw",
+    };
+    let mut out = String::new(scope.alloc);
+    let mut comma = "";
+    for used in item.alternatives.iter() {
+        let one = scope.grammar.snake(used.item);
+        out.push_str(comma)?;
+        fill(&mut out, template, &[one, item.snake.as_str()])?;
+        comma = ", ";
+    }
+    Ok(out)
+}

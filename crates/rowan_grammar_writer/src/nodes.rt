@@ -1,0 +1,251 @@
+//! The file of the wrappers: `src/nodes.rt`.
+use crate::choices::add_choice;
+use crate::structs::{add_node, add_node_types};
+use crate::tokens::{add_token, add_token_types};
+use crate::traits::add_traits;
+use crate::writer::{Scope, fill};
+use rowan_grammar_calls::calls::Gives;
+use rowan_grammar_model::forms::Form;
+use rowan_grammar_model::grammar::Sort;
+use std::alloc::AllocError;
+
+const HEAD: &str = "\
+//! Wrappers of the nodes of $0$1.
+$2use crate::$3::{$4};
+";
+
+/// What the ghost fields of borrowed wrappers name, and the contract of `nth_child`.
+const OF_FIELDS: &str = "\
+ghost use Rattle.std.specs.Prelude.{◌≡◌, true};
+$0ghost use Rattle.rowan.specs.Ast.{casts_at};
+$1ghost use Rattle.$2.specs.Kinds.{kind_of};
+
+";
+
+/// What the contract of `nth_child` names.
+const OF_NTH: &str = "\
+ghost use Rattle.std.specs.Prelude.{filter, slice_get, IfOk, IfErr};
+ghost use Rattle.std.specs.Option.{option_map, option_and_then};
+ghost use Rattle.rowan.specs.Moves.{children};
+ghost use Rattle.rowan.specs.Ast.{if_casts, has_one_of};
+ghost use Rattle.$0.specs.contracts.$1.Kind.{the_type};
+ghost use denote.Enum.Bare.{sameb};
+";
+
+/// The function by which owned wrappers find parts that are alike. Its contract compares kinds as
+/// those of the accessors do, which are not proved by that of `support::nth_child`.
+const NTH: &str = "
+/// Of the children with one of these kinds the one at an index, if it casts.
+fn nth_child<N: @AstNode<Language = $0>>(
+    parent: &@SyntaxNode<$0>,
+    kinds: &[Kind],
+    index: usize,
+) -> @Result<@Option<N>, Fault>
+    ensures ok { let alike = has_one_of kind_of (sameb the_type) kinds.now in
+        let casts = casts_at kind_of N.casts in IfOk result (λ found.
+        option_map N.node_of found ≡ option_and_then (if_casts casts)
+        (slice_get (filter alike (children parent.now)) index)) }
+    ensures err { IfErr result (λ e. e ≡ Fault.Memory) }
+{
+    support::nth_child(parent, kinds, index)
+}
+";
+
+/// What the calls of a grammar need.
+#[derive(Clone, Copy)]
+struct Needs {
+    many: bool,
+    one: bool,
+    token: bool,
+    nth_child: bool,
+}
+
+impl Needs {
+    fn has_calls(self) -> bool {
+        self.many || self.one || self.token || self.nth_child
+    }
+}
+
+/// The text of `src/nodes.rt`.
+pub fn nodes_code(scope: &Scope<'_>) -> Result<String, AllocError> {
+    let mut out = String::new(scope.alloc);
+    let owned = needs_of(scope, Form::Owned);
+    add_head(&mut out, scope, owned, needs_of(scope, Form::Borrowed))?;
+    add_node_types(&mut out, scope)?;
+    if !scope.contents.is_empty() {
+        add_token_types(&mut out, scope)?;
+    }
+    for (index, item) in scope.grammar.items.iter().enumerate() {
+        match item.sort {
+            _ if !item.is_wrapped() => {}
+            Sort::Node => add_node(&mut out, scope, item, index)?,
+            Sort::Choice => add_choice(&mut out, scope, item, index)?,
+            _ => add_token(&mut out, scope, item, index)?,
+        }
+    }
+    add_traits(&mut out, scope)?;
+    if owned.nth_child {
+        scope.fill(&mut out, NTH, &[scope.language])?;
+    }
+    Ok(out)
+}
+
+fn add_head(
+    out: &mut String,
+    scope: &Scope<'_>,
+    owned: Needs,
+    borrowed: Needs,
+) -> Result<(), AllocError> {
+    let has_owned = scope.has_nodes(Form::Owned);
+    let has_borrowed = scope.has_nodes(Form::Borrowed);
+    let has_contents = !scope.contents.is_empty();
+    let has_fault = owned.has_calls() || scope.has_both();
+    let names = match scope.language < "Kind" {
+        true => format!(in scope.alloc; "{}, Kind", scope.language)?,
+        false => format!(in scope.alloc; "Kind, {}", scope.language)?,
+    };
+    let mut of_fields = String::new(scope.alloc);
+    if has_borrowed || has_contents || owned.nth_child {
+        add_words_of_fields(&mut of_fields, scope, owned)?;
+    }
+    let which = which(has_owned || has_contents, has_borrowed || has_contents);
+    let which = String::from_str(scope.alloc, which)?;
+    let values = [
+        scope.language,
+        which.as_str(),
+        of_fields.as_str(),
+        scope.module,
+        names.as_str(),
+    ];
+    fill(out, HEAD, &values)?;
+    add_use(
+        out,
+        scope,
+        "rowan::ast",
+        &[
+            (owned.many, "AstChildren"),
+            (has_owned, "AstNode"),
+            (has_borrowed, "AstNodeRef"),
+            (borrowed.many, "AstNodesRef"),
+            (has_contents, "AstToken"),
+            (has_contents, "AstTokenRef"),
+            (owned.has_calls() || borrowed.has_calls(), "support"),
+        ],
+    )?;
+    add_use(
+        out,
+        scope,
+        "rowan",
+        &[
+            (has_fault || has_contents, "Fault"),
+            (has_owned, "SyntaxNode"),
+            (has_borrowed, "SyntaxNodeRef"),
+            (owned.token || has_contents, "SyntaxToken"),
+            (borrowed.token || has_contents, "SyntaxTokenRef"),
+        ],
+    )?;
+    let has_models = has_owned || has_contents;
+    add_use(out, scope, "std::marker", &[(has_models, "Model")])
+}
+
+/// The words that are named outside of impls.
+fn add_words_of_fields(
+    out: &mut String,
+    scope: &Scope<'_>,
+    owned: Needs,
+) -> Result<(), AllocError> {
+    let mut of_nth = String::new(scope.alloc);
+    if owned.nth_child {
+        fill(&mut of_nth, OF_NTH, &[scope.crate_name, scope.module])?;
+    }
+    let mut of_places = String::new(scope.alloc);
+    let places = places(scope.has_nodes(Form::Borrowed), !scope.contents.is_empty());
+    fill(&mut of_places, places, &[scope.crate_name])?;
+    let values = [of_nth.as_str(), of_places.as_str(), scope.crate_name];
+    fill(out, OF_FIELDS, &values)
+}
+
+/// The lines that import the places of what is borrowed, and which kinds cast to it.
+fn places(has_nodes: bool, has_tokens: bool) -> &'static str {
+    match (has_nodes, has_tokens) {
+        (false, false) => "",
+        (true, false) => PLACES_OF_NODES,
+        (false, true) => PLACES_OF_TOKENS,
+        (true, true) => PLACES,
+    }
+}
+
+const PLACES_OF_NODES: &str = "\
+ghost use Rattle.rowan.specs.Refs.{node_place};
+ghost use Rattle.$0.specs.Casts.{has_number};
+";
+
+const PLACES_OF_TOKENS: &str = "\
+ghost use Rattle.rowan.specs.Refs.{token_place};
+ghost use Rattle.$0.specs.Casts.{has_number};
+";
+
+const PLACES: &str = "\
+ghost use Rattle.rowan.specs.Refs.{node_place, token_place};
+ghost use Rattle.$0.specs.Casts.{has_number};
+";
+
+/// Which wrappers the file has.
+fn which(has_owned: bool, has_borrowed: bool) -> &'static str {
+    match (has_owned, has_borrowed) {
+        (true, true) => ": owned ones, which keep the tree, and those that borrow it",
+        (true, false) => ", which keep the tree",
+        _ => ", which borrow the tree",
+    }
+}
+
+/// A line that imports those of the names of a module that are wanted and that no wrapper has.
+fn add_use(
+    out: &mut String,
+    scope: &Scope<'_>,
+    module: &str,
+    names: &[(bool, &str)],
+) -> Result<(), AllocError> {
+    let mut list = String::new(scope.alloc);
+    let mut count = 0usize;
+    for (is_wanted, name) in names.iter() {
+        if *is_wanted && scope.outside(name) == *name {
+            list.push_str(if count == 0 { "" } else { ", " })?;
+            list.push_str(name)?;
+            count = count.saturating_add(1);
+        }
+    }
+    match count {
+        0 => Ok(()),
+        1 => writeln!(out, "use {module}::{list};"),
+        _ => writeln!(out, "use {module}::{{{list}}};"),
+    }
+}
+
+/// What the calls of wrappers of a form need.
+fn needs_of(scope: &Scope<'_>, form: Form) -> Needs {
+    let mut needs = Needs {
+        many: false,
+        one: false,
+        token: false,
+        nth_child: false,
+    };
+    for index in scope.nodes.iter() {
+        if !scope.grammar.forms(*index).has(form) {
+            continue;
+        }
+        for call in scope
+            .calls(*index)
+            .iter()
+            .filter(|call| scope.has_call(form, call))
+        {
+            match call.gives {
+                Gives::Token(_) | Gives::NthToken(_) => needs.token = true,
+                Gives::Child(_) => needs.one = true,
+                Gives::NthChild(_, _) => needs.nth_child = true,
+                Gives::Children(_) => needs.many = true,
+            }
+        }
+    }
+    needs
+}

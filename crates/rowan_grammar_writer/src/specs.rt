@@ -1,0 +1,334 @@
+//! The files of definitions and lemmas on wrappers: `specs/Casts.antt`, `specs/NodeIn.antt` and
+//! `proofs/CastLemmas.antt`.
+use crate::writer::{Imports, Scope, fill};
+use rowan_grammar_model::forms::Form;
+use rowan_grammar_model::grammar::Sort;
+use std::alloc::AllocError;
+
+const CASTS: &str = "\
+-- Wrappers of the nodes of $1: the kinds that cast to each of them.
+use Rattle.std.specs.Prelude.{$2}
+use Rattle.$0.specs.declared.$3.Kind.{Kind}
+$4use Rattle.$0.specs.Kinds.{number_of}
+$5
+-- whether it is the kind with this number
+abbrev pub has_number : ℕ → Kind → Bool
+has_number n kind = number_of kind == n
+";
+
+/// What `same_kind` needs.
+const THE_TYPE: &str = "\
+use Rattle.$0.specs.contracts.$1.Kind.{the_type}
+";
+
+const SAME: &str = "\
+use denote.Enum.Bare.{same_true, sameb}
+";
+
+const CASTS_NODE: &str = "
+abbrev pub is_$0 : Kind → Bool
+is_$0 = has_number $1
+";
+
+const SAME_KIND: &str = "
+-- kinds that `==` holds equal are one kind
+pub same_kind : (a b : Kind) → sameb the_type a b ≡ true → a ≡ b
+same_kind a b same = same_true the_type tt a b same
+";
+
+/// The text of `specs/Casts.antt`.
+pub fn casts_specs(scope: &Scope<'_>) -> Result<String, AllocError> {
+    let mut out = String::new(scope.alloc);
+    let has_owned = scope.has_nodes(Form::Owned);
+    let words = match (has_owned, scope.choices.is_empty()) {
+        (true, true) => "◌≡◌, ℕ, ◌==◌, Bool, true",
+        (true, false) => "◌≡◌, ℕ, ◌==◌, Bool, true, ◌||◌",
+        (false, true) => "ℕ, ◌==◌, Bool",
+        (false, false) => "ℕ, ◌==◌, Bool, ◌||◌",
+    };
+    let words = String::from_str(scope.alloc, words)?;
+    let mut the_type = String::new(scope.alloc);
+    let mut same = String::new(scope.alloc);
+    if has_owned {
+        fill(&mut the_type, THE_TYPE, &[scope.crate_name, scope.module])?;
+        same.push_str(SAME)?;
+    }
+    let values = [
+        scope.crate_name,
+        scope.language,
+        words.as_str(),
+        scope.module,
+        the_type.as_str(),
+        same.as_str(),
+    ];
+    fill(&mut out, CASTS, &values)?;
+    for index in scope.nodes.iter().chain(scope.contents.iter()) {
+        let number = format!(in scope.alloc; "{}", scope.kind_number(*index))?;
+        let names = [scope.grammar.snake(*index), number.as_str()];
+        fill(&mut out, CASTS_NODE, &names)?;
+    }
+    for index in scope.choices.iter() {
+        let whole = scope.grammar.snake(*index);
+        fill(
+            &mut out,
+            "\nabbrev pub is_$0 : Kind → Bool\nis_$0 kind =",
+            &[whole],
+        )?;
+        add_any(&mut out, scope, *index)?;
+    }
+    if has_owned {
+        out.push_str(SAME_KIND)?;
+    }
+    Ok(out)
+}
+
+/// That one of the alternatives casts. `||` leans to the left, and the lemmas take the first
+/// alternative off: hence the parentheses.
+fn add_any(out: &mut String, scope: &Scope<'_>, choice: usize) -> Result<(), AllocError> {
+    let alternatives = scope.grammar.alternatives(choice);
+    let last = alternatives.len().saturating_sub(1);
+    for (number, used) in alternatives.iter().enumerate() {
+        let or = match number {
+            0 => "",
+            _ if number == last => "|| ",
+            _ => "|| (",
+        };
+        let one = scope.grammar.snake(used.item);
+        fill(out, "\n    $0is_$1 kind", &[or, one])?;
+    }
+    for _ in 1..last {
+        out.push(')')?;
+    }
+    out.push('\n')
+}
+
+const NODES_IN: &str = "\
+-- The nodes in wrappers: in borrowed ones, and in those of more than one kind.
+$0use Rattle.rowan.specs.Cursor.{Cursor}
+$1";
+
+const NODE_TYPE: &str = "use Rattle.$0.specs.declared.nodes.NodeOfRef.{NodeOfRef}\n";
+
+const TOKEN_TYPE: &str = "use Rattle.$0.specs.declared.nodes.TokenOfRef.{TokenOfRef}\n";
+
+const PLACE_IN: &str = "
+-- where the node of a borrowed wrapper stands
+abbrev pub place_in : {kind : ℕ} → NodeOfRef kind → Cursor
+place_in wrapper = node_place wrapper.syntax
+";
+
+const TOKEN_IN: &str = "
+-- where the token of a borrowed wrapper stands
+abbrev pub token_in : {kind : ℕ} → TokenOfRef kind → Cursor
+token_in wrapper = token_place wrapper.syntax
+";
+
+/// The text of `specs/NodeIn.antt`.
+pub fn nodes_in(scope: &Scope<'_>) -> Result<String, AllocError> {
+    let mut out = String::new(scope.alloc);
+    let has_borrowed = scope.has_nodes(Form::Borrowed);
+    let has_contents = !scope.contents.is_empty();
+    let numbers = match has_borrowed || has_contents {
+        true => "use Rattle.std.specs.Prelude.{ℕ}\n",
+        false => "",
+    };
+    let numbers = String::from_str(scope.alloc, numbers)?;
+    let places = String::from_str(scope.alloc, places(has_borrowed, has_contents))?;
+    fill(&mut out, NODES_IN, &[numbers.as_str(), places.as_str()])?;
+    if has_borrowed {
+        fill(&mut out, NODE_TYPE, &[scope.crate_name])?;
+    }
+    if has_contents {
+        fill(&mut out, TOKEN_TYPE, &[scope.crate_name])?;
+    }
+    for form in [Form::Owned, Form::Borrowed] {
+        for index in scope.choices.iter() {
+            if scope.grammar.forms(*index).has(form) {
+                let name = scope.grammar.wrapper(form, *index);
+                let line = "use Rattle.$0.specs.declared.nodes.$1.{$1}\n";
+                fill(&mut out, line, &[scope.crate_name, name])?;
+            }
+        }
+    }
+    if has_borrowed {
+        out.push_str(PLACE_IN)?;
+    }
+    if has_contents {
+        out.push_str(TOKEN_IN)?;
+    }
+    for index in scope.choices.iter() {
+        for form in [Form::Owned, Form::Borrowed] {
+            if scope.grammar.forms(*index).has(form) {
+                add_node_in(&mut out, scope, form, *index)?;
+            }
+        }
+    }
+    Ok(out)
+}
+
+/// What the places of borrowed wrappers need.
+fn places(has_nodes: bool, has_tokens: bool) -> &'static str {
+    match (has_nodes, has_tokens) {
+        (false, false) => "",
+        (true, false) => "use Rattle.rowan.specs.Refs.{node_place}\n",
+        (false, true) => "use Rattle.rowan.specs.Refs.{token_place}\n",
+        (true, true) => "use Rattle.rowan.specs.Refs.{node_place, token_place}\n",
+    }
+}
+
+/// The node in the wrapper of a choice. What is borrowed is in a wrapper of its own also where it is
+/// a node.
+fn add_node_in(
+    out: &mut String,
+    scope: &Scope<'_>,
+    form: Form,
+    choice: usize,
+) -> Result<(), AllocError> {
+    let whole = String::from_str(scope.alloc, scope.grammar.wrapper(form, choice))?;
+    let word = scope.node_of(form, choice)?;
+    let head = "\nabbrev pub $0 : $1 → Cursor\n";
+    fill(out, head, &[word.as_str(), whole.as_str()])?;
+    for used in scope.grammar.alternatives(choice).iter() {
+        let is_plain = form == Form::Owned && scope.grammar.sort(used.item) == Sort::Node;
+        let template = match is_plain {
+            true => "$0 ($1.$2 node) = node\n",
+            false => "$0 ($1.$2 node) = $3 node\n",
+        };
+        let one = scope.grammar.name(used.item);
+        let inner = scope.node_of(form, used.item)?;
+        let values = [word.as_str(), whole.as_str(), one, inner.as_str()];
+        fill(out, template, &values)?;
+    }
+    Ok(())
+}
+
+const LEMMAS: &str = "\
+-- What casts to an alternative casts to the whole.
+use Rattle.std.specs.Prelude.{◌≡◌, ℕ, Bool, true, false, Option, Some, None}
+use Rattle.std.specs.Option.{option_map, option_map_or}
+use Rattle.std.proofs.lemmas.Bool.{or_left, or_right}
+$3use Rattle.$0.specs.declared.$2.Kind.{Kind}
+$1use Rattle.$0.specs.Kinds.{kind_of}
+
+cast_to_more : (p q : Kind → Bool) → ((k : Kind) → p k ≡ true → q k ≡ true)
+    → (raw : Option ℕ)
+    → option_map_or p (option_map kind_of raw) false ≡ true
+    → option_map_or q (option_map kind_of raw) false ≡ true
+cast_to_more p q more (Some raw) casts = more (kind_of raw) casts
+cast_to_more p q more None casts = casts
+";
+
+/// What the lemmas on nodes need.
+const OF_NODES: &str = "\
+use Rattle.rowan.specs.Cursor.{Cursor, kind}
+use Rattle.rowan.specs.Ast.{casts_at}
+";
+
+/// A lemma on what a raw kind means, by which borrowed wrappers are proved.
+const RAW_LEMMA: &str = "
+pub $0_is_$1_raw : (raw : Option ℕ)
+    → option_map_or is_$0 (option_map kind_of raw) false ≡ true
+    → option_map_or is_$1 (option_map kind_of raw) false ≡ true
+$0_is_$1_raw = cast_to_more is_$0 is_$1
+    (λ k casts. $2)
+";
+
+/// A lemma on a node, by which owned wrappers are proved.
+const LEMMA: &str = "
+pub $0_is_$1 : (c : Cursor)
+    → casts_at kind_of is_$0 c ≡ true → casts_at kind_of is_$1 c ≡ true
+$0_is_$1 c = $0_is_$1_raw (kind c)
+";
+
+/// The text of `proofs/CastLemmas.antt`.
+pub fn cast_lemmas(scope: &Scope<'_>) -> Result<String, AllocError> {
+    let mut out = String::new(scope.alloc);
+    let imports = cast_imports(scope)?;
+    let mut choices = scope.choices.iter();
+    let has_owned = choices.any(|index| scope.grammar.forms(*index).owned);
+    let values = [
+        scope.crate_name,
+        imports.as_str(),
+        scope.module,
+        if has_owned { OF_NODES } else { "" },
+    ];
+    fill(&mut out, LEMMAS, &values)?;
+    for index in scope.choices.iter() {
+        add_lemmas(&mut out, scope, *index)?;
+    }
+    Ok(out)
+}
+
+/// The lemmas of the alternatives of one choice.
+fn add_lemmas(out: &mut String, scope: &Scope<'_>, choice: usize) -> Result<(), AllocError> {
+    for (number, used) in scope.grammar.alternatives(choice).iter().enumerate() {
+        let one = scope.grammar.snake(used.item);
+        let term = way_to(scope, choice, number)?;
+        let values = [one, scope.grammar.snake(choice), term.as_str()];
+        fill(out, RAW_LEMMA, &values)?;
+        if scope.grammar.forms(choice).owned {
+            fill(out, LEMMA, &values)?;
+        }
+    }
+    Ok(())
+}
+
+/// How the alternative with this number is one of all: those to the left of it come first.
+fn way_to(scope: &Scope<'_>, choice: usize, number: usize) -> Result<String, AllocError> {
+    let mut out = String::new(scope.alloc);
+    let alternatives = scope.grammar.alternatives(choice);
+    let is_last = number.saturating_add(1) == alternatives.len();
+    for (step, used) in alternatives.iter().enumerate().take(number) {
+        let one = scope.grammar.snake(used.item);
+        fill(&mut out, "or_right (is_$0 k) _ ", &[one])?;
+        if !is_last || step.saturating_add(1) < number {
+            out.push_str("(\n    ")?;
+        }
+    }
+    match alternatives.get(number) {
+        Some(used) if !is_last => {
+            let one = scope.grammar.snake(used.item);
+            fill(&mut out, "or_left (is_$0 k) _ casts", &[one])?;
+        }
+        _ => out.push_str("casts")?,
+    }
+    for _ in usize::from(is_last)..number {
+        out.push(')')?;
+    }
+    Ok(out)
+}
+
+/// The lines that import what casts to the choices and to their alternatives, each name once.
+fn cast_imports(scope: &Scope<'_>) -> Result<String, AllocError> {
+    let mut names = String::new(scope.alloc);
+    fill(
+        &mut names,
+        "use Rattle.$0.specs.Casts.{",
+        &[scope.crate_name],
+    )?;
+    let mut imports = Imports::new(scope.alloc, names.as_str(), "")?;
+    let mut is_named: Vec<bool> = vec![in scope.alloc; false; scope.grammar.items.len()]?;
+    for index in scope.choices.iter() {
+        add_cast(&mut imports, scope, &mut is_named, *index)?;
+        for used in scope.grammar.alternatives(*index).iter() {
+            add_cast(&mut imports, scope, &mut is_named, used.item)?;
+        }
+    }
+    String::from_str(scope.alloc, imports.finish()?)
+}
+
+fn add_cast(
+    imports: &mut Imports,
+    scope: &Scope<'_>,
+    is_named: &mut Vec<bool>,
+    index: usize,
+) -> Result<(), AllocError> {
+    if let Some(slot) = is_named.get_mut(index) {
+        if !*slot {
+            *slot = true;
+            let name = format!(in scope.alloc; "is_{}", scope.grammar.snake(index))?;
+            imports.add(name.as_str())?;
+        }
+    }
+    Ok(())
+}

@@ -1,0 +1,262 @@
+//! The wrappers of nodes as source text.
+use crate::accessors::{add_call_imports, add_calls, add_kinds};
+use crate::writer::{Scope, add_docs, cast_head, fill, kind_test};
+use rowan_grammar_model::forms::Form;
+use rowan_grammar_model::grammar::Item;
+use std::alloc::AllocError;
+
+/// What wrappers of nodes of one kind are: a type for each number of a kind.
+const NODE_OF: &str = "
+/// A node whose kind has this number.
+#[derive(Clone, PartialEq, Eq, Hash, Drop)]
+pub struct NodeOf<const KIND: u16> {
+    syntax: @SyntaxNode<$1>,
+}
+
+impl<const KIND: u16> @Model for NodeOf<KIND> {
+    ghost use Rattle.std.specs.Prelude.{◌≡◌, true};
+    ghost use Rattle.rowan.specs.Cursor.{Cursor};
+    ghost use Rattle.rowan.specs.CursorCode.{coded_cursor};
+    ghost use Rattle.rowan.specs.Ast.{casts_at};
+    ghost use Rattle.$0.specs.Casts.{has_number};
+    ghost use Rattle.$0.specs.Kinds.{kind_of};
+
+    ghost Value = { Cursor };
+
+    ghost coded = { coded_cursor };
+
+    ghost view = { λ wrapper. wrapper.syntax };
+
+    ghost inverse = { λ node. record { syntax = node } };
+
+    ghost invariant = { λ wrapper. casts_at kind_of (has_number KIND) wrapper.syntax ≡ true };
+}
+
+impl<const KIND: u16> @AstNode for NodeOf<KIND> {
+    type Language = $1;
+
+    ghost use Rattle.std.specs.Prelude.{◌≡◌};
+    ghost use Rattle.std.specs.Option.{option_map};
+    ghost use Rattle.rowan.specs.Ast.{casts_at, if_casts};
+    ghost use Rattle.$0.specs.Casts.{has_number, same_kind};
+    ghost use Rattle.$0.specs.Kinds.{kind_of};
+    ghost use Rattle.std.proofs.Common.{ap};
+
+    ghost casts = { has_number KIND };
+
+    ghost node_of = { λ wrapper. wrapper };
+
+    fn can_cast(kind: Kind) -> bool {
+$3
+    }
+
+$2
+        ensures { let casting = casts_at kind_of (has_number KIND) in
+            option_map (λ wrapper. wrapper) result ≡ if_casts casting syntax }
+    {
+        if Self::can_cast(syntax.kind()) {
+            Some(NodeOf { syntax })
+        } else {
+            None
+        }
+    }
+
+    fn syntax(&self) -> &@SyntaxNode<$1> {
+        &self.syntax
+    }
+
+    ghost equal_kinds = { λ a b same. ap (has_number KIND) (same_kind a b same) };
+}
+";
+
+/// What leads from owned wrappers to borrowed ones.
+const AS_REF: &str = "
+impl<const KIND: u16> NodeOf<KIND> {
+    ghost use Rattle.std.specs.Prelude.{◌≡◌};
+    ghost use Rattle.$0.specs.NodeIn.{place_in};
+
+    /// The same node, borrowed from its tree.
+    pub fn as_ref(&self) -> NodeOfRef<'_, KIND>
+        ensures { place_in result ≡ self.now }
+    {
+        NodeOfRef {
+            syntax: self.syntax.as_ref(),
+        }
+    }
+}
+";
+
+/// The same of borrowed ones.
+const NODE_OF_REF: &str = "
+/// A node whose kind has this number, borrowed from its tree.
+#[derive(Clone, Copy, PartialEq, Eq, Hash)]
+pub struct NodeOfRef<'tree, const KIND: u16> {
+    syntax: @SyntaxNodeRef<'tree, $1>,
+    ghost casts: { casts_at kind_of (has_number KIND) (node_place syntax) ≡ true },
+}
+
+impl<'tree, const KIND: u16> @AstNodeRef<'tree> for NodeOfRef<'tree, KIND> {
+    type Language = $1;
+
+    ghost use Rattle.std.specs.Prelude.{◌≡◌, true};
+    ghost use Rattle.std.specs.Option.{option_map};
+    ghost use Rattle.rowan.specs.Ast.{casts_at, if_casts};
+    ghost use Rattle.rowan.specs.Refs.{node_place};
+    ghost use Rattle.$0.specs.Casts.{has_number};
+    ghost use Rattle.$0.specs.Kinds.{kind_of};
+    ghost use Rattle.$0.specs.NodeIn.{place_in};
+
+    ghost casts = { has_number KIND };
+
+    ghost node_of = { place_in };
+
+    fn can_cast(kind: Kind) -> bool
+        ensures { result ≡ has_number KIND kind }
+    {
+$3
+    }
+
+$2
+        ensures { let casting = casts_at kind_of (has_number KIND) in
+            option_map place_in result ≡ if_casts casting (node_place syntax.entry) }
+    {
+        if Self::can_cast(syntax.kind()) {
+            Some(NodeOfRef { syntax })
+        } else {
+            None
+        }
+    }
+
+    fn syntax(&self) -> @SyntaxNodeRef<'tree, $1>
+        ensures node { node_place result ≡ place_in self.now }
+        ensures casts { casts_at kind_of (has_number KIND) (node_place result) ≡ true }
+    {
+        self.syntax
+    }
+}
+";
+
+/// What leads from borrowed wrappers to owned ones.
+const TO_OWNED: &str = "
+impl<'tree, const KIND: u16> NodeOfRef<'tree, KIND> {
+    ghost use Rattle.std.specs.Prelude.{◌≡◌, IfOk, IfErr};
+    ghost use Rattle.$0.specs.NodeIn.{place_in};
+
+    /// The same node in a wrapper that keeps the tree. Refused with `Memory` alone.
+    pub fn to_owned(&self) -> @Result<NodeOf<KIND>, Fault>
+        ensures ok { IfOk result (λ owned. owned ≡ place_in self.now) }
+        ensures err { IfErr result (λ e. e ≡ Fault.Memory) }
+    {
+        let syntax = self.syntax.to_owned()?;
+        Ok(NodeOf { syntax })
+    }
+}
+";
+
+const DEBUG: &str = "
+impl<const KIND: u16> std::fmt::Debug for $0 {
+    fn fmt<W: std::fmt::Write>(&self, f: &mut std::fmt::Formatter<W>) -> std::fmt::Result {
+        self.syntax.fmt(f)
+    }
+}
+";
+
+/// The name of the owned wrapper of one kind.
+const NODE: &str = "pub type $0 = NodeOf<$2>;\n";
+
+/// That of the borrowed one.
+const NODE_REF: &str = "pub type $1<'tree> = NodeOfRef<'tree, $2>;\n";
+
+/// The types that wrappers of nodes of one kind are.
+pub fn add_node_types(out: &mut String, scope: &Scope<'_>) -> Result<(), AllocError> {
+    let test = kind_test(scope)?;
+    if scope.has_nodes(Form::Owned) {
+        let cast = cast_head(scope, "SyntaxNode", Form::Owned, "NodeOf<KIND>")?;
+        let values = [
+            scope.crate_name,
+            scope.language,
+            cast.as_str(),
+            test.as_str(),
+        ];
+        scope.fill(out, NODE_OF, &values)?;
+        if scope.has_both() {
+            scope.fill(out, AS_REF, &values)?;
+        }
+        fill(out, DEBUG, &["NodeOf<KIND>"])?;
+    }
+    if scope.has_nodes(Form::Borrowed) {
+        let into = "NodeOfRef<'tree, KIND>";
+        let cast = cast_head(scope, "SyntaxNodeRef", Form::Borrowed, into)?;
+        let values = [
+            scope.crate_name,
+            scope.language,
+            cast.as_str(),
+            test.as_str(),
+        ];
+        scope.fill(out, NODE_OF_REF, &values)?;
+        if scope.has_both() {
+            scope.fill(out, TO_OWNED, &values)?;
+        }
+        fill(out, DEBUG, &["NodeOfRef<'_, KIND>"])?;
+    }
+    Ok(())
+}
+
+/// The wrappers of a node, and their calls.
+pub fn add_node(
+    out: &mut String,
+    scope: &Scope<'_>,
+    item: &Item,
+    index: usize,
+) -> Result<(), AllocError> {
+    let number = format!(in scope.alloc; "{}", scope.kind_number(index))?;
+    let values = [item.name.as_str(), item.borrowed.as_str(), number.as_str()];
+    for form in [Form::Owned, Form::Borrowed] {
+        if item.forms.has(form) {
+            add_wrapper_docs(out, form, item)?;
+            let template = match form {
+                Form::Owned => NODE,
+                Form::Borrowed => NODE_REF,
+            };
+            fill(out, template, &values)?;
+        }
+    }
+    add_kinds(out, scope, index)?;
+    for form in [Form::Owned, Form::Borrowed] {
+        if item.forms.has(form) {
+            add_own_calls(out, scope, form, index)?;
+        }
+    }
+    Ok(())
+}
+
+/// The comment of a wrapper. Where there are both, the borrowed one has the name of the other.
+pub fn add_wrapper_docs(out: &mut String, form: Form, item: &Item) -> Result<(), AllocError> {
+    out.push('\n')?;
+    if form == Form::Borrowed && item.forms.owned {
+        let name = item.name.as_str();
+        return fill(out, "/// [`$0`], borrowed from its tree.\n", &[name]);
+    }
+    add_docs(out, "", item.docs.as_str(), item.rule.as_str())
+}
+
+/// The calls that a wrapper of a node has beside those of its trait: nothing where it has none.
+fn add_own_calls(
+    out: &mut String,
+    scope: &Scope<'_>,
+    form: Form,
+    index: usize,
+) -> Result<(), AllocError> {
+    let mut calls = scope.calls(index).iter();
+    if !calls.any(|call| scope.has_call(form, call)) {
+        return Ok(());
+    }
+    let head = match form {
+        Form::Owned => "\nimpl $0 {\n",
+        Form::Borrowed => "\nimpl<'tree> $0<'tree> {\n",
+    };
+    fill(out, head, &[scope.grammar.wrapper(form, index)])?;
+    add_call_imports(out, scope, form, index)?;
+    add_calls(out, scope, form, index)?;
+    out.push_str("}\n")
+}

@@ -1,0 +1,206 @@
+//! The wrappers of tokens whose text means something, as source text.
+use crate::writer::{Scope, add_docs, cast_head, fill, kind_test};
+use rowan_grammar_model::forms::Form;
+use rowan_grammar_model::grammar::Item;
+use std::alloc::AllocError;
+
+/// What wrappers of tokens are: a type for each number of a kind.
+const TOKEN_OF: &str = "
+/// A token whose kind has this number.
+#[derive(Clone, PartialEq, Eq, Hash, Drop)]
+pub struct TokenOf<const KIND: u16> {
+    syntax: @SyntaxToken<$1>,
+}
+
+impl<const KIND: u16> @Model for TokenOf<KIND> {
+    ghost use Rattle.std.specs.Prelude.{◌≡◌, true};
+    ghost use Rattle.rowan.specs.Cursor.{Cursor};
+    ghost use Rattle.rowan.specs.CursorCode.{coded_cursor};
+    ghost use Rattle.rowan.specs.Ast.{casts_at};
+    ghost use Rattle.$0.specs.Casts.{has_number};
+    ghost use Rattle.$0.specs.Kinds.{kind_of};
+
+    ghost Value = { Cursor };
+
+    ghost coded = { coded_cursor };
+
+    ghost view = { λ wrapper. wrapper.syntax };
+
+    ghost inverse = { λ token. record { syntax = token } };
+
+    ghost invariant = { λ wrapper. casts_at kind_of (has_number KIND) wrapper.syntax ≡ true };
+}
+
+impl<const KIND: u16> @AstToken for TokenOf<KIND> {
+    type Language = $1;
+
+    ghost use Rattle.std.specs.Prelude.{◌≡◌};
+    ghost use Rattle.std.specs.Option.{option_map};
+    ghost use Rattle.rowan.specs.Ast.{casts_at, if_casts};
+    ghost use Rattle.$0.specs.Casts.{has_number};
+    ghost use Rattle.$0.specs.Kinds.{kind_of};
+
+    ghost casts = { has_number KIND };
+
+    ghost token_of = { λ wrapper. wrapper };
+
+    fn can_cast(kind: Kind) -> bool {
+$4
+    }
+
+$2
+        ensures { let casting = casts_at kind_of (has_number KIND) in
+            option_map (λ wrapper. wrapper) result ≡ if_casts casting syntax }
+    {
+        if Self::can_cast(syntax.kind()) {
+            Some(TokenOf { syntax })
+        } else {
+            None
+        }
+    }
+
+    fn syntax(&self) -> &@SyntaxToken<$1> {
+        &self.syntax
+    }
+}
+
+impl<const KIND: u16> TokenOf<KIND> {
+    ghost use Rattle.std.specs.Prelude.{◌≡◌};
+    ghost use Rattle.$0.specs.NodeIn.{token_in};
+
+    /// The same token, borrowed from its tree.
+    pub fn as_ref(&self) -> TokenOfRef<'_, KIND>
+        ensures { token_in result ≡ self.now }
+    {
+        TokenOfRef {
+            syntax: self.syntax.as_ref(),
+        }
+    }
+}
+
+impl<const KIND: u16> std::fmt::Debug for TokenOf<KIND> {
+    fn fmt<W: std::fmt::Write>(&self, f: &mut std::fmt::Formatter<W>) -> std::fmt::Result {
+        self.syntax.fmt(f)
+    }
+}
+";
+
+/// The same of borrowed ones.
+const TOKEN_OF_REF: &str = "
+/// A token whose kind has this number, borrowed from its tree.
+#[derive(Clone, Copy, PartialEq, Eq, Hash)]
+pub struct TokenOfRef<'tree, const KIND: u16> {
+    syntax: @SyntaxTokenRef<'tree, $1>,
+    ghost casts: { casts_at kind_of (has_number KIND) (token_place syntax) ≡ true },
+}
+
+impl<'tree, const KIND: u16> @AstTokenRef<'tree> for TokenOfRef<'tree, KIND> {
+    type Language = $1;
+
+    ghost use Rattle.std.specs.Prelude.{◌≡◌, true};
+    ghost use Rattle.std.specs.Option.{option_map};
+    ghost use Rattle.rowan.specs.Ast.{casts_at, if_casts};
+    ghost use Rattle.rowan.specs.Cursor.{text_at};
+    ghost use Rattle.rowan.specs.Refs.{token_place};
+    ghost use Rattle.$0.specs.Casts.{has_number};
+    ghost use Rattle.$0.specs.Kinds.{kind_of};
+    ghost use Rattle.$0.specs.NodeIn.{token_in};
+
+    ghost casts = { has_number KIND };
+
+    ghost token_of = { token_in };
+
+    fn can_cast(kind: Kind) -> bool
+        ensures { result ≡ has_number KIND kind }
+    {
+$4
+    }
+
+$3
+        ensures { let casting = casts_at kind_of (has_number KIND) in
+            option_map token_in result ≡ if_casts casting (token_place syntax.entry) }
+    {
+        if Self::can_cast(syntax.kind()) {
+            Some(TokenOfRef { syntax })
+        } else {
+            None
+        }
+    }
+
+    fn syntax(&self) -> @SyntaxTokenRef<'tree, $1>
+        ensures token { token_place result ≡ token_in self.now }
+        ensures casts { casts_at kind_of (has_number KIND) (token_place result) ≡ true }
+    {
+        self.syntax
+    }
+
+    fn text(&self) -> &'tree str
+        ensures { result.now ≡ text_at (token_in self.now) }
+    {
+        self.syntax.text()
+    }
+}
+
+impl<'tree, const KIND: u16> TokenOfRef<'tree, KIND> {
+    ghost use Rattle.std.specs.Prelude.{◌≡◌, IfOk, IfErr};
+    ghost use Rattle.$0.specs.NodeIn.{token_in};
+
+    /// The same token in a wrapper that keeps the tree. Refused with `Memory` alone.
+    pub fn to_owned(&self) -> @Result<TokenOf<KIND>, Fault>
+        ensures ok { IfOk result (λ owned. owned ≡ token_in self.now) }
+        ensures err { IfErr result (λ e. e ≡ Fault.Memory) }
+    {
+        let syntax = self.syntax.to_owned()?;
+        Ok(TokenOf { syntax })
+    }
+}
+
+impl<const KIND: u16> std::fmt::Debug for TokenOfRef<'_, KIND> {
+    fn fmt<W: std::fmt::Write>(&self, f: &mut std::fmt::Formatter<W>) -> std::fmt::Result {
+        self.syntax.fmt(f)
+    }
+}
+";
+
+/// The names of the wrappers of one kind.
+const TOKEN: &str = "\
+pub type $0 = TokenOf<$2>;
+
+/// [`$0`], borrowed from its tree.
+pub type $1<'tree> = TokenOfRef<'tree, $2>;
+";
+
+/// The types that wrappers of tokens are.
+pub fn add_token_types(out: &mut String, scope: &Scope<'_>) -> Result<(), AllocError> {
+    let test = kind_test(scope)?;
+    let cast = cast_head(scope, "SyntaxToken", Form::Owned, "TokenOf<KIND>")?;
+    let borrowed = cast_head(
+        scope,
+        "SyntaxTokenRef",
+        Form::Borrowed,
+        "TokenOfRef<'tree, KIND>",
+    )?;
+    let values = [
+        scope.crate_name,
+        scope.language,
+        cast.as_str(),
+        borrowed.as_str(),
+        test.as_str(),
+    ];
+    scope.fill(out, TOKEN_OF, &values)?;
+    scope.fill(out, TOKEN_OF_REF, &values)
+}
+
+/// The wrappers of a token.
+pub fn add_token(
+    out: &mut String,
+    scope: &Scope<'_>,
+    item: &Item,
+    index: usize,
+) -> Result<(), AllocError> {
+    out.push('\n')?;
+    add_docs(out, "", item.docs.as_str(), "")?;
+    let number = format!(in scope.alloc; "{}", scope.kind_number(index))?;
+    let values = [item.name.as_str(), item.borrowed.as_str(), number.as_str()];
+    fill(out, TOKEN, &values)
+}

@@ -1,0 +1,213 @@
+//! The traits of parts that many nodes share, as source text.
+use crate::accessors::{add_clause_words, add_nodes_in, result_of};
+use crate::writer::{Scope, WIDTH, add_docs, arguments, fill, signature};
+use rowan_grammar_calls::calls::{Call, Gives};
+use rowan_grammar_calls::shared::Shared;
+use rowan_grammar_model::forms::Form;
+use std::alloc::AllocError;
+
+const CHILD: &str = "
+    /// The first child that is `$0`.
+$1
+        ensures ok { let casts = casts_at kind_of is_$2 in
+            IfOk result (λ found.
+            option_map $3 found ≡ find casts (children ($4 self.now))) }
+        ensures err { IfErr result (λ e. e ≡ Fault.Memory) }$5";
+
+const CHILD_REF: &str = "
+    /// The first child that is `$0`.
+$1
+        ensures { let casts = casts_at kind_of is_$2 in
+            option_map $3 result ≡ find casts (children ($4 self.now)) }$5";
+
+const CHILDREN: &str = "
+    /// The children that are `$0`, in order.
+$1
+        ensures ok { IfOk result (λ nodes. nodes ≡ children ($4 self.now)) }
+        ensures err { IfErr result (λ e. e ≡ Fault.Memory) }$5";
+
+const CHILDREN_REF: &str = "
+    /// The children that are `$0`, in order.
+$1
+        ensures { let casts = casts_at kind_of is_$2 in
+            rest_that_casts casts result ≡ filter casts (children ($4 self.now)) }$5";
+
+const TOKEN: &str = "
+    /// The first token `$0`.
+$1
+        ensures ok { let means = means_kind kind_of (sameb the_type) Kind.$0 in
+            IfOk result (λ found. option_map Token found
+            ≡ find (is_token_of means) (children_with_tokens ($4 self.now))) }
+        ensures err { IfErr result (λ e. e ≡ Fault.Memory) }$5";
+
+const TOKEN_REF: &str = "
+    /// The first token `$0`.
+$1
+        ensures { let means = means_kind kind_of (sameb the_type) Kind.$0 in
+            option_map Token (option_map token_place result)
+            ≡ find (is_token_of means) (children_with_tokens ($4 self.now)) }$5";
+
+/// The traits, and what has them. A trait has the form of wrappers that all its calls have.
+pub fn add_traits(out: &mut String, scope: &Scope<'_>) -> Result<(), AllocError> {
+    for shared in scope.traits.iter() {
+        for form in [Form::Owned, Form::Borrowed] {
+            if shared.forms.has(form) {
+                add_trait(out, scope, form, shared)?;
+            }
+        }
+    }
+    Ok(())
+}
+
+/// A trait, and its impls. Owned wrappers have its calls by their bodies in the trait.
+fn add_trait(
+    out: &mut String,
+    scope: &Scope<'_>,
+    form: Form,
+    shared: &Shared,
+) -> Result<(), AllocError> {
+    let name = scope.grammar.name(shared.item);
+    out.push('\n')?;
+    match form {
+        Form::Borrowed if shared.forms.owned => {
+            fill(
+                out,
+                "/// [`$0`], of wrappers that borrow the tree.\n",
+                &[name],
+            )?;
+        }
+        _ => add_docs(out, "", scope.grammar.docs(shared.item), "")?,
+    }
+    add_head(out, scope, form, scope.grammar.wrapper(form, shared.item))?;
+    add_clause_words(out, scope, form, shared.item)?;
+    add_nodes_in(out, scope, form, None, scope.calls(shared.item))?;
+    for call in scope.calls(shared.item).iter() {
+        let body = match form {
+            Form::Owned => body_of(scope, form, call)?,
+            Form::Borrowed => String::from_str(scope.alloc, ";\n")?,
+        };
+        let node_of = String::from_str(scope.alloc, "Self.node_of")?;
+        add_call(out, scope, form, call, node_of, body)?;
+    }
+    out.push_str("}\n")?;
+    for user in shared.users.iter() {
+        if scope.grammar.forms(*user).has(form) {
+            add_impl(out, scope, form, shared, *user)?;
+        }
+    }
+    Ok(())
+}
+
+/// The first line of a trait, or its parts on lines of their own where it is long.
+fn add_head(out: &mut String, scope: &Scope<'_>, form: Form, name: &str) -> Result<(), AllocError> {
+    let alloc = scope.alloc;
+    let (above, inside, outside) = match form {
+        Form::Owned => (scope.outside("AstNode"), "", ""),
+        Form::Borrowed => (scope.outside("AstNodeRef"), "'tree, ", "    'tree,\n"),
+    };
+    let lifetime = form.lifetime();
+    let start = format!(in alloc; "pub trait {name}{lifetime}: {above}<")?;
+    let language = scope.language;
+    let line = format!(in alloc; "{start}{inside}Language = {language}> {{")?;
+    match line.len() > WIDTH {
+        true => writeln!(out, "{start}\n{outside}    Language = {language},\n> {{"),
+        false => writeln!(out, "{line}"),
+    }
+}
+
+/// The impl of a trait for a node or a choice.
+fn add_impl(
+    out: &mut String,
+    scope: &Scope<'_>,
+    form: Form,
+    shared: &Shared,
+    user: usize,
+) -> Result<(), AllocError> {
+    let alloc = scope.alloc;
+    let lifetime = form.lifetime();
+    let name = scope.grammar.wrapper(form, shared.item);
+    let whole = scope.grammar.wrapper(form, user);
+    let start = format!(in alloc; "impl{lifetime} {name}{lifetime}")?;
+    let of = format!(in alloc; "for {whole}{lifetime}")?;
+    let brace = match form {
+        Form::Owned => "{}",
+        Form::Borrowed => "{",
+    };
+    let line = format!(in alloc; "{start} {of} {brace}")?;
+    match line.len() > WIDTH {
+        true => writeln!(out, "\n{start}\n    {of} {brace}")?,
+        false => writeln!(out, "\n{line}")?,
+    }
+    if form == Form::Owned {
+        return Ok(());
+    }
+    let node_of = scope.node_of(form, user)?;
+    add_clause_words(out, scope, form, shared.item)?;
+    let calls = scope.calls(shared.item);
+    add_nodes_in(out, scope, form, Some(node_of.clone()?), calls)?;
+    for call in calls.iter() {
+        let body = body_of(scope, form, call)?;
+        add_call(out, scope, form, call, node_of.clone()?, body)?;
+    }
+    out.push_str("}\n")
+}
+
+/// A call of a trait, by the function from the wrapper to its node, and what stands behind its
+/// contract.
+fn add_call(
+    out: &mut String,
+    scope: &Scope<'_>,
+    form: Form,
+    call: &Call,
+    node_of: String,
+    body: String,
+) -> Result<(), AllocError> {
+    let alloc = scope.alloc;
+    let item = call.item().unwrap_or(0);
+    let start = format!(in alloc; "    fn {}", call.name)?;
+    let result = result_of(scope, form, call)?;
+    let head = signature(alloc, start.as_str(), "&self", result.as_str())?;
+    let inner = scope.node_of(form, item)?;
+    let values = [
+        scope.grammar.name(item),
+        head.as_str(),
+        scope.grammar.snake(item),
+        inner.as_str(),
+        node_of.as_str(),
+        body.as_str(),
+    ];
+    fill(out, template_of(form, call.gives), &values)
+}
+
+fn template_of(form: Form, gives: Gives) -> &'static str {
+    match (form, gives) {
+        (Form::Owned, Gives::Child(_) | Gives::NthChild(_, _)) => CHILD,
+        (Form::Owned, Gives::Children(_)) => CHILDREN,
+        (Form::Owned, Gives::Token(_) | Gives::NthToken(_)) => TOKEN,
+        (Form::Borrowed, Gives::Child(_) | Gives::NthChild(_, _)) => CHILD_REF,
+        (Form::Borrowed, Gives::Children(_)) => CHILDREN_REF,
+        (Form::Borrowed, Gives::Token(_) | Gives::NthToken(_)) => TOKEN_REF,
+    }
+}
+
+/// The body of a call.
+fn body_of(scope: &Scope<'_>, form: Form, call: &Call) -> Result<String, AllocError> {
+    let alloc = scope.alloc;
+    let function = match (form, call.gives) {
+        (Form::Owned, Gives::Child(_) | Gives::NthChild(_, _)) => "child",
+        (Form::Owned, Gives::Children(_)) => "children",
+        (Form::Owned, Gives::Token(_) | Gives::NthToken(_)) => "token",
+        (Form::Borrowed, Gives::Child(_) | Gives::NthChild(_, _)) => "child_ref",
+        (Form::Borrowed, Gives::Children(_)) => "children_ref",
+        (Form::Borrowed, Gives::Token(_) | Gives::NthToken(_)) => "token_of",
+    };
+    let values = match call.gives {
+        Gives::Token(item) => format!(in alloc;
+            "self.syntax()\nKind::{}",
+            scope.grammar.name(item)
+        )?,
+        _ => format!(in alloc; "self.syntax()")?,
+    };
+    let values = arguments(alloc, values.as_str(), ",")?;
+    format!(in alloc; "\n    {{\n        support::{function}({values})\n    }}\n")
+}
