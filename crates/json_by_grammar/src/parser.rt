@@ -4,6 +4,7 @@ ghost use Rattle.std.specs.Prelude.{◌≡◌, ◌<◌, [], length, IfOk, IfErr}
 ghost use Rattle.rowan.specs.Fits.{byte_limit};
 ghost use Rattle.rowan.specs.Term.{node_kind, node_text};
 ghost use Rattle.rowan_parser.specs.Parsing.{WhyNoTree};
+ghost use Rattle.rowan_predictive.specs.Causes.{WhyNoGrammar};
 ghost use Rattle.rowan_predictive.specs.Parsing.{HasTree, IsTreeBy};
 ghost use Rattle.rowan_predictive.specs.View.{rules_in, rules_prop};
 ghost use Rattle.json_by_grammar.specs.declared.parser.TheConstants.{RULES, SKIPPED};
@@ -109,7 +110,9 @@ impl JsonParser {
     /// Finds by which tokens the rules begin and which may stand behind them.
     ///
     /// Errors: `Memory` if an allocation failed. The rules are such that nothing else is in the way.
-    pub fn new(alloc: Global) -> Result<JsonParser, GrammarError> {
+    pub fn new(alloc: Global) -> Result<JsonParser, GrammarError>
+        ensures err { IfErr result (WhyNoGrammar RULES) }
+    {
         let grammar = Grammar::new(alloc, &RULES)?;
         Ok(JsonParser { grammar })
     }

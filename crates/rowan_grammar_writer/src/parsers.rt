@@ -14,6 +14,7 @@ ghost use Rattle.std.specs.Prelude.{◌≡◌, ◌<◌, [], length, IfOk, IfErr}
 ghost use Rattle.rowan.specs.Fits.{byte_limit};
 ghost use Rattle.rowan.specs.Term.{node_kind, node_text};
 ghost use Rattle.rowan_parser.specs.Parsing.{WhyNoTree};
+ghost use Rattle.rowan_predictive.specs.Causes.{WhyNoGrammar};
 ghost use Rattle.rowan_predictive.specs.Parsing.{HasTree, IsTreeBy};
 ghost use Rattle.rowan_predictive.specs.View.{rules_in, rules_prop};
 ghost use Rattle.$2.specs.declared.parser.TheConstants.{RULES, SKIPPED};
@@ -54,6 +55,8 @@ impl $0Parser {
     ///
     /// Errors: `Memory` if an allocation failed. The rules are such that nothing else is in the way.
 $7
+        ensures err { IfErr result (WhyNoGrammar RULES) }
+    {
         let grammar = Grammar::new(alloc, &RULES)?;
         Ok($0Parser { grammar })
     }
@@ -120,7 +123,7 @@ pub fn parser_code(scope: &Scope<'_>) -> Result<Option<String>, AllocError> {
     let root = format!(in alloc; "{}", number_of(scope, scope.root))?;
     let error = format!(in alloc; "{}", number_of(scope, scope.error))?;
     let start = format!(in alloc; "{}", rules.start)?;
-    let gives = format!(in alloc; "Result<{}Parser, GrammarError> {{", scope.language)?;
+    let gives = format!(in alloc; "Result<{}Parser, GrammarError>", scope.language)?;
     let making = signature(alloc, "    pub fn new", "alloc: Global", gives.as_str())?;
     let values = [
         scope.language,

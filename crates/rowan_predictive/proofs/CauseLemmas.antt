@@ -3,18 +3,21 @@ use Rattle.std.proofs.Common.{◌≡◌, ℕ, zero, suc, ◌||◌, ◌==◌, Boo
 use Rattle.std.specs.Prelude.{◌&&◌, ◌<◌, ltb, Option, Some, None, IfSome, slice_get}
 use Rattle.rowan_predictive.specs.Choice.{empty_of, may_be_empty}
 use Rattle.rowan_predictive.specs.Sets.{first_in, follow_in, first_set, follow_set}
-use Rattle.std.specs.List.{slice_set}
+use Rattle.std.specs.List.{slice_set, All}
+use Rattle.std.proofs.lemmas.List.Elements.{All-nil, All-push}
 use Rattle.std.proofs.lemmas.Bool.{or_cases}
 use Rattle.std.proofs.lemmas.Option.{slice_get_read}
 use Rattle.std.proofs.lemmas.Bool.Decides.{nat_tests}
 use Rattle.rowan_parser.specs.Seen.{has}
 use Rattle.rowan_parser.specs.declared.token_set.TokenSet.{TokenSet}
+use Rattle.rowan_predictive.specs.declared.refusals.GrammarError.{GrammarError}
+use Rattle.rowan_predictive.specs.declared.refusals.GrammarError.TheVariants.{NoRule, KindTooLarge, Endless, LeftRecursion, BeginsBoth, BeginsAndFollows, EmptyTwice, TooLarge, Memory}
 use Rattle.rowan_predictive.specs.declared.rules.Entry.{Entry}
 use Rattle.rowan_predictive.specs.declared.rules.Facts.{Facts}
 use Rattle.rowan_predictive.specs.declared.rules.Rule.{Rule}
 use Rattle.rowan_predictive.specs.declared.rules.Rule.TheVariants.{Empty, Token, Node, Chain, Wrap, Seq, Choice, Optional, Star}
 use Rattle.rowan_predictive.specs.Derivations.{HasRule}
-use Rattle.rowan_predictive.specs.Causes.{IsNullable, MayBegin, MayFollow, StartsWith, StopsWith, IsSo, AreSo, IsBegun, AreKnown, IsWay, IsCycle, LeadsTo}
+use Rattle.rowan_predictive.specs.Causes.{IsNullable, MayBegin, MayFollow, StartsWith, StopsWith, IsSo, AreSo, IsBegun, AreKnown, IsWay, IsCycle, LeadsTo, WhyNoGrammar, IsConflict}
 use Rattle.rowan_predictive.specs.Causes as may
 use Rattle.rowan_predictive.proofs.SetLemmas.{none-in}
 
@@ -315,3 +318,32 @@ cycle by rules row new first at next way leads is same = record {
   way = subst (λ (x : ℕ). IsWay by rules first new x) same (onwards by rules row new first at next way leads is);
   some = subst (λ (x : List ℕ). 0 < length x) (sym is) (some-pushed row at);
 }
+
+-- ---- what is told
+
+-- without choices, what begins both parts of one is told as it is
+pub told : (rules : List Rule) (e : GrammarError) → WhyNoGrammar rules e → IsConflict rules e
+told rules (BeginsBoth i a b kind) why = record {
+  first = a;
+  second = b;
+  is = why.is;
+  way = may.itself;
+  other_way = may.itself;
+  begins = why.first;
+  other_begins = why.second;
+}
+told rules (NoRule i part) why = why
+told rules (KindTooLarge i kind) why = why
+told rules (Endless cycle) why = why
+told rules (LeftRecursion cycle) why = why
+told rules (BeginsAndFollows i kind) why = why
+told rules (EmptyTwice i) why = why
+told rules (TooLarge i) why = why
+told rules Memory why = why
+
+-- a list of one error
+pub alone : (rules : List Rule) (old new : List GrammarError) (e : GrammarError) → old ≡ [] → new ≡ old ++ e ∷ []
+    → WhyNoGrammar rules e → All (IsConflict rules) new
+alone rules old new e empty is why =
+    subst (λ (es : List GrammarError). All (IsConflict rules) es) (sym is)
+    (All-push (IsConflict rules) old e (subst (λ (es : List GrammarError). All (IsConflict rules) es) (sym empty) (All-nil (IsConflict rules))) (told rules e why))

@@ -180,3 +180,37 @@ WhyNoGrammar rules (BeginsAndFollows i kind) = IsBothSides rules i kind
 WhyNoGrammar rules (EmptyTwice i) = (rule : Rule) × HasRule rules i rule × IsEmptyTwice rules rule
 WhyNoGrammar rules (TooLarge i) = ⊤
 WhyNoGrammar rules Memory = ⊤
+
+-- ---- what is told of them to those who write grammars
+
+-- rule i is a choice, and rule j one of its two parts
+abbrev pub IsPartOf : List Rule → ℕ → ℕ → Type 0
+IsPartOf rules i j = (a : ℕ) × (b : ℕ) × HasRule rules i (Choice a b) × ((j ≡ a) ⊎ (j ≡ b))
+
+-- rule j is rule i, or what choices of choices lead to from it
+pub data IsAmong (rules : List Rule) : ℕ → ℕ → Type 0 where
+  itself : {i : ℕ} → IsAmong rules i i
+  further : {i j k : ℕ} → IsAmong rules i j → IsPartOf rules j k → IsAmong rules i k
+
+-- A choice between rules that may both begin with a token of this kind. Where these are choices
+-- themselves, rules a and b are what is chosen in the end.
+pub record ChoosesBoth (rules : List Rule) (i a b kind : ℕ) : Type 0 where
+  pub first : ℕ
+  pub second : ℕ
+  pub is : HasRule rules i (Choice first second)
+  pub way : IsAmong rules first a
+  pub other_way : IsAmong rules second b
+  pub begins : MayBegin rules kind a
+  pub other_begins : MayBegin rules kind b
+
+-- why there is no grammar of these rules, with what is chosen in the end
+abbrev pub IsConflict : List Rule → GrammarError → Type 0
+IsConflict rules (BeginsBoth i a b kind) = ChoosesBoth rules i a b kind
+IsConflict rules (NoRule i part) = WhyNoGrammar rules (NoRule i part)
+IsConflict rules (KindTooLarge i kind) = WhyNoGrammar rules (KindTooLarge i kind)
+IsConflict rules (Endless cycle) = WhyNoGrammar rules (Endless cycle)
+IsConflict rules (LeftRecursion cycle) = WhyNoGrammar rules (LeftRecursion cycle)
+IsConflict rules (BeginsAndFollows i kind) = WhyNoGrammar rules (BeginsAndFollows i kind)
+IsConflict rules (EmptyTwice i) = WhyNoGrammar rules (EmptyTwice i)
+IsConflict rules (TooLarge i) = WhyNoGrammar rules (TooLarge i)
+IsConflict rules Memory = WhyNoGrammar rules Memory

@@ -1,40 +1,72 @@
 //! All that is wrong with rules, for those who write grammars.
-ghost use Rattle.std.specs.Prelude.{◌≡◌, [], Some, slice_get, IsNone, IfOk, OnOk};
+ghost use Rattle.std.specs.Prelude.{◌≡◌, [], Some, slice_get, IsNone, IfSome, IfOk, OnOk};
+ghost use Rattle.std.specs.List.{All};
 ghost use Rattle.rowan_predictive.specs.declared.rules.Entry.{Entry};
-ghost use Rattle.rowan_predictive.specs.Causes.{IsKnown};
+ghost use Rattle.rowan_predictive.specs.Causes.{IsAmong, IsConflict, IsKnown, IsPartOf, MayBegin};
+ghost use Rattle.rowan_predictive.specs.Causes.{WhyNoGrammar};
 ghost use Rattle.rowan_predictive.specs.Predictive.{IsFit, IsPredictive};
-ghost use Rattle.rowan_predictive.specs.View.{IsGrammar};
+ghost use Rattle.rowan_predictive.specs.View.{IsGrammar, rules_of};
 
-use crate::choice::is_begun;
+use crate::choice::first;
 use crate::costs::is_bounded;
 use crate::finding::{find_facts, steps_per_token};
 use crate::making::entries_of;
 use crate::refusals::{GrammarError, check_rules, explain_rule, explain_steps};
 use crate::rules::{Entry, Rule};
 use crate::testing::is_fit_at;
+use rowan::SyntaxKind;
 use std::alloc::{AllocError, Global};
 
+/// A rule, if it may begin by this token.
+fn if_begun(entries: &[Entry], number: usize, kind: u16) -> Option<usize>
+    requires { IsKnown entries.now }
+    ensures { IfSome result (λ j. (j ≡ number) × MayBegin (rules_of entries.now) kind number) }
+{
+    if first(entries, number).contains(SyntaxKind(kind)) {
+        return Some(number);
+    }
+    None
+}
+
+/// The part of a choice that begins by this token. Of another rule there is none.
+fn begun_part(entries: &[Entry], number: usize, kind: u16) -> Option<usize>
+    requires { IsKnown entries.now }
+    ensures { IfSome result (λ part. IsPartOf (rules_of entries.now) number part
+        × MayBegin (rules_of entries.now) kind part) }
+{
+    let entry = entries.get(number)?;
+    let Rule::Choice(a, b) = entry.rule else {
+        return None;
+    };
+    match if_begun(entries, a, kind) {
+        Some(part) => Some(part),
+        None => if_begun(entries, b, kind),
+    }
+}
+
 /// What is behind choices of choices where this is the next token.
-fn chosen(entries: &[Entry], number: usize, kind: u16) -> usize {
+fn chosen(entries: &[Entry], number: usize, kind: u16) -> usize
+    requires { IsKnown entries.now }
+    ensures way { IsAmong (rules_of entries.now) number result }
+    ensures begins { MayBegin (rules_of entries.now) kind number
+        → MayBegin (rules_of entries.now) kind result }
+{
     let mut at = number;
     for _step in 0..entries.len() {
-        let Some(entry) = entries.get(at) else {
-            break;
-        };
-        let Rule::Choice(a, b) = entry.rule else {
-            break;
-        };
-        at = if is_begun(entries, a, Some(kind)) {
-            a
-        } else {
-            b
-        };
+        match begun_part(entries, at, kind) {
+            Some(part) => at = part,
+            None => break,
+        }
     }
     at
 }
 
 /// The error with what is chosen in the end in place of choices.
-fn narrowed(entries: &[Entry], error: GrammarError) -> GrammarError {
+fn narrowed(entries: &[Entry], error: GrammarError) -> GrammarError
+    requires { IsKnown entries.now }
+    ensures { WhyNoGrammar (rules_of entries.now) error
+        → IsConflict (rules_of entries.now) result }
+{
     match error {
         GrammarError::BeginsBoth {
             rule,
@@ -54,8 +86,9 @@ fn narrowed(entries: &[Entry], error: GrammarError) -> GrammarError {
 /// Why the next token does not say what to do at a rule, if it does not.
 fn conflict_at(entries: &[Entry], number: usize) -> Option<GrammarError>
     requires { IsKnown entries.now }
-    ensures { IsNone result → (entry : Entry) → slice_get entries.now number ≡ Some entry
+    ensures none { IsNone result → (entry : Entry) → slice_get entries.now number ≡ Some entry
         → IsFit entries.now number entry.rule }
+    ensures some { IfSome result (IsConflict (rules_of entries.now)) }
 {
     if is_fit_at(entries, number) {
         return None;
@@ -68,7 +101,9 @@ fn conflict_at(entries: &[Entry], number: usize) -> Option<GrammarError>
 /// Adds what there is of that.
 fn add_conflicts(found: &mut Vec<GrammarError>, entries: &[Entry]) -> Result<(), AllocError>
     requires { IsKnown entries.now }
-    ensures { OnOk result (found.new.items ≡ [] → IsPredictive entries.now) }
+    ensures none { OnOk result (found.new.items ≡ [] → IsPredictive entries.now) }
+    ensures causes { OnOk result (All (IsConflict (rules_of entries.now)) found.old.items
+        → All (IsConflict (rules_of entries.now)) found.new.items) }
 {
     for number in 0..entries.len() {
         if let Some(error) = conflict_at(entries, number) {
@@ -85,7 +120,8 @@ fn add_conflicts(found: &mut Vec<GrammarError>, entries: &[Entry]) -> Result<(),
 ///
 /// Errors: `AllocError` if an allocation failed.
 pub fn conflicts_of(alloc: Global, rules: &[Rule]) -> Result<Vec<GrammarError>, AllocError>
-    ensures { IfOk result (λ found. found.items ≡ [] → IsGrammar rules.now) }
+    ensures none { IfOk result (λ found. found.items ≡ [] → IsGrammar rules.now) }
+    ensures causes { IfOk result (λ found. All (IsConflict rules.now) found.items) }
 {
     let mut found: Vec<GrammarError> = Vec::new(alloc);
     if let Err(error) = check_rules(rules) {
