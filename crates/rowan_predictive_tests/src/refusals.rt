@@ -1,5 +1,5 @@
 //! Rules that are no grammar, and why.
-use rowan_predictive::{Grammar, Rule};
+use rowan_predictive::{Grammar, Rule, conflicts_of};
 use std::test::Fail;
 
 #[test]
@@ -44,5 +44,31 @@ fn rules_are_refused_with_a_cause(rt: HostRuntime) -> Result<(), Fail> {
             }
         }
     }
+    Ok(())
+}
+
+const TOLD: &str = "\
+token 1 begins rules 4 and 5, and rule 0 is one of them
+rule 2 may be empty in two ways
+";
+
+/// All that is wrong is told at once, of choices in choices what is chosen in the end.
+#[test]
+fn conflicts_name_what_is_chosen(rt: HostRuntime) -> Result<(), Fail> {
+    let rules = [
+        Rule::Choice(1, 5),
+        Rule::Choice(3, 4),
+        Rule::Star(6),
+        Rule::Token(2),
+        Rule::Token(1),
+        Rule::Node(9, 7),
+        Rule::Empty,
+        Rule::Seq(4, 2),
+    ];
+    let mut told = String::new(rt.alloc());
+    for error in conflicts_of(rt.alloc(), &rules)?.iter() {
+        writeln!(told, "{error}")?;
+    }
+    assert_eq!(rt; told.as_str(), TOLD);
     Ok(())
 }

@@ -2,7 +2,7 @@
 use arithmetic_syntax::{Arithmetic, Kind, next_token};
 use rowan::{Fault, Language, SyntaxNode};
 use rowan_parser::{Parse, Trivia, token_set};
-use rowan_predictive::{Grammar, Rule, Start};
+use rowan_predictive::{Grammar, Rule, Start, operators_at};
 use std::alloc::Global;
 use std::test::Fail;
 
@@ -91,5 +91,22 @@ fn skipped_tokens_stand_in_one_node(rt: HostRuntime) -> Result<(), Fail> {
     let printed = root.debug_tree(rt.alloc())?;
     assert!(rt; printed.as_str() == TREE, "{printed}");
     assert_eq!(rt; parsed.errors.len(), 2);
+    Ok(())
+}
+
+/// Of each rule that is a chain of operators the kind of its nodes, the operand and the operator.
+#[test]
+fn chains_of_operators_are_found(rt: HostRuntime) -> Result<(), Fail> {
+    let mut found = String::new(rt.alloc());
+    for number in 0..RULES.len() {
+        if let Some(chain) = operators_at(&RULES, number) {
+            write!(
+                found,
+                "{number}: {} {} {}; ",
+                chain.kind, chain.operand, chain.operator
+            )?;
+        }
+    }
+    assert_eq!(rt; found.as_str(), "0: 10 5 11; 5: 9 10 12; ");
     Ok(())
 }
