@@ -6,6 +6,7 @@ mod cursors;
 mod edits;
 mod greens;
 mod moves;
+mod rules;
 mod texts;
 mod tools;
 mod trees;
@@ -83,6 +84,9 @@ fn make(call: &str, tree: &Tree) -> Result<Option<u64>, Fault> {
         return Ok(Some(number));
     }
     if let Some(number) = wrappers::make(call, tree)? {
+        return Ok(Some(number));
+    }
+    if let Some(number) = rules::make(call, tree)? {
         return Ok(Some(number));
     }
     tools::make(call, tree)

@@ -31,7 +31,8 @@ pub fn make(call: &str, tree: &Tree) -> Result<Option<u64>, Fault> {
     Ok(Some(number?))
 }
 
-fn repeated(tree: &Tree, text: &str) -> Result<String, AllocError> {
+/// A text so many times, one behind the other.
+pub fn repeated(tree: &Tree, text: &str) -> Result<String, AllocError> {
     let mut all = String::new(tree.alloc);
     for _ in 0..tree.size {
         all.push_str(text)?;

@@ -7,6 +7,7 @@ mod direct_sums;
 
 use anyhow::{Context, Result, bail};
 use arithmetic_syntax::Arithmetic;
+use json_by_grammar::JsonParser;
 use json_syntax::Json;
 use rowan::{Fault, GreenNode, Language, SyntaxNode, WalkEvent};
 use rowan_parser::{Event, Lexed, Parse, Token, lex};
@@ -17,6 +18,7 @@ use std::{env, io};
 
 const HELP: &str = "\
 usage: rowan_parser_bench json|sums lex|direct|events TURNS
+       rowan_parser_bench json rules TURNS
        rowan_parser_bench json|sums counts
 
 Reads JSON, or sums and products, from standard input, and then makes that many turns, in each of
@@ -24,6 +26,7 @@ which
   lex     the text is cut into tokens
   direct  the same, and a tree is built by direct calls of a builder
   events  the text is parsed by a lexer, a grammar and its events
+  rules   the same by a lexer and the rules of a grammar, of which a parser was made before
 It prints the time of all turns, and how many bytes the last tree has, or how many tokens there are.
 counts  prints how many tokens the text has, how many of them are no trivia, how many nodes its tree
         has, what an event takes in memory, and whether both trees are equal";
@@ -88,10 +91,14 @@ fn main(rt: HostRuntime) -> Result<()> {
     if command.as_str() == "counts" {
         return count(&rt, input, text.as_str());
     }
+    let parser = JsonParser::new(rt.alloc())?;
     let start = Instant::now(&rt)?;
     let mut number = 0;
     for _ in 0..turns {
-        number = take_turn(rt.alloc(), input, command.as_str(), text.as_str())?;
+        number = match command.as_str() {
+            "rules" => len_of(&parser.parse(rt.alloc(), text.as_str())?.green),
+            command => take_turn(rt.alloc(), input, command, text.as_str())?,
+        };
     }
     println!(rt; "{} ns, {number}", start.elapsed(&rt)?.as_nanos())?;
     Ok(())

@@ -7,6 +7,7 @@ ghost use Rattle.rowan_predictive.specs.Causes.{MayFollow, IsSo, AreSo, IsBegun}
 ghost use Rattle.rowan_predictive.specs.Derivations.{HasRule};
 
 use crate::rules::{Facts, Rule};
+use crate::waiting::{Users, Waiting};
 use rowan::SyntaxKind;
 use rowan_parser::TokenSet;
 use std::alloc::{AllocError, Global};
@@ -259,44 +260,109 @@ fn small(steps: Option<u64>) -> u32 {
     }
 }
 
-/// Notes of all rules what one round shows, the last rule first, and says whether something is new.
-fn round_of_firsts(facts: &mut Vec<Facts>, rules: &[Rule]) -> bool
+/// How often rules are looked at, at most: each of so many finds something new at most 129 times,
+/// and then those that it names or that name it, two for each, are looked at once more.
+fn most_looks(rules: &[Rule]) -> usize {
+    rules.len().saturating_mul(300)
+}
+
+/// Finds by which tokens each rule may begin: from its parts, the last rule first.
+fn find_firsts(
+    alloc: Global,
+    facts: &mut Vec<Facts>,
+    rules: &[Rule],
+    users: &Users,
+) -> Result<(), AllocError>
     requires { AreSo rules.now facts.old.items }
     ensures { AreSo rules.now facts.new.items }
 {
-    let mut grew = false;
-    for i in 0..rules.len() {
-        let number = rules.len() - 1 - i;
-        grew = note_begun(facts, number, rules[number]) || grew;
+    let mut waiting = Waiting::all(alloc, rules.len())?;
+    for _look in 0..most_looks(rules) {
+        let Some(number) = waiting.next() else {
+            break;
+        };
+        if look_begun(facts, rules, number) {
+            waiting.add_all(users.of(number))?;
+        }
     }
-    grew
+    Ok(())
 }
 
-fn round_of_follows(facts: &mut Vec<Facts>, rules: &[Rule]) -> bool
+/// Finds which tokens may stand behind each rule: from the rules that name it, the first one last.
+fn find_follows(alloc: Global, facts: &mut Vec<Facts>, rules: &[Rule]) -> Result<(), AllocError>
     requires { AreSo rules.now facts.old.items }
     ensures { AreSo rules.now facts.new.items }
 {
-    let mut grew = false;
-    for (number, rule) in rules.iter().enumerate() {
-        grew = note_follow(facts, number, *rule) || grew;
+    let mut waiting = Waiting::all(alloc, rules.len())?;
+    for _look in 0..most_looks(rules) {
+        let Some(number) = waiting.next() else {
+            break;
+        };
+        if look_follow(facts, rules, number) {
+            waiting.add_parts(rules, number)?;
+        }
     }
-    grew
+    Ok(())
 }
 
-fn round_of_steps(facts: &mut Vec<Facts>, rules: &[Rule]) -> bool
+/// Finds how many steps each rule takes: from its parts.
+fn find_steps(
+    alloc: Global,
+    facts: &mut Vec<Facts>,
+    rules: &[Rule],
+    users: &Users,
+) -> Result<(), AllocError>
     requires { AreSo rules.now facts.old.items }
     ensures { AreSo rules.now facts.new.items }
 {
-    let mut grew = false;
-    for i in 0..rules.len() {
-        let number = rules.len() - 1 - i;
-        grew = note_idle(facts, number, rules[number]) || grew;
-        grew = note_busy(facts, number, rules[number]) || grew;
+    let mut waiting = Waiting::all(alloc, rules.len())?;
+    for _look in 0..most_looks(rules) {
+        let Some(number) = waiting.next() else {
+            break;
+        };
+        if look_steps(facts, rules, number) {
+            waiting.add_all(users.of(number))?;
+        }
     }
-    grew
+    Ok(())
 }
 
-/// What is found of rules: sets by rounds until nothing is new, and so the steps.
+/// Looks at a rule, and says whether something is new.
+fn look_begun(facts: &mut Vec<Facts>, rules: &[Rule], number: usize) -> bool
+    requires { AreSo rules.now facts.old.items }
+    ensures { AreSo rules.now facts.new.items }
+{
+    match rules.get(number) {
+        None => false,
+        Some(rule) => note_begun(facts, number, *rule),
+    }
+}
+
+fn look_follow(facts: &mut Vec<Facts>, rules: &[Rule], number: usize) -> bool
+    requires { AreSo rules.now facts.old.items }
+    ensures { AreSo rules.now facts.new.items }
+{
+    match rules.get(number) {
+        None => false,
+        Some(rule) => note_follow(facts, number, *rule),
+    }
+}
+
+fn look_steps(facts: &mut Vec<Facts>, rules: &[Rule], number: usize) -> bool
+    requires { AreSo rules.now facts.old.items }
+    ensures { AreSo rules.now facts.new.items }
+{
+    match rules.get(number) {
+        None => false,
+        Some(rule) => {
+            let is_new = note_idle(facts, number, *rule);
+            note_busy(facts, number, *rule) | is_new
+        }
+    }
+}
+
+/// What is found of rules: first by which tokens they begin, then which may stand behind them, then
+/// their steps. The work is linear in the rules, whatever their order.
 pub(crate) fn find_facts(alloc: Global, rules: &[Rule]) -> Result<Vec<Facts>, AllocError>
     ensures { IfOk result (λ facts. AreSo rules.now facts.items) }
 {
@@ -304,22 +370,10 @@ pub(crate) fn find_facts(alloc: Global, rules: &[Rule]) -> Result<Vec<Facts>, Al
     for _rule in rules {
         facts.push(NOTHING)?;
     }
-    let most = rules.len().saturating_mul(3);
-    for _round in 0..most {
-        if !round_of_firsts(&mut facts, rules) {
-            break;
-        }
-    }
-    for _round in 0..most {
-        if !round_of_follows(&mut facts, rules) {
-            break;
-        }
-    }
-    for _round in 0..most {
-        if !round_of_steps(&mut facts, rules) {
-            break;
-        }
-    }
+    let users = Users::new(alloc, rules)?;
+    find_firsts(alloc, &mut facts, rules, &users)?;
+    find_follows(alloc, &mut facts, rules)?;
+    find_steps(alloc, &mut facts, rules, &users)?;
     Ok(facts)
 }
 

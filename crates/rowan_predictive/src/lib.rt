@@ -19,6 +19,7 @@ pub mod refusals;
 pub mod rules;
 pub mod running;
 mod testing;
+mod waiting;
 
 pub use conflicts::conflicts_of;
 pub use grammars::Grammar;

@@ -86,7 +86,7 @@ impl From<AllocError> for GrammarError {
 }
 
 /// The rules that a rule names.
-fn parts_of(rule: Rule) -> (Option<usize>, Option<usize>)
+pub(crate) fn parts_of(rule: Rule) -> (Option<usize>, Option<usize>)
     ensures { (rules : List Rule) → IfSome result.0 (Names rules rule)
         × IfSome result.1 (Names rules rule) }
 {
