@@ -1,7 +1,7 @@
 //! Elements, which are nodes or tokens: their calls are those of two traits.
 ghost use Rattle.std.specs.Prelude.{◌≡◌, IfOk};
 ghost use Rattle.rowan.specs.Moves.{place_of, parent, next_sibling_or_token};
-ghost use Rattle.rowan_uses.specs.Elements.{is_token};
+ghost use Rattle.rowan_examples.specs.Elements.{is_token};
 
 use crate::kinds::Lists;
 use rowan::{

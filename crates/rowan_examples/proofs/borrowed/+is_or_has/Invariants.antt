@@ -1,6 +1,6 @@
 use Rattle.rowan.specs.Refs.{node_place, rest_of_nodes}
 use Rattle.rowan.specs.Sizes.{size_at, AreSmaller}
-use Rattle.rowan_uses.proofs.borrowed.+is_or_has.Given as goal
+use Rattle.rowan_examples.proofs.borrowed.+is_or_has.Given as goal
 
 abbrev pub decreases-is_or_has : goal.decreases-is_or_has
 decreases-is_or_has l = size_at (node_place l.node)

@@ -7,7 +7,7 @@ ghost use Rattle.rowan.specs.Moves.{children, children_with_tokens};
 ghost use Rattle.rowan.specs.Pointer.{means_kind};
 ghost use Rattle.rowan.specs.Refs.{node_place, token_place};
 ghost use Rattle.rowan.specs.Types.NodeOrToken.TheVariants.{Token};
-ghost use Rattle.rowan_uses.specs.Kinds.{is_list, kind_of, same_kind};
+ghost use Rattle.rowan_examples.specs.Kinds.{is_list, kind_of, same_kind};
 
 use crate::kinds::{Kind, Lists};
 use crate::wrappers::ListNode;

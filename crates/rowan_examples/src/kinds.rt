@@ -17,7 +17,7 @@ pub enum Kind {
 impl Language for Lists {
     type Kind = Kind;
 
-    ghost use Rattle.rowan_uses.specs.Kinds.{kind_of, name_of, number_of};
+    ghost use Rattle.rowan_examples.specs.Kinds.{kind_of, name_of, number_of};
 
     ghost meaning = { kind_of };
 

@@ -15,7 +15,7 @@ impl Model for ListNode {
     ghost use Rattle.rowan.specs.Cursor.{Cursor};
     ghost use Rattle.rowan.specs.CursorCode.{coded_cursor};
     ghost use Rattle.rowan.specs.Ast.{casts_at};
-    ghost use Rattle.rowan_uses.specs.Kinds.{is_list, kind_of};
+    ghost use Rattle.rowan_examples.specs.Kinds.{is_list, kind_of};
 
     ghost Value = { Cursor };
 
@@ -33,7 +33,7 @@ impl AstNode for ListNode {
     ghost use Rattle.std.specs.Option.{option_map};
     ghost use Rattle.std.proofs.Common.{ap};
     ghost use Rattle.rowan.specs.Ast.{casts_at, if_casts};
-    ghost use Rattle.rowan_uses.specs.Kinds.{is_list, kind_of, one_kind};
+    ghost use Rattle.rowan_examples.specs.Kinds.{is_list, kind_of, one_kind};
 
     ghost casts = { is_list };
 

@@ -1,8 +1,8 @@
 -- The kinds of lists and words.
 use Rattle.std.specs.Prelude.{◌≡◌, ℕ, ◌==◌, List, codes, if◌then◌else◌, Bool, true, false}
-use Rattle.rowan_uses.specs.declared.kinds.Kind.{Kind}
-use Rattle.rowan_uses.specs.declared.kinds.Kind.TheVariants.{List as AList, Word}
-use Rattle.rowan_uses.specs.contracts.kinds.Kind.{the_type}
+use Rattle.rowan_examples.specs.declared.kinds.Kind.{Kind}
+use Rattle.rowan_examples.specs.declared.kinds.Kind.TheVariants.{List as AList, Word}
+use Rattle.rowan_examples.specs.contracts.kinds.Kind.{the_type}
 use denote.Enum.Bare.{same_true, sameb}
 
 -- the kind that a raw kind means

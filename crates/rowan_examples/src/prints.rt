@@ -2,7 +2,7 @@
 ghost use Rattle.std.specs.Prelude.{◌≡◌, IfOk, string_bytes};
 ghost use Rattle.rowan.specs.JsonText.{compact_text};
 ghost use Rattle.rowan.specs.Printed.{raw_name, tree_json, IsDebugTree};
-ghost use Rattle.rowan_uses.specs.Kinds.{kind_of, name_of};
+ghost use Rattle.rowan_examples.specs.Kinds.{kind_of, name_of};
 
 use crate::kinds::Lists;
 use rowan::{Fault, SyntaxNode};

@@ -1,5 +1,5 @@
 use Rattle.rowan.specs.Refs.{node_place}
-use Rattle.rowan_uses.proofs.borrowed.+is_or_has.Goals as goal
+use Rattle.rowan_examples.proofs.borrowed.+is_or_has.Goals as goal
 
 pub loop-child-init : goal.loop-child-init
 loop-child-init t c = (

@@ -1,6 +1,6 @@
 //! What a user of `rowan` writes: each module calls a part of it, and states contracts by the words
 //! that `rowan` passes on. The crate lists `rowan` alone in `crates.txt`, so it shows that a user
-//! needs no other crate.
+//! needs no other crate. `README.md` has the modules in the order in which one learns.
 #![tactic(auto)]
 
 pub mod borrowed;

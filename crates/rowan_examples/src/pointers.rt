@@ -3,7 +3,7 @@ ghost use Rattle.std.specs.Prelude.{◌≡◌, ◌≤◌, IfOk, Some};
 ghost use Rattle.std.specs.Option.{option_map};
 ghost use Rattle.rowan.specs.Pointer.{Resolves, means_kind, pointer_to};
 ghost use Rattle.rowan.specs.Refs.{node_place};
-ghost use Rattle.rowan_uses.specs.Kinds.{kind_of, same_kind};
+ghost use Rattle.rowan_examples.specs.Kinds.{kind_of, same_kind};
 
 use crate::kinds::Lists;
 use rowan::ast::SyntaxNodePtr;
