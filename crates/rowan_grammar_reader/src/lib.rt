@@ -1,13 +1,13 @@
 //! From the text of a grammar to what it says.
 #![tactic(auto)]
 
+mod from_text;
 mod lexer;
 mod parser;
 mod parser_head;
-mod read;
 mod reader;
 mod rules;
 mod syntax;
 mod wraps;
 
-pub use read::{Reading, read};
+pub use from_text::{Reading, read};
