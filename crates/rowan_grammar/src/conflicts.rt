@@ -136,8 +136,10 @@ impl Checker<'_> {
 
     /// The text of a token, or its name.
     fn token(&self, grammar: &Grammar, kinds: &[usize], kind: u16) -> Result<String, AllocError> {
-        let index = kinds.get(usize::from(kind)).copied().unwrap_or(usize::MAX);
-        self.named(grammar, index)
+        match kinds.get(usize::from(kind)) {
+            Some(index) => self.named(grammar, *index),
+            None => Ok(String::new(self.alloc)),
+        }
     }
 
     /// An item as messages name it.

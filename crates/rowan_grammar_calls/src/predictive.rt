@@ -6,6 +6,9 @@ use rowan_grammar_model::place::{cover, top};
 use rowan_predictive::Rule;
 use std::alloc::{AllocError, Global};
 
+/// The number of what is no base.
+const NO_PLACE: usize = usize::MAX;
+
 /// What a rule is of in the grammar.
 #[derive(Clone, Copy, PartialEq, Eq, Debug)]
 pub enum Of {
@@ -459,7 +462,7 @@ impl Maker<'_> {
 
     /// The number of an item among the bases of the last choice that has it as one.
     fn place(&self, item: usize) -> usize {
-        self.places.get(item).copied().unwrap_or(usize::MAX)
+        self.places.get(item).copied().unwrap_or(NO_PLACE)
     }
 
     /// The bases of a choice. Their numbers are noted.

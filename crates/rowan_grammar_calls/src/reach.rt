@@ -3,6 +3,9 @@ use rowan_grammar_model::grammar::{Grammar, Sort};
 use std::alloc::{AllocError, Global};
 use std::collections::HashMap;
 
+/// More steps than any way through a grammar has: a loop over it ends where nothing is open.
+const MAX_STEPS: usize = usize::MAX;
+
 /// An item that was reached, the number of the step whose alternative it is, and the alternative of
 /// the first item by which it was reached.
 #[derive(Clone, Copy, PartialEq, Eq, Debug)]
@@ -132,7 +135,7 @@ fn add_choices(
 ) -> Result<(), AllocError> {
     let mut open: Vec<Visit> = Vec::new(alloc);
     open.push(to_visit(start))?;
-    for _ in 0..usize::MAX {
+    for _ in 0..MAX_STEPS {
         let Some(Visit { item, is_done }) = open.pop() else {
             break;
         };

@@ -7,6 +7,9 @@ use rowan_grammar_model::grammar::{Item, Sort, Wrap};
 use std::alloc::AllocError;
 use std::mem;
 
+/// More steps than any way through a grammar has: a loop over it ends where nothing is open.
+const MAX_STEPS: usize = usize::MAX;
+
 impl Reader {
     /// A line of the head that says which wrappers there are, but for those that are named.
     pub fn set_forms(&mut self, word: SyntaxTokenRef<'_, Grammars>) -> Result<(), AllocError> {
@@ -59,7 +62,7 @@ impl Reader {
     /// Says that an item has a wrapper of a form, and so has what a choice is one of.
     fn wrap(&mut self, start: usize, form: Form) -> Result<(), AllocError> {
         let mut open: Vec<usize> = vec![in self.alloc; start]?;
-        for _ in 0..usize::MAX {
+        for _ in 0..MAX_STEPS {
             let Some(number) = open.pop() else {
                 break;
             };

@@ -10,11 +10,11 @@ use std::collections::HashMap;
 const ALIKE_HEAD: &str = "pub const : &[Kind] = &[];";
 
 const CHILD: &str = "
-    /// The first child that is `$0`.
-$1
-        ensures ok { let casts = casts_at kind_of is_$2 in
+    /// The first child that is `$target`.
+$head
+        ensures ok { let casts = casts_at kind_of is_$snake in
             IfOk result (λ found.
-            option_map $3 found ≡ find casts (children self.now)) }
+            option_map $inner found ≡ find casts (children self.now)) }
         ensures err { IfErr result (λ e. e ≡ Fault.Memory) }
     {
         support::child(&self.syntax)
@@ -22,18 +22,18 @@ $1
 ";
 
 const CHILD_REF: &str = "
-    /// The first child that is `$0`.
-$1
-        ensures { let casts = casts_at kind_of is_$2 in
-            option_map $3 result ≡ find casts (children ($7 self.now)) }
+    /// The first child that is `$target`.
+$head
+        ensures { let casts = casts_at kind_of is_$snake in
+            option_map $inner result ≡ find casts (children ($node self.now)) }
     {
         support::child_ref(self.syntax)
     }
 ";
 
 const CHILDREN: &str = "
-    /// The children that are `$0`, in order.
-$1
+    /// The children that are `$target`, in order.
+$head
         ensures ok { IfOk result (λ nodes. nodes ≡ children self.now) }
         ensures err { IfErr result (λ e. e ≡ Fault.Memory) }
     {
@@ -42,83 +42,83 @@ $1
 ";
 
 const CHILDREN_REF: &str = "
-    /// The children that are `$0`, in order.
-$1
-        ensures { let casts = casts_at kind_of is_$2 in
-            rest_that_casts casts result ≡ filter casts (children ($7 self.now)) }
+    /// The children that are `$target`, in order.
+$head
+        ensures { let casts = casts_at kind_of is_$snake in
+            rest_that_casts casts result ≡ filter casts (children ($node self.now)) }
     {
         support::children_ref(self.syntax)
     }
 ";
 
 const TOKEN: &str = "
-    /// The first token `$0`.
-$1
-        ensures ok { let means = means_kind kind_of (sameb the_type) Kind.$0 in
+    /// The first token `$target`.
+$head
+        ensures ok { let means = means_kind kind_of (sameb the_type) Kind.$target in
             IfOk result (λ found. option_map Token found
             ≡ find (is_token_of means) (children_with_tokens self.now)) }
         ensures err { IfErr result (λ e. e ≡ Fault.Memory) }
     {
-        support::token($6)
+        support::token($arguments)
     }
 ";
 
 const TOKEN_REF: &str = "
-    /// The first token `$0`.
-$1
-        ensures { let means = means_kind kind_of (sameb the_type) Kind.$0 in
+    /// The first token `$target`.
+$head
+        ensures { let means = means_kind kind_of (sameb the_type) Kind.$target in
             option_map Token (option_map token_place result)
-            ≡ find (is_token_of means) (children_with_tokens ($7 self.now)) }
+            ≡ find (is_token_of means) (children_with_tokens ($node self.now)) }
     {
-        support::token_of($6)
+        support::token_of($arguments)
     }
 ";
 
 const NTH_CHILD: &str = "
-    /// The child at index $5 among those of `$4`, if it is `$0`.
-$1
-        ensures ok { let alike = has_one_of kind_of (sameb the_type) $4.now in
-            let casts = casts_at kind_of is_$2 in IfOk result (λ found.
-            option_map $3 found ≡ option_and_then (if_casts casts)
-            (slice_get (filter alike (children self.now)) $5)) }
+    /// The child at index $index among those of `$kinds`, if it is `$target`.
+$head
+        ensures ok { let alike = has_one_of kind_of (sameb the_type) $kinds.now in
+            let casts = casts_at kind_of is_$snake in IfOk result (λ found.
+            option_map $inner found ≡ option_and_then (if_casts casts)
+            (slice_get (filter alike (children self.now)) $index)) }
         ensures err { IfErr result (λ e. e ≡ Fault.Memory) }
     {
-        nth_child($6)
+        nth_child($arguments)
     }
 ";
 
 const NTH_CHILD_REF: &str = "
-    /// The child at index $5 among those of `$4`, if it is `$0`.
-$1
-        ensures { let alike = has_one_of kind_of (sameb the_type) $4.now in
-            let casts = casts_at kind_of is_$2 in
-            option_map $3 result ≡ option_and_then (if_casts casts)
-            (slice_get (filter alike (children ($7 self.now))) $5) }
+    /// The child at index $index among those of `$kinds`, if it is `$target`.
+$head
+        ensures { let alike = has_one_of kind_of (sameb the_type) $kinds.now in
+            let casts = casts_at kind_of is_$snake in
+            option_map $inner result ≡ option_and_then (if_casts casts)
+            (slice_get (filter alike (children ($node self.now))) $index) }
     {
-        support::nth_child_ref($6)
+        support::nth_child_ref($arguments)
     }
 ";
 
 const NTH_TOKEN: &str = "
-    /// The token at index $5 among those of `$4`.
-$1
-        ensures ok { let alike = is_token_of (means_one_of kind_of (sameb the_type) $4.now) in
+    /// The token at index $index among those of `$kinds`.
+$head
+        ensures ok { let alike = is_token_of (means_one_of kind_of (sameb the_type) $kinds.now) in
             IfOk result (λ found. option_map Token found
-            ≡ slice_get (filter alike (children_with_tokens self.now)) $5) }
+            ≡ slice_get (filter alike (children_with_tokens self.now)) $index) }
         ensures err { IfErr result (λ e. e ≡ Fault.Memory) }
     {
-        support::nth_token($6)
+        support::nth_token($arguments)
     }
 ";
 
 const NTH_TOKEN_REF: &str = "
-    /// The token at index $5 among those of `$4`.
-$1
-        ensures { let alike = is_token_of (means_one_of kind_of (sameb the_type) $4.now) in
+    /// The token at index $index among those of `$kinds`.
+$head
+        ensures { let alike = is_token_of (means_one_of kind_of (sameb the_type) $kinds.now) in
             option_map Token (option_map token_place result)
-            ≡ slice_get (filter alike (children_with_tokens ($7 self.now))) $5 }
+            ≡ slice_get (filter alike (children_with_tokens ($node self.now))) $index }
     {
-        support::nth_token_ref($6)
+        support::nth_token_ref($arguments)
     }
 ";
 
@@ -161,12 +161,16 @@ fn add_alike(out: &mut String, scope: &Scope<'_>, alike: &Alike) -> Result<(), A
         .saturating_add(name.len())
         .saturating_add(line.len());
     let template = match line.len() {
-        0..=ARGUMENTS if len <= WIDTH => "$0: &[Kind] = &[$1];\n",
-        0..=ARGUMENTS => "$0: &[Kind] =\n    &[$1];\n",
-        _ => "$0: &[Kind] = &[$2\n];\n",
+        0..=ARGUMENTS if len <= WIDTH => "$name: &[Kind] = &[$line];\n",
+        0..=ARGUMENTS => "$name: &[Kind] =\n    &[$line];\n",
+        _ => "$name: &[Kind] = &[$lines\n];\n",
     };
     out.push_str("\n/// The kinds of parts that are alike.\npub const ")?;
-    fill(out, template, &[name, line.as_str(), lines.as_str()])
+    fill(
+        out,
+        template,
+        &["name", name, "line", line.as_str(), "lines", lines.as_str()],
+    )
 }
 
 /// The pieces of which a call is written.
@@ -188,13 +192,21 @@ struct Pieces {
 impl Pieces {
     fn fill(&self, out: &mut String, template: &str) -> Result<(), AllocError> {
         let values = [
+            "target",
             self.target.as_str(),
+            "head",
             self.head.as_str(),
+            "snake",
             self.snake.as_str(),
+            "inner",
             self.node_of.as_str(),
+            "kinds",
             self.kinds.as_str(),
+            "index",
             self.index.as_str(),
+            "arguments",
             self.arguments.as_str(),
+            "node",
             self.node_of_self.as_str(),
         ];
         fill(out, template, &values)
@@ -272,17 +284,21 @@ fn arguments_of(
 pub fn result_of(scope: &Scope<'_>, form: Form, call: &Call) -> Result<String, AllocError> {
     let template = match (form, call.gives) {
         (Form::Owned, Gives::Token(_) | Gives::NthToken(_)) =>
-            "@Result<@Option<@SyntaxToken<$1>>, Fault>",
-        (Form::Owned, Gives::Children(_)) => "@AstChildren<$0>",
-        (Form::Owned, _) => "@Result<@Option<$0>, Fault>",
+            "@Result<@Option<@SyntaxToken<$language>>, Fault>",
+        (Form::Owned, Gives::Children(_)) => "@AstChildren<$name>",
+        (Form::Owned, _) => "@Result<@Option<$name>, Fault>",
         (Form::Borrowed, Gives::Token(_) | Gives::NthToken(_)) =>
-            "@Option<@SyntaxTokenRef<'tree, $1>>",
-        (Form::Borrowed, Gives::Children(_)) => "@AstNodesRef<'tree, $0<'tree>>",
-        (Form::Borrowed, _) => "@Option<$0<'tree>>",
+            "@Option<@SyntaxTokenRef<'tree, $language>>",
+        (Form::Borrowed, Gives::Children(_)) => "@AstNodesRef<'tree, $name<'tree>>",
+        (Form::Borrowed, _) => "@Option<$name<'tree>>",
     };
     let name = scope.grammar.wrapper(form, call.item().unwrap_or(0));
     let mut out = String::new(scope.alloc);
-    scope.fill(&mut out, template, &[name, scope.language])?;
+    scope.fill(
+        &mut out,
+        template,
+        &["name", name, "language", scope.language],
+    )?;
     Ok(out)
 }
 

@@ -15,53 +15,53 @@ const MAX_MADE: usize = 78;
 const CHOICE: &str = "\
 }
 
-impl @AstNode for $0 {
-    type Language = $3;
+impl @AstNode for $name {
+    type Language = $language;
 
     ghost use Rattle.std.specs.Prelude.{◌≡◌};
     ghost use Rattle.std.specs.Option.{option_map};
     ghost use Rattle.rowan.specs.Ast.{casts_at, if_casts};
-    ghost use Rattle.$2.specs.Casts.{is_$1, same_kind};
-    ghost use Rattle.$2.specs.Kinds.{kind_of};
-    ghost use Rattle.$2.specs.NodeIn.{node_in_$1};
+    ghost use Rattle.$crate.specs.Casts.{is_$snake, same_kind};
+    ghost use Rattle.$crate.specs.Kinds.{kind_of};
+    ghost use Rattle.$crate.specs.NodeIn.{node_in_$snake};
     ghost use Rattle.std.proofs.Common.{ap};
 
-    ghost casts = { is_$1 };
+    ghost casts = { is_$snake };
 
-    ghost node_of = { node_in_$1 };
+    ghost node_of = { node_in_$snake };
 
     fn can_cast(kind: Kind) -> bool {
-$4    }
+$test    }
 
-$5
-        ensures { let casting = casts_at kind_of is_$1 in
-            option_map node_in_$1 result ≡ if_casts casting syntax }
+$cast
+        ensures { let casting = casts_at kind_of is_$snake in
+            option_map node_in_$snake result ≡ if_casts casting syntax }
     {
         match syntax.kind() {
-$6            _ => None,
+$casts            _ => None,
         }
     }
 
-    #[tactic(auto, using($7))]
-    fn syntax(&self) -> &@SyntaxNode<$3> {
+    #[tactic(auto, using($lemmas))]
+    fn syntax(&self) -> &@SyntaxNode<$language> {
         match self {
-$8        }
+$arms        }
     }
 
-    ghost equal_kinds = { λ a b same. ap is_$1 (same_kind a b same) };
+    ghost equal_kinds = { λ a b same. ap is_$snake (same_kind a b same) };
 }
 ";
 
 const OWNED: &str = "
-impl $0 {
+impl $name {
     ghost use Rattle.std.specs.Prelude.{◌≡◌};
-    ghost use Rattle.$2.specs.NodeIn.{node_in_$1, place_in_$1};
+    ghost use Rattle.$crate.specs.NodeIn.{node_in_$snake, place_in_$snake};
 
     /// The same node, borrowed from its tree.
-    pub fn as_ref(&self) -> $9<'_>
-        ensures { place_in_$1 result ≡ node_in_$1 self.now }
+    pub fn as_ref(&self) -> $borrowed<'_>
+        ensures { place_in_$snake result ≡ node_in_$snake self.now }
     {
-        $9::cast(self.syntax().as_ref()).unwrap()
+        $borrowed::cast(self.syntax().as_ref()).unwrap()
     }
 }
 ";
@@ -69,58 +69,58 @@ impl $0 {
 const CHOICE_REF: &str = "\
 }
 
-impl<'tree> @AstNodeRef<'tree> for $9<'tree> {
-    type Language = $3;
+impl<'tree> @AstNodeRef<'tree> for $borrowed<'tree> {
+    type Language = $language;
 
     ghost use Rattle.std.specs.Prelude.{◌≡◌, true};
     ghost use Rattle.std.specs.Option.{option_map};
     ghost use Rattle.rowan.specs.Ast.{casts_at, if_casts};
     ghost use Rattle.rowan.specs.Refs.{node_place};
-    ghost use Rattle.$2.specs.Casts.{is_$1};
-    ghost use Rattle.$2.specs.Kinds.{kind_of};
-    ghost use Rattle.$2.specs.NodeIn.{place_in_$1};
+    ghost use Rattle.$crate.specs.Casts.{is_$snake};
+    ghost use Rattle.$crate.specs.Kinds.{kind_of};
+    ghost use Rattle.$crate.specs.NodeIn.{place_in_$snake};
 
-    ghost casts = { is_$1 };
+    ghost casts = { is_$snake };
 
-    ghost node_of = { place_in_$1 };
+    ghost node_of = { place_in_$snake };
 
     fn can_cast(kind: Kind) -> bool
-        ensures { result ≡ is_$1 kind }
+        ensures { result ≡ is_$snake kind }
     {
-$4    }
+$test    }
 
-$5
-        ensures { let casting = casts_at kind_of is_$1 in
-            option_map place_in_$1 result ≡ if_casts casting (node_place syntax.entry) }
+$cast
+        ensures { let casting = casts_at kind_of is_$snake in
+            option_map place_in_$snake result ≡ if_casts casting (node_place syntax.entry) }
     {
         match syntax.kind() {
-$6            _ => None,
+$casts            _ => None,
         }
     }
 
-    #[tactic(auto, using($7))]
-    fn syntax(&self) -> @SyntaxNodeRef<'tree, $3>
-        ensures node { node_place result ≡ place_in_$1 self.now }
-        ensures casts { casts_at kind_of is_$1 (node_place result) ≡ true }
+    #[tactic(auto, using($lemmas))]
+    fn syntax(&self) -> @SyntaxNodeRef<'tree, $language>
+        ensures node { node_place result ≡ place_in_$snake self.now }
+        ensures casts { casts_at kind_of is_$snake (node_place result) ≡ true }
     {
         match self {
-$8        }
+$arms        }
     }
 }
 ";
 
 const BORROWED: &str = "
-impl<'tree> $9<'tree> {
+impl<'tree> $borrowed<'tree> {
     ghost use Rattle.std.specs.Prelude.{◌≡◌, IfOk, IfErr};
-    ghost use Rattle.$2.specs.NodeIn.{node_in_$1, place_in_$1};
+    ghost use Rattle.$crate.specs.NodeIn.{node_in_$snake, place_in_$snake};
 
     /// The same node in a wrapper that keeps the tree. Refused with `Memory` alone.
-    pub fn to_owned(&self) -> @Result<$0, Fault>
-        ensures ok { IfOk result (λ owned. node_in_$1 owned ≡ place_in_$1 self.now) }
+    pub fn to_owned(&self) -> @Result<$name, Fault>
+        ensures ok { IfOk result (λ owned. node_in_$snake owned ≡ place_in_$snake self.now) }
         ensures err { IfErr result (λ e. e ≡ Fault.Memory) }
     {
         let syntax = self.syntax().to_owned()?;
-        Ok($0::cast(syntax).unwrap())
+        Ok($name::cast(syntax).unwrap())
     }
 }
 ";
@@ -154,14 +154,14 @@ pub fn add_choice(
 }
 
 const FROM: &str = "
-$0
+$line
     ghost use Rattle.std.specs.Prelude.{◌≡◌};
-    ghost use Rattle.$1.specs.NodeIn.{$2};
+    ghost use Rattle.$crate.specs.NodeIn.{$words};
 
-    ghost from_gives = { λ node whole. $3 };
+    ghost from_gives = { λ node whole. $gives };
 
-$4
-        $5
+$head
+        $body
     }
 }
 ";
@@ -192,11 +192,17 @@ fn add_from(
         gives.push_str("node")?;
     }
     let values = [
+        "line",
         line.as_str(),
+        "crate",
         scope.crate_name,
+        "words",
         words.as_str(),
+        "gives",
         gives.as_str(),
+        "head",
         head.as_str(),
+        "body",
         body.as_str(),
     ];
     fill(out, FROM, &values)
@@ -276,15 +282,25 @@ fn add_form(
         )?,
     };
     let values = [
+        "name",
         item.name.as_str(),
+        "snake",
         item.snake.as_str(),
+        "crate",
         scope.crate_name,
+        "language",
         scope.language,
+        "test",
         can_cast.as_str(),
+        "cast",
         cast.as_str(),
+        "casts",
         casts.as_str(),
+        "lemmas",
         lemmas.as_str(),
+        "arms",
         arms.as_str(),
+        "borrowed",
         item.borrowed.as_str(),
     ];
     let (template, other) = match form {
@@ -323,17 +339,17 @@ fn add_variants(
     index: usize,
 ) -> Result<(), AllocError> {
     let whole = wrapper_type(scope, form, index)?;
-    fill(out, "pub enum $0 {\n", &[whole.as_str()])?;
+    fill(out, "pub enum $name {\n", &["name", whole.as_str()])?;
     for used in item.alternatives.iter() {
         add_docs(out, "    ", scope.grammar.docs(used.item), "")?;
         let name = scope.grammar.name(used.item);
         let one = wrapper_type(scope, form, used.item)?;
         let line = format!(in scope.alloc; "    {name}({one}),")?;
         let template = match line.len() > WIDTH {
-            true => "    $0(\n        $1,\n    ),\n",
-            false => "    $0($1),\n",
+            true => "    $name(\n        $inner,\n    ),\n",
+            false => "    $name($inner),\n",
         };
-        fill(out, template, &[name, one.as_str()])?;
+        fill(out, template, &["name", name, "inner", one.as_str()])?;
     }
     Ok(())
 }
@@ -344,7 +360,11 @@ fn kinds_of(scope: &Scope<'_>, reached: &Reach) -> Result<String, AllocError> {
     for step in reached.steps.iter() {
         if scope.grammar.sort(step.item) == Sort::Node {
             let name = scope.grammar.name(step.item);
-            fill(&mut out, "            Kind::$0 => true,\n", &[name])?;
+            fill(
+                &mut out,
+                "            Kind::$kind => true,\n",
+                &["kind", name],
+            )?;
         }
     }
     Ok(out)
@@ -372,11 +392,11 @@ fn syntax_arms(
     for used in item.alternatives.iter() {
         let variant = variant_of(scope, form, index, used.item)?;
         let template = match variant.len() {
-            0..=64 => "            $0(node) => node.syntax(),\n",
-            65..=79 => "            $0(node) =>\n                node.syntax(),\n",
-            _ => "            $0(\n                node,\n            ) => node.syntax(),\n",
+            0..=64 => "            $variant(node) => node.syntax(),\n",
+            65..=79 => "            $variant(node) =>\n                node.syntax(),\n",
+            _ => "            $variant(\n                node,\n            ) => node.syntax(),\n",
         };
-        fill(&mut out, template, &[variant.as_str()])?;
+        fill(&mut out, template, &["variant", variant.as_str()])?;
     }
     Ok(out)
 }
@@ -447,16 +467,16 @@ fn add_long_arm(
         Some(first) => first.item,
         None => step.top,
     };
-    fill(out, "            Kind::$0 => {\n", &[kind])?;
+    fill(out, "            Kind::$kind => {\n", &["kind", kind])?;
     let template = match step.top == step.item {
-        true => "                let node = $0 { syntax };\n",
-        false => "                let node = $0::cast(syntax)?;\n",
+        true => "                let node = $wrapper { syntax };\n",
+        false => "                let node = $wrapper::cast(syntax)?;\n",
     };
     let wrapper = match step.top == step.item {
         true => wrapped(form),
         false => scope.grammar.wrapper(form, step.top),
     };
-    fill(out, template, &[wrapper])?;
+    fill(out, template, &["wrapper", wrapper])?;
     let variant = variant_of(scope, form, whole, step.top)?;
     add_wrap(out, variant.as_str())?;
     out.push_str("                Some(node)\n            }\n")
@@ -465,17 +485,17 @@ fn add_long_arm(
 /// Adds a statement that puts a node into a variant, on as many lines as `rt fmt` takes.
 fn add_wrap(out: &mut String, variant: &str) -> Result<(), AllocError> {
     let template = match variant.len() {
-        0..=66 => "                let node = $0(node);\n",
+        0..=66 => "                let node = $variant(node);\n",
         67..=72 =>
-            "                let node = $0(\n                    node,\n                );\n",
-        73 => "                let node =\n                    $0(node);\n",
+            "                let node = $variant(\n                    node,\n                );\n",
+        73 => "                let node =\n                    $variant(node);\n",
         _ => LONG_WRAP,
     };
-    fill(out, template, &[variant])
+    fill(out, template, &["variant", variant])
 }
 
 const LONG_WRAP: &str = "                let node =
-                    $0(
+                    $variant(
                         node,
                     );
 ";
@@ -483,15 +503,19 @@ const LONG_WRAP: &str = "                let node =
 /// The lemmas that what casts to an alternative casts to the whole.
 fn lemmas_of(scope: &Scope<'_>, form: Form, item: &Item) -> Result<String, AllocError> {
     let template = match form {
-        Form::Owned => "crate::proofs::CastLemmas::$0_is_$1",
-        Form::Borrowed => "crate::proofs::CastLemmas::$0_is_$1_raw",
+        Form::Owned => "crate::proofs::CastLemmas::$one_is_$whole",
+        Form::Borrowed => "crate::proofs::CastLemmas::$one_is_$whole_raw",
     };
     let mut out = String::new(scope.alloc);
     let mut comma = "";
     for used in item.alternatives.iter() {
         let one = scope.grammar.snake(used.item);
         out.push_str(comma)?;
-        fill(&mut out, template, &[one, item.snake.as_str()])?;
+        fill(
+            &mut out,
+            template,
+            &["one", one, "whole", item.snake.as_str()],
+        )?;
         comma = ", ";
     }
     Ok(out)

@@ -11,21 +11,21 @@ use std::alloc::AllocError;
 const BLOCK: usize = 32;
 
 const HEAD: &str = "\
-//! The kinds of the tokens and nodes of $1.
-$2use rowan::{Language, SyntaxKind};
-$3
-$4#[derive(Clone, Copy, PartialEq, Eq, PartialOrd, Ord, Hash, Debug)]
-pub struct $1;
+//! The kinds of the tokens and nodes of $language.
+${imports}use rowan::{Language, SyntaxKind};
+$sets
+$docs#[derive(Clone, Copy, PartialEq, Eq, PartialOrd, Ord, Hash, Debug)]
+pub struct $language;
 
-$5#[derive(Clone, Copy, PartialEq, Eq, PartialOrd, Ord, Hash, Debug)]
+$kinds#[derive(Clone, Copy, PartialEq, Eq, PartialOrd, Ord, Hash, Debug)]
 pub enum Kind {
 ";
 
 const LANGUAGE: &str = "\
-impl Language for $1 {
+impl Language for $language {
     type Kind = Kind;
 
-    ghost use Rattle.$0.specs.Kinds.{kind_of, name_of, number_of};
+    ghost use Rattle.$crate.specs.Kinds.{kind_of, name_of, number_of};
 
     ghost meaning = { kind_of };
 
@@ -37,13 +37,13 @@ impl Language for $1 {
 ";
 
 const BLOCK_HEAD: &str = "
-fn kind_in_block_$0(raw: u16) -> Kind
-    ensures { result ≡ block_kind_$0 raw }
+fn kind_in_block_$number(raw: u16) -> Kind
+    ensures { result ≡ block_kind_$number raw }
 {
     match raw {
 ";
 
-const ARM: &str = "$0$1 => Kind::$2,\n";
+const ARM: &str = "$indent$pattern => Kind::$kind,\n";
 
 /// The code of the kinds.
 pub fn kinds_code(scope: &Scope<'_>) -> Result<String, AllocError> {
@@ -61,11 +61,17 @@ pub fn kinds_code(scope: &Scope<'_>) -> Result<String, AllocError> {
         false => "use rowan_parser::{TokenSet, token_set};\n",
     };
     let values = [
+        "crate",
         scope.crate_name,
+        "language",
         scope.language,
+        "imports",
         imports.as_str(),
+        "sets",
         sets,
+        "docs",
         language_docs.as_str(),
+        "kinds",
         kinds_docs.as_str(),
     ];
     fill(&mut out, HEAD, &values)?;
@@ -75,7 +81,11 @@ pub fn kinds_code(scope: &Scope<'_>) -> Result<String, AllocError> {
         writeln!(out, "    {name} = {number},")?;
     }
     out.push_str("}\n\n")?;
-    fill(&mut out, LANGUAGE, &[scope.crate_name, scope.language])?;
+    fill(
+        &mut out,
+        LANGUAGE,
+        &["crate", scope.crate_name, "language", scope.language],
+    )?;
     add_from_raw(&mut out, scope, blocks)?;
     add_to_raw(&mut out, scope)?;
     add_kind_names(&mut out, scope)?;
@@ -154,12 +164,16 @@ fn add_arms(
             writeln!(out, "{indent}{number} => Kind::{name},")?;
         }
     }
-    fill(out, ARM, &[indent, "_", scope.error])
+    fill(
+        out,
+        ARM,
+        &["indent", indent, "pattern", "_", "kind", scope.error],
+    )
 }
 
 fn add_block(out: &mut String, scope: &Scope<'_>, block: usize) -> Result<(), AllocError> {
     let number = format!(in scope.alloc; "{block}")?;
-    fill(out, BLOCK_HEAD, &[number.as_str()])?;
+    fill(out, BLOCK_HEAD, &["number", number.as_str()])?;
     add_arms(out, scope, block, "        ")?;
     out.push_str("    }\n}\n")
 }
@@ -203,21 +217,21 @@ fn add_trivia(out: &mut String, scope: &Scope<'_>) -> Result<(), AllocError> {
     } else {
         line.as_str()
     };
-    fill(out, TRIVIA, &[kinds, scope.root])
+    fill(out, TRIVIA, &["kinds", kinds, "root", scope.root])
 }
 
 const TRIVIA: &str = "
 /// The kinds of the tokens that may stand anywhere.
-pub const TRIVIA: &[Kind] = &[$0];
+pub const TRIVIA: &[Kind] = &[$kinds];
 
 /// The kind of the node of a whole text.
-pub const ROOT: Kind = Kind::$1;
+pub const ROOT: Kind = Kind::$root;
 ";
 
 const SPECS: &str = "\
--- The kinds of $1.
-use Rattle.std.specs.Prelude.{ℕ, ◌==◌, $2List, codes, if◌then◌else◌$4}
-$5$6use Rattle.$0.specs.declared.$3.Kind.{Kind}
+-- The kinds of $language.
+use Rattle.std.specs.Prelude.{ℕ, ◌==◌, ${limits}List, codes, if◌then◌else◌$tests}
+$texts${signs}use Rattle.$crate.specs.declared.$module.Kind.{Kind}
 
 ";
 
@@ -239,12 +253,19 @@ pub fn kinds_specs(scope: &Scope<'_>) -> Result<String, AllocError> {
     let blocks = block_count(scope);
     let has_tests = has_texts(scope) || !scope.sets.is_empty();
     let values = [
+        "crate",
         scope.crate_name,
+        "language",
         scope.language,
+        "limits",
         if blocks > 1 { "nat_lt, " } else { "" },
+        "module",
         scope.module,
+        "tests",
         if has_tests { ", Bool, true, false" } else { "" },
+        "texts",
         if has_texts(scope) { OF_TEXTS } else { "" },
+        "signs",
         if has_signs(scope) { OF_SIGNS } else { "" },
     ];
     fill(&mut out, SPECS, &values)?;
@@ -253,8 +274,8 @@ pub fn kinds_specs(scope: &Scope<'_>) -> Result<String, AllocError> {
             let name = format!(in scope.alloc; "block_kind_{block}")?;
             fill(
                 &mut out,
-                "abbrev pub $0 : ℕ → Kind\n$0 n =\n",
-                &[name.as_str()],
+                "abbrev pub $name : ℕ → Kind\n$name n =\n",
+                &["name", name.as_str()],
             )?;
             add_chain(&mut out, scope, block)?;
         }
@@ -278,8 +299,8 @@ pub fn kinds_specs(scope: &Scope<'_>) -> Result<String, AllocError> {
         let shown = upper(scope.alloc, scope.grammar.snake(*index))?;
         fill(
             &mut out,
-            "name_of Kind.$0 = codes \"$1\"\n",
-            &[name, shown.as_str()],
+            "name_of Kind.$kind = codes \"$shown\"\n",
+            &["kind", name, "shown", shown.as_str()],
         )?;
     }
     if has_texts(scope) {
@@ -307,11 +328,11 @@ fn add_chain(out: &mut String, scope: &Scope<'_>, block: usize) -> Result<(), Al
     fill(
         out,
         if count == 0 {
-            "    Kind.$0"
+            "    Kind.$kind"
         } else {
-            "    else Kind.$0"
+            "    else Kind.$kind"
         },
-        &[scope.error],
+        &["kind", scope.error],
     )?;
     close(out, count)
 }

@@ -10,15 +10,15 @@ use rowan_grammar_model::grammar::Sort;
 use std::alloc::AllocError;
 
 const HEAD: &str = "\
-//! Wrappers of the nodes of $0$1.
-$2use crate::$3::{$4};
+//! Wrappers of the nodes of $language$which.
+${fields}use crate::$module::{$names};
 ";
 
 /// What the ghost fields of borrowed wrappers name, and the contract of `nth_child`.
 const OF_FIELDS: &str = "\
 ghost use Rattle.std.specs.Prelude.{◌≡◌, true};
-$0ghost use Rattle.rowan.specs.Ast.{casts_at};
-$1ghost use Rattle.$2.specs.Kinds.{kind_of};
+${nth}ghost use Rattle.rowan.specs.Ast.{casts_at};
+${places}ghost use Rattle.$crate.specs.Kinds.{kind_of};
 
 ";
 
@@ -28,7 +28,7 @@ ghost use Rattle.std.specs.Prelude.{filter, slice_get, IfOk, IfErr};
 ghost use Rattle.std.specs.Option.{option_map, option_and_then};
 ghost use Rattle.rowan.specs.Moves.{children};
 ghost use Rattle.rowan.specs.Ast.{if_casts, has_one_of};
-ghost use Rattle.$0.specs.contracts.$1.Kind.{the_type};
+ghost use Rattle.$crate.specs.contracts.$module.Kind.{the_type};
 ghost use denote.Enum.Bare.{sameb};
 ";
 
@@ -36,8 +36,8 @@ ghost use denote.Enum.Bare.{sameb};
 /// those of the accessors do, which are not proved by that of `support::nth_child`.
 const NTH: &str = "
 /// Of the children with one of these kinds the one at an index, if it casts.
-fn nth_child<N: @AstNode<Language = $0>>(
-    parent: &@SyntaxNode<$0>,
+fn nth_child<N: @AstNode<Language = $language>>(
+    parent: &@SyntaxNode<$language>,
     kinds: &[Kind],
     index: usize,
 ) -> @Result<@Option<N>, Fault>
@@ -85,7 +85,7 @@ pub fn nodes_code(scope: &Scope<'_>) -> Result<String, AllocError> {
     }
     add_traits(&mut out, scope)?;
     if owned.nth_child {
-        scope.fill(&mut out, NTH, &[scope.language])?;
+        scope.fill(&mut out, NTH, &["language", scope.language])?;
     }
     Ok(out)
 }
@@ -111,10 +111,15 @@ fn add_head(
     let which = which(has_owned || has_contents, has_borrowed || has_contents);
     let which = String::from_str(scope.alloc, which)?;
     let values = [
+        "language",
         scope.language,
+        "which",
         which.as_str(),
+        "fields",
         of_fields.as_str(),
+        "module",
         scope.module,
+        "names",
         names.as_str(),
     ];
     fill(out, HEAD, &values)?;
@@ -156,12 +161,23 @@ fn add_words_of_fields(
 ) -> Result<(), AllocError> {
     let mut of_nth = String::new(scope.alloc);
     if owned.nth_child {
-        fill(&mut of_nth, OF_NTH, &[scope.crate_name, scope.module])?;
+        fill(
+            &mut of_nth,
+            OF_NTH,
+            &["crate", scope.crate_name, "module", scope.module],
+        )?;
     }
     let mut of_places = String::new(scope.alloc);
     let places = places(scope.has_nodes(Form::Borrowed), !scope.contents.is_empty());
-    fill(&mut of_places, places, &[scope.crate_name])?;
-    let values = [of_nth.as_str(), of_places.as_str(), scope.crate_name];
+    fill(&mut of_places, places, &["crate", scope.crate_name])?;
+    let values = [
+        "nth",
+        of_nth.as_str(),
+        "places",
+        of_places.as_str(),
+        "crate",
+        scope.crate_name,
+    ];
     fill(out, OF_FIELDS, &values)
 }
 
@@ -177,17 +193,17 @@ fn places(has_nodes: bool, has_tokens: bool) -> &'static str {
 
 const PLACES_OF_NODES: &str = "\
 ghost use Rattle.rowan.specs.Refs.{node_place};
-ghost use Rattle.$0.specs.Casts.{has_number};
+ghost use Rattle.$crate.specs.Casts.{has_number};
 ";
 
 const PLACES_OF_TOKENS: &str = "\
 ghost use Rattle.rowan.specs.Refs.{token_place};
-ghost use Rattle.$0.specs.Casts.{has_number};
+ghost use Rattle.$crate.specs.Casts.{has_number};
 ";
 
 const PLACES: &str = "\
 ghost use Rattle.rowan.specs.Refs.{node_place, token_place};
-ghost use Rattle.$0.specs.Casts.{has_number};
+ghost use Rattle.$crate.specs.Casts.{has_number};
 ";
 
 /// Which wrappers the file has.

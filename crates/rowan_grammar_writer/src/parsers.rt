@@ -9,7 +9,7 @@ use rowan_predictive::Rule;
 use std::alloc::AllocError;
 
 const HEAD: &str = "\
-//! The parser of $0: the rules of its grammar, by which `rowan_predictive` goes.
+//! The parser of $language: the rules of its grammar, by which `rowan_predictive` goes.
 ghost use Rattle.std.specs.Prelude.{◌≡◌, ◌<◌, [], length, IfOk, IfErr};
 ghost use Rattle.rowan.specs.Fits.{byte_limit};
 ghost use Rattle.rowan.specs.Term.{node_kind, node_text};
@@ -17,9 +17,9 @@ ghost use Rattle.rowan_parser.specs.Parsing.{WhyNoTree};
 ghost use Rattle.rowan_predictive.specs.Causes.{WhyNoGrammar};
 ghost use Rattle.rowan_predictive.specs.Parsing.{HasTree, IsTreeBy};
 ghost use Rattle.rowan_predictive.specs.View.{rules_in, rules_prop};
-ghost use Rattle.$2.specs.declared.parser.TheConstants.{RULES, SKIPPED};
+ghost use Rattle.$crate.specs.declared.parser.TheConstants.{RULES, SKIPPED};
 
-$1use rowan::{Fault, SyntaxKind};
+${kinds}use rowan::{Fault, SyntaxKind};
 use rowan_parser::{Lexer, Parse, TokenSet, Trivia, token_set};
 use rowan_predictive::{Grammar, GrammarError, Rule, Start};
 use std::alloc::Global;
@@ -28,37 +28,37 @@ use std::alloc::Global;
 
 const PARSER: &str = "
 /// The tokens that may stand anywhere.
-const SKIPPED: TokenSet = token_set![$6];
+const SKIPPED: TokenSet = token_set![$trivia];
 
 const TRIVIA: Trivia<'static> = Trivia {
     kinds: SKIPPED,
     attached: &[],
 };
 
-/// What a text is parsed as: a `$5`.
+/// What a text is parsed as: a `$node`.
 const START: Start<'static> = Start {
-    root: SyntaxKind($1),
-    rule: $3,
-    error: SyntaxKind($2),
+    root: SyntaxKind($root),
+    rule: $start,
+    error: SyntaxKind($error),
     words: &WORDS,
 };
 
-/// The parser of $0. Made once, it parses any number of texts.
+/// The parser of $language. Made once, it parses any number of texts.
 #[derive(Drop)]
-pub struct $0Parser {
+pub struct ${language}Parser {
     grammar: Grammar,
     ghost rules: { rules_in grammar ≡ RULES } by { rules_prop grammar RULES },
 }
 
-impl $0Parser {
+impl ${language}Parser {
     /// Finds by which tokens the rules begin and which may stand behind them.
     ///
     /// Errors: `Memory` if an allocation failed. The rules are such that nothing else is in the way.
-$7
+$head
         ensures err { IfErr result (WhyNoGrammar RULES) }
     {
         let grammar = Grammar::new(alloc, &RULES)?;
-        Ok($0Parser { grammar })
+        Ok(${language}Parser { grammar })
     }
 
     /// Parses a text. The tree has each byte of it, also where there are errors. There are none
@@ -69,13 +69,13 @@ $7
     /// node of the tree has more than 4,294,967,295 children; `Memory` if an allocation failed.
     pub fn parse(&self, alloc: Global, text: &str) -> Result<Parse, Fault>
         ensures text { IfOk result (λ parse. node_text parse.green ≡ text.now) }
-        ensures kind { IfOk result (λ parse. node_kind parse.green ≡ $1) }
+        ensures kind { IfOk result (λ parse. node_kind parse.green ≡ $root) }
         ensures tree { IfOk result (λ parse.
-            HasTree RULES SKIPPED [] $1 $3 text.now parse.errors.items parse.green) }
+            HasTree RULES SKIPPED [] $root $start text.now parse.errors.items parse.green) }
         ensures err { IfErr result (WhyNoTree text.now) }
         ensures too_long { byte_limit < length text.now → result ≡ Err Fault.TextTooLong }
     {
-        let lexer = $4;
+        let lexer = $lexer;
         self.parse_with_lexer(alloc, text, lexer)
     }
 
@@ -90,9 +90,9 @@ $7
     ) -> Result<Parse, Fault>
         requires { X.is_ready lexer }
         ensures text { IfOk result (λ parse. node_text parse.green ≡ text.now) }
-        ensures kind { IfOk result (λ parse. node_kind parse.green ≡ $1) }
+        ensures kind { IfOk result (λ parse. node_kind parse.green ≡ $root) }
         ensures tree { IfOk result (λ parse. IsTreeBy X.says lexer
-            RULES SKIPPED [] $1 $3 text.now parse.errors.items parse.green) }
+            RULES SKIPPED [] $root $start text.now parse.errors.items parse.green) }
         ensures err { IfErr result (WhyNoTree text.now) }
         ensures too_long { byte_limit < length text.now → result ≡ Err Fault.TextTooLong }
     {
@@ -116,7 +116,14 @@ pub fn parser_code(scope: &Scope<'_>) -> Result<Option<String>, AllocError> {
     fill(
         &mut out,
         HEAD,
-        &[scope.language, kinds.as_str(), scope.crate_name],
+        &[
+            "language",
+            scope.language,
+            "kinds",
+            kinds.as_str(),
+            "crate",
+            scope.crate_name,
+        ],
     )?;
     add_rules(&mut out, scope, rules)?;
     add_words(&mut out, scope)?;
@@ -126,13 +133,21 @@ pub fn parser_code(scope: &Scope<'_>) -> Result<Option<String>, AllocError> {
     let gives = format!(in alloc; "Result<{}Parser, GrammarError>", scope.language)?;
     let making = signature(alloc, "    pub fn new", "alloc: Global", gives.as_str())?;
     let values = [
+        "language",
         scope.language,
+        "root",
         root.as_str(),
+        "error",
         error.as_str(),
+        "start",
         start.as_str(),
+        "lexer",
         lexer.path.as_str(),
+        "node",
         scope.root,
+        "trivia",
         trivia.as_str(),
+        "head",
         making.as_str(),
     ];
     fill(&mut out, PARSER, &values)?;

@@ -5,13 +5,13 @@ use rowan_grammar_model::names::upper;
 use std::alloc::AllocError;
 
 const CALL: &str = "
-    /// Whether its tokens are in `$1`.
-    #[tactic(auto, using(crate::proofs::SetLemmas::$0_has))]
-    pub fn is_in_$0(self) -> bool
-        ensures { result ≡ is_in_$0 self }
+    /// Whether its tokens are in `$constant`.
+    #[tactic(auto, using(crate::proofs::SetLemmas::$snake_has))]
+    pub fn is_in_$snake(self) -> bool
+        ensures { result ≡ is_in_$snake self }
     {
-        let raw = $2::kind_to_raw(self);
-        $1.contains(raw)
+        let raw = $language::kind_to_raw(self);
+        $constant.contains(raw)
     }
 ";
 
@@ -19,8 +19,8 @@ const LEMMAS: &str = "\
 -- What the sets of tokens have.
 use Rattle.std.specs.Prelude.{◌≡◌, refl}
 use Rattle.rowan_parser.specs.Seen.{has}
-use Rattle.$0.specs.declared.$1.Kind.{Kind}
-$2$3";
+use Rattle.$crate.specs.declared.$module.Kind.{Kind}
+$constants$words";
 
 /// The name of the constant of a set.
 fn constant(scope: &Scope<'_>, set: usize) -> Result<String, AllocError> {
@@ -66,7 +66,18 @@ pub fn add_set_calls(out: &mut String, scope: &Scope<'_>) -> Result<(), AllocErr
     for set in scope.sets.iter() {
         let name = constant(scope, *set)?;
         let snake = scope.grammar.snake(*set);
-        fill(out, CALL, &[snake, name.as_str(), scope.language])?;
+        fill(
+            out,
+            CALL,
+            &[
+                "snake",
+                snake,
+                "constant",
+                name.as_str(),
+                "language",
+                scope.language,
+            ],
+        )?;
     }
     Ok(())
 }
@@ -77,13 +88,17 @@ pub fn add_set_specs(out: &mut String, scope: &Scope<'_>) -> Result<(), AllocErr
         let snake = scope.grammar.snake(*set);
         let name = scope.grammar.name(*set);
         let head =
-            "\n-- whether its tokens are in the set `$1`\nabbrev pub is_in_$0 : Kind → Bool\n";
-        fill(out, head, &[snake, name])?;
+            "\n-- whether its tokens are in the set `$name`\nabbrev pub is_in_$snake : Kind → Bool\n";
+        fill(out, head, &["snake", snake, "name", name])?;
         for used in scope.grammar.alternatives(*set).iter() {
             let kind = scope.grammar.name(used.item);
-            fill(out, "is_in_$0 Kind.$1 = true\n", &[snake, kind])?;
+            fill(
+                out,
+                "is_in_$snake Kind.$kind = true\n",
+                &["snake", snake, "kind", kind],
+            )?;
         }
-        fill(out, "is_in_$0 _ = false\n", &[snake])?;
+        fill(out, "is_in_$snake _ = false\n", &["snake", snake])?;
     }
     Ok(())
 }
@@ -106,16 +121,30 @@ pub fn set_lemmas(scope: &Scope<'_>) -> Result<String, AllocError> {
     add_set_words(&mut words, scope)?;
     let constants = String::from_str(alloc, constants.finish()?)?;
     let words = String::from_str(alloc, words.finish()?)?;
-    let values = [crate_name, module, constants.as_str(), words.as_str()];
+    let values = [
+        "crate",
+        crate_name,
+        "module",
+        module,
+        "constants",
+        constants.as_str(),
+        "words",
+        words.as_str(),
+    ];
     fill(&mut out, LEMMAS, &values)?;
     for set in scope.sets.iter() {
         let name = constant(scope, *set)?;
         let snake = scope.grammar.snake(*set);
-        let head = "\npub $0_has : (k : Kind) → has $1.0 (number_of k) ≡ is_in_$0 k\n";
-        fill(&mut out, head, &[snake, name.as_str()])?;
+        let head =
+            "\npub $snake_has : (k : Kind) → has $constant.0 (number_of k) ≡ is_in_$snake k\n";
+        fill(&mut out, head, &["snake", snake, "constant", name.as_str()])?;
         for kind in scope.kinds.iter() {
             let kind = scope.grammar.name(*kind);
-            fill(&mut out, "$0_has Kind.$1 = refl\n", &[snake, kind])?;
+            fill(
+                &mut out,
+                "$snake_has Kind.$kind = refl\n",
+                &["snake", snake, "kind", kind],
+            )?;
         }
     }
     Ok(out)

@@ -11,12 +11,12 @@ const CALL: &str = "
         ensures { result ≡ sign_of text.now }
     {
         let bytes = text.as_bytes();
-$0        None
+$tests        None
     }
 ";
 
-const TEST: &str = "        if bytes.starts_with(b\"$0\") {
-            return Some((Kind::$1, $2));
+const TEST: &str = "        if bytes.starts_with(b\"$text\") {
+            return Some((Kind::$kind, $len));
         }
 ";
 
@@ -103,9 +103,13 @@ pub fn add_sign_call(out: &mut String, scope: &Scope<'_>) -> Result<(), AllocErr
         let text = escaped(scope.alloc, sign.text.as_str())?;
         let len = format!(in scope.alloc; "{}", sign.text.len())?;
         let name = scope.grammar.name(sign.item);
-        fill(&mut tests, TEST, &[text.as_str(), name, len.as_str()])?;
+        fill(
+            &mut tests,
+            TEST,
+            &["text", text.as_str(), "kind", name, "len", len.as_str()],
+        )?;
     }
-    fill(out, CALL, &[tests.as_str()])
+    fill(out, CALL, &["tests", tests.as_str()])
 }
 
 /// Adds the definition that the contract of this call names.
@@ -118,8 +122,12 @@ pub fn add_sign_specs(out: &mut String, scope: &Scope<'_>) -> Result<(), AllocEr
         let len = format!(in scope.alloc; "{}", sign.text.len())?;
         let name = scope.grammar.name(sign.item);
         out.push_str(if count == 0 { "    " } else { "    else (" })?;
-        let test = "if starts_with nat_eq text (codes \"$0\") then Some (Kind.$1, $2)\n";
-        fill(out, test, &[text.as_str(), name, len.as_str()])?;
+        let test = "if starts_with nat_eq text (codes \"$text\") then Some (Kind.$kind, $len)\n";
+        fill(
+            out,
+            test,
+            &["text", text.as_str(), "kind", name, "len", len.as_str()],
+        )?;
         count = count.saturating_add(1);
     }
     out.push_str(if count == 0 {

@@ -6,11 +6,11 @@ use rowan_grammar_model::grammar::Sort;
 use std::alloc::AllocError;
 
 const CASTS: &str = "\
--- Wrappers of the nodes of $1: the kinds that cast to each of them.
-use Rattle.std.specs.Prelude.{$2}
-use Rattle.$0.specs.declared.$3.Kind.{Kind}
-$4use Rattle.$0.specs.Kinds.{number_of}
-$5
+-- Wrappers of the nodes of $language: the kinds that cast to each of them.
+use Rattle.std.specs.Prelude.{$words}
+use Rattle.$crate.specs.declared.$module.Kind.{Kind}
+${type}use Rattle.$crate.specs.Kinds.{number_of}
+$same
 -- whether it is the kind with this number
 abbrev pub has_number : ℕ → Kind → Bool
 has_number n kind = number_of kind == n
@@ -18,7 +18,7 @@ has_number n kind = number_of kind == n
 
 /// What `same_kind` needs.
 const THE_TYPE: &str = "\
-use Rattle.$0.specs.contracts.$1.Kind.{the_type}
+use Rattle.$crate.specs.contracts.$module.Kind.{the_type}
 ";
 
 const SAME: &str = "\
@@ -26,8 +26,8 @@ use denote.Enum.Bare.{same_true, sameb}
 ";
 
 const CASTS_NODE: &str = "
-abbrev pub is_$0 : Kind → Bool
-is_$0 = has_number $1
+abbrev pub is_$snake : Kind → Bool
+is_$snake = has_number $number
 ";
 
 const SAME_KIND: &str = "
@@ -50,29 +50,44 @@ pub fn casts_specs(scope: &Scope<'_>) -> Result<String, AllocError> {
     let mut the_type = String::new(scope.alloc);
     let mut same = String::new(scope.alloc);
     if has_owned {
-        fill(&mut the_type, THE_TYPE, &[scope.crate_name, scope.module])?;
+        fill(
+            &mut the_type,
+            THE_TYPE,
+            &["crate", scope.crate_name, "module", scope.module],
+        )?;
         same.push_str(SAME)?;
     }
     let values = [
+        "crate",
         scope.crate_name,
+        "language",
         scope.language,
+        "words",
         words.as_str(),
+        "module",
         scope.module,
+        "type",
         the_type.as_str(),
+        "same",
         same.as_str(),
     ];
     fill(&mut out, CASTS, &values)?;
     for index in scope.nodes.iter().chain(scope.contents.iter()) {
         let number = format!(in scope.alloc; "{}", scope.kind_number(*index))?;
-        let names = [scope.grammar.snake(*index), number.as_str()];
+        let names = [
+            "snake",
+            scope.grammar.snake(*index),
+            "number",
+            number.as_str(),
+        ];
         fill(&mut out, CASTS_NODE, &names)?;
     }
     for index in scope.choices.iter() {
         let whole = scope.grammar.snake(*index);
         fill(
             &mut out,
-            "\nabbrev pub is_$0 : Kind → Bool\nis_$0 kind =",
-            &[whole],
+            "\nabbrev pub is_$whole : Kind → Bool\nis_$whole kind =",
+            &["whole", whole],
         )?;
         add_any(&mut out, scope, *index)?;
     }
@@ -94,7 +109,7 @@ fn add_any(out: &mut String, scope: &Scope<'_>, choice: usize) -> Result<(), All
             _ => "|| (",
         };
         let one = scope.grammar.snake(used.item);
-        fill(out, "\n    $0is_$1 kind", &[or, one])?;
+        fill(out, "\n    ${or}is_$one kind", &["or", or, "one", one])?;
     }
     for _ in 1..last {
         out.push(')')?;
@@ -104,12 +119,12 @@ fn add_any(out: &mut String, scope: &Scope<'_>, choice: usize) -> Result<(), All
 
 const NODES_IN: &str = "\
 -- The nodes in wrappers: in borrowed ones, and in those of more than one kind.
-$0use Rattle.rowan.specs.Cursor.{Cursor}
-$1";
+${numbers}use Rattle.rowan.specs.Cursor.{Cursor}
+$places";
 
-const NODE_TYPE: &str = "use Rattle.$0.specs.declared.nodes.NodeOfRef.{NodeOfRef}\n";
+const NODE_TYPE: &str = "use Rattle.$crate.specs.declared.nodes.NodeOfRef.{NodeOfRef}\n";
 
-const TOKEN_TYPE: &str = "use Rattle.$0.specs.declared.nodes.TokenOfRef.{TokenOfRef}\n";
+const TOKEN_TYPE: &str = "use Rattle.$crate.specs.declared.nodes.TokenOfRef.{TokenOfRef}\n";
 
 const PLACE_IN: &str = "
 -- where the node of a borrowed wrapper stands
@@ -134,19 +149,27 @@ pub fn nodes_in(scope: &Scope<'_>) -> Result<String, AllocError> {
     };
     let numbers = String::from_str(scope.alloc, numbers)?;
     let places = String::from_str(scope.alloc, places(has_borrowed, has_contents))?;
-    fill(&mut out, NODES_IN, &[numbers.as_str(), places.as_str()])?;
+    fill(
+        &mut out,
+        NODES_IN,
+        &["numbers", numbers.as_str(), "places", places.as_str()],
+    )?;
     if has_borrowed {
-        fill(&mut out, NODE_TYPE, &[scope.crate_name])?;
+        fill(&mut out, NODE_TYPE, &["crate", scope.crate_name])?;
     }
     if has_contents {
-        fill(&mut out, TOKEN_TYPE, &[scope.crate_name])?;
+        fill(&mut out, TOKEN_TYPE, &["crate", scope.crate_name])?;
     }
     for form in [Form::Owned, Form::Borrowed] {
         for index in scope.choices.iter() {
             if scope.grammar.forms(*index).has(form) {
                 let name = scope.grammar.wrapper(form, *index);
-                let line = "use Rattle.$0.specs.declared.nodes.$1.{$1}\n";
-                fill(&mut out, line, &[scope.crate_name, name])?;
+                let line = "use Rattle.$crate.specs.declared.nodes.$wrapper.{$wrapper}\n";
+                fill(
+                    &mut out,
+                    line,
+                    &["crate", scope.crate_name, "wrapper", name],
+                )?;
             }
         }
     }
@@ -186,17 +209,26 @@ fn add_node_in(
 ) -> Result<(), AllocError> {
     let whole = String::from_str(scope.alloc, scope.grammar.wrapper(form, choice))?;
     let word = scope.node_of(form, choice)?;
-    let head = "\nabbrev pub $0 : $1 → Cursor\n";
-    fill(out, head, &[word.as_str(), whole.as_str()])?;
+    let head = "\nabbrev pub $word : $whole → Cursor\n";
+    fill(out, head, &["word", word.as_str(), "whole", whole.as_str()])?;
     for used in scope.grammar.alternatives(choice).iter() {
         let is_plain = form == Form::Owned && scope.grammar.sort(used.item) == Sort::Node;
         let template = match is_plain {
-            true => "$0 ($1.$2 node) = node\n",
-            false => "$0 ($1.$2 node) = $3 node\n",
+            true => "$word ($whole.$one node) = node\n",
+            false => "$word ($whole.$one node) = $inner node\n",
         };
         let one = scope.grammar.name(used.item);
         let inner = scope.node_of(form, used.item)?;
-        let values = [word.as_str(), whole.as_str(), one, inner.as_str()];
+        let values = [
+            "word",
+            word.as_str(),
+            "whole",
+            whole.as_str(),
+            "one",
+            one,
+            "inner",
+            inner.as_str(),
+        ];
         fill(out, template, &values)?;
     }
     Ok(())
@@ -207,8 +239,8 @@ const LEMMAS: &str = "\
 use Rattle.std.specs.Prelude.{◌≡◌, ℕ, Bool, true, false, Option, Some, None}
 use Rattle.std.specs.Option.{option_map, option_map_or}
 use Rattle.std.proofs.lemmas.Bool.{or_left, or_right}
-$3use Rattle.$0.specs.declared.$2.Kind.{Kind}
-$1use Rattle.$0.specs.Kinds.{kind_of}
+${nodes}use Rattle.$crate.specs.declared.$module.Kind.{Kind}
+${imports}use Rattle.$crate.specs.Kinds.{kind_of}
 
 cast_to_more : (p q : Kind → Bool) → ((k : Kind) → p k ≡ true → q k ≡ true)
     → (raw : Option ℕ)
@@ -226,18 +258,18 @@ use Rattle.rowan.specs.Ast.{casts_at}
 
 /// A lemma on what a raw kind means, by which borrowed wrappers are proved.
 const RAW_LEMMA: &str = "
-pub $0_is_$1_raw : (raw : Option ℕ)
-    → option_map_or is_$0 (option_map kind_of raw) false ≡ true
-    → option_map_or is_$1 (option_map kind_of raw) false ≡ true
-$0_is_$1_raw = cast_to_more is_$0 is_$1
-    (λ k casts. $2)
+pub $one_is_$whole_raw : (raw : Option ℕ)
+    → option_map_or is_$one (option_map kind_of raw) false ≡ true
+    → option_map_or is_$whole (option_map kind_of raw) false ≡ true
+$one_is_$whole_raw = cast_to_more is_$one is_$whole
+    (λ k casts. $term)
 ";
 
 /// A lemma on a node, by which owned wrappers are proved.
 const LEMMA: &str = "
-pub $0_is_$1 : (c : Cursor)
-    → casts_at kind_of is_$0 c ≡ true → casts_at kind_of is_$1 c ≡ true
-$0_is_$1 c = $0_is_$1_raw (kind c)
+pub $one_is_$whole : (c : Cursor)
+    → casts_at kind_of is_$one c ≡ true → casts_at kind_of is_$whole c ≡ true
+$one_is_$whole c = $one_is_$whole_raw (kind c)
 ";
 
 /// The text of `proofs/CastLemmas.antt`.
@@ -247,9 +279,13 @@ pub fn cast_lemmas(scope: &Scope<'_>) -> Result<String, AllocError> {
     let mut choices = scope.choices.iter();
     let has_owned = choices.any(|index| scope.grammar.forms(*index).owned);
     let values = [
+        "crate",
         scope.crate_name,
+        "imports",
         imports.as_str(),
+        "module",
         scope.module,
+        "nodes",
         if has_owned { OF_NODES } else { "" },
     ];
     fill(&mut out, LEMMAS, &values)?;
@@ -264,7 +300,14 @@ fn add_lemmas(out: &mut String, scope: &Scope<'_>, choice: usize) -> Result<(), 
     for (number, used) in scope.grammar.alternatives(choice).iter().enumerate() {
         let one = scope.grammar.snake(used.item);
         let term = way_to(scope, choice, number)?;
-        let values = [one, scope.grammar.snake(choice), term.as_str()];
+        let values = [
+            "one",
+            one,
+            "whole",
+            scope.grammar.snake(choice),
+            "term",
+            term.as_str(),
+        ];
         fill(out, RAW_LEMMA, &values)?;
         if scope.grammar.forms(choice).owned {
             fill(out, LEMMA, &values)?;
@@ -280,7 +323,7 @@ fn way_to(scope: &Scope<'_>, choice: usize, number: usize) -> Result<String, All
     let is_last = number.saturating_add(1) == alternatives.len();
     for (step, used) in alternatives.iter().enumerate().take(number) {
         let one = scope.grammar.snake(used.item);
-        fill(&mut out, "or_right (is_$0 k) _ ", &[one])?;
+        fill(&mut out, "or_right (is_$one k) _ ", &["one", one])?;
         if !is_last || step.saturating_add(1) < number {
             out.push_str("(\n    ")?;
         }
@@ -288,7 +331,7 @@ fn way_to(scope: &Scope<'_>, choice: usize, number: usize) -> Result<String, All
     match alternatives.get(number) {
         Some(used) if !is_last => {
             let one = scope.grammar.snake(used.item);
-            fill(&mut out, "or_left (is_$0 k) _ casts", &[one])?;
+            fill(&mut out, "or_left (is_$one k) _ casts", &["one", one])?;
         }
         _ => out.push_str("casts")?,
     }
@@ -303,8 +346,8 @@ fn cast_imports(scope: &Scope<'_>) -> Result<String, AllocError> {
     let mut names = String::new(scope.alloc);
     fill(
         &mut names,
-        "use Rattle.$0.specs.Casts.{",
-        &[scope.crate_name],
+        "use Rattle.$crate.specs.Casts.{",
+        &["crate", scope.crate_name],
     )?;
     let mut imports = Imports::new(scope.alloc, names.as_str(), "")?;
     let mut is_named: Vec<bool> = vec![in scope.alloc; false; scope.grammar.items.len()]?;

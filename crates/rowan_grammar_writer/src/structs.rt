@@ -10,7 +10,7 @@ const NODE_OF: &str = "
 /// A node whose kind has this number.
 #[derive(Clone, PartialEq, Eq, Hash, Drop)]
 pub struct NodeOf<const KIND: u16> {
-    syntax: @SyntaxNode<$1>,
+    syntax: @SyntaxNode<$language>,
 }
 
 impl<const KIND: u16> @Model for NodeOf<KIND> {
@@ -18,8 +18,8 @@ impl<const KIND: u16> @Model for NodeOf<KIND> {
     ghost use Rattle.rowan.specs.Cursor.{Cursor};
     ghost use Rattle.rowan.specs.CursorCode.{coded_cursor};
     ghost use Rattle.rowan.specs.Ast.{casts_at};
-    ghost use Rattle.$0.specs.Casts.{has_number};
-    ghost use Rattle.$0.specs.Kinds.{kind_of};
+    ghost use Rattle.$crate.specs.Casts.{has_number};
+    ghost use Rattle.$crate.specs.Kinds.{kind_of};
 
     ghost Value = { Cursor };
 
@@ -33,13 +33,13 @@ impl<const KIND: u16> @Model for NodeOf<KIND> {
 }
 
 impl<const KIND: u16> @AstNode for NodeOf<KIND> {
-    type Language = $1;
+    type Language = $language;
 
     ghost use Rattle.std.specs.Prelude.{◌≡◌};
     ghost use Rattle.std.specs.Option.{option_map};
     ghost use Rattle.rowan.specs.Ast.{casts_at, if_casts};
-    ghost use Rattle.$0.specs.Casts.{has_number, same_kind};
-    ghost use Rattle.$0.specs.Kinds.{kind_of};
+    ghost use Rattle.$crate.specs.Casts.{has_number, same_kind};
+    ghost use Rattle.$crate.specs.Kinds.{kind_of};
     ghost use Rattle.std.proofs.Common.{ap};
 
     ghost casts = { has_number KIND };
@@ -47,10 +47,10 @@ impl<const KIND: u16> @AstNode for NodeOf<KIND> {
     ghost node_of = { λ wrapper. wrapper };
 
     fn can_cast(kind: Kind) -> bool {
-$3
+$test
     }
 
-$2
+$cast
         ensures { let casting = casts_at kind_of (has_number KIND) in
             option_map (λ wrapper. wrapper) result ≡ if_casts casting syntax }
     {
@@ -61,7 +61,7 @@ $2
         }
     }
 
-    fn syntax(&self) -> &@SyntaxNode<$1> {
+    fn syntax(&self) -> &@SyntaxNode<$language> {
         &self.syntax
     }
 
@@ -73,7 +73,7 @@ $2
 const AS_REF: &str = "
 impl<const KIND: u16> NodeOf<KIND> {
     ghost use Rattle.std.specs.Prelude.{◌≡◌};
-    ghost use Rattle.$0.specs.NodeIn.{place_in};
+    ghost use Rattle.$crate.specs.NodeIn.{place_in};
 
     /// The same node, borrowed from its tree.
     pub fn as_ref(&self) -> NodeOfRef<'_, KIND>
@@ -91,20 +91,20 @@ const NODE_OF_REF: &str = "
 /// A node whose kind has this number, borrowed from its tree.
 #[derive(Clone, Copy, PartialEq, Eq, Hash)]
 pub struct NodeOfRef<'tree, const KIND: u16> {
-    syntax: @SyntaxNodeRef<'tree, $1>,
+    syntax: @SyntaxNodeRef<'tree, $language>,
     ghost casts: { casts_at kind_of (has_number KIND) (node_place syntax) ≡ true },
 }
 
 impl<'tree, const KIND: u16> @AstNodeRef<'tree> for NodeOfRef<'tree, KIND> {
-    type Language = $1;
+    type Language = $language;
 
     ghost use Rattle.std.specs.Prelude.{◌≡◌, true};
     ghost use Rattle.std.specs.Option.{option_map};
     ghost use Rattle.rowan.specs.Ast.{casts_at, if_casts};
     ghost use Rattle.rowan.specs.Refs.{node_place};
-    ghost use Rattle.$0.specs.Casts.{has_number};
-    ghost use Rattle.$0.specs.Kinds.{kind_of};
-    ghost use Rattle.$0.specs.NodeIn.{place_in};
+    ghost use Rattle.$crate.specs.Casts.{has_number};
+    ghost use Rattle.$crate.specs.Kinds.{kind_of};
+    ghost use Rattle.$crate.specs.NodeIn.{place_in};
 
     ghost casts = { has_number KIND };
 
@@ -113,10 +113,10 @@ impl<'tree, const KIND: u16> @AstNodeRef<'tree> for NodeOfRef<'tree, KIND> {
     fn can_cast(kind: Kind) -> bool
         ensures { result ≡ has_number KIND kind }
     {
-$3
+$test
     }
 
-$2
+$cast
         ensures { let casting = casts_at kind_of (has_number KIND) in
             option_map place_in result ≡ if_casts casting (node_place syntax.entry) }
     {
@@ -127,7 +127,7 @@ $2
         }
     }
 
-    fn syntax(&self) -> @SyntaxNodeRef<'tree, $1>
+    fn syntax(&self) -> @SyntaxNodeRef<'tree, $language>
         ensures node { node_place result ≡ place_in self.now }
         ensures casts { casts_at kind_of (has_number KIND) (node_place result) ≡ true }
     {
@@ -140,7 +140,7 @@ $2
 const TO_OWNED: &str = "
 impl<'tree, const KIND: u16> NodeOfRef<'tree, KIND> {
     ghost use Rattle.std.specs.Prelude.{◌≡◌, IfOk, IfErr};
-    ghost use Rattle.$0.specs.NodeIn.{place_in};
+    ghost use Rattle.$crate.specs.NodeIn.{place_in};
 
     /// The same node in a wrapper that keeps the tree. Refused with `Memory` alone.
     pub fn to_owned(&self) -> @Result<NodeOf<KIND>, Fault>
@@ -154,7 +154,7 @@ impl<'tree, const KIND: u16> NodeOfRef<'tree, KIND> {
 ";
 
 const DEBUG: &str = "
-impl<const KIND: u16> std::fmt::Debug for $0 {
+impl<const KIND: u16> std::fmt::Debug for $wrapper {
     fn fmt<W: std::fmt::Write>(&self, f: &mut std::fmt::Formatter<W>) -> std::fmt::Result {
         self.syntax.fmt(f)
     }
@@ -162,10 +162,10 @@ impl<const KIND: u16> std::fmt::Debug for $0 {
 ";
 
 /// The name of the owned wrapper of one kind.
-const NODE: &str = "pub type $0 = NodeOf<$2>;\n";
+const NODE: &str = "pub type $name = NodeOf<$number>;\n";
 
 /// That of the borrowed one.
-const NODE_REF: &str = "pub type $1<'tree> = NodeOfRef<'tree, $2>;\n";
+const NODE_REF: &str = "pub type $borrowed<'tree> = NodeOfRef<'tree, $number>;\n";
 
 /// The types that wrappers of nodes of one kind are.
 pub fn add_node_types(out: &mut String, scope: &Scope<'_>) -> Result<(), AllocError> {
@@ -173,31 +173,39 @@ pub fn add_node_types(out: &mut String, scope: &Scope<'_>) -> Result<(), AllocEr
     if scope.has_nodes(Form::Owned) {
         let cast = cast_head(scope, "SyntaxNode", Form::Owned, "NodeOf<KIND>")?;
         let values = [
+            "crate",
             scope.crate_name,
+            "language",
             scope.language,
+            "cast",
             cast.as_str(),
+            "test",
             test.as_str(),
         ];
         scope.fill(out, NODE_OF, &values)?;
         if scope.has_both() {
             scope.fill(out, AS_REF, &values)?;
         }
-        fill(out, DEBUG, &["NodeOf<KIND>"])?;
+        fill(out, DEBUG, &["wrapper", "NodeOf<KIND>"])?;
     }
     if scope.has_nodes(Form::Borrowed) {
         let into = "NodeOfRef<'tree, KIND>";
         let cast = cast_head(scope, "SyntaxNodeRef", Form::Borrowed, into)?;
         let values = [
+            "crate",
             scope.crate_name,
+            "language",
             scope.language,
+            "cast",
             cast.as_str(),
+            "test",
             test.as_str(),
         ];
         scope.fill(out, NODE_OF_REF, &values)?;
         if scope.has_both() {
             scope.fill(out, TO_OWNED, &values)?;
         }
-        fill(out, DEBUG, &["NodeOfRef<'_, KIND>"])?;
+        fill(out, DEBUG, &["wrapper", "NodeOfRef<'_, KIND>"])?;
     }
     Ok(())
 }
@@ -210,7 +218,14 @@ pub fn add_node(
     index: usize,
 ) -> Result<(), AllocError> {
     let number = format!(in scope.alloc; "{}", scope.kind_number(index))?;
-    let values = [item.name.as_str(), item.borrowed.as_str(), number.as_str()];
+    let values = [
+        "name",
+        item.name.as_str(),
+        "borrowed",
+        item.borrowed.as_str(),
+        "number",
+        number.as_str(),
+    ];
     for form in [Form::Owned, Form::Borrowed] {
         if item.forms.has(form) {
             add_wrapper_docs(out, form, item)?;
@@ -235,7 +250,11 @@ pub fn add_wrapper_docs(out: &mut String, form: Form, item: &Item) -> Result<(),
     out.push('\n')?;
     if form == Form::Borrowed && item.forms.owned {
         let name = item.name.as_str();
-        return fill(out, "/// [`$0`], borrowed from its tree.\n", &[name]);
+        return fill(
+            out,
+            "/// [`$name`], borrowed from its tree.\n",
+            &["name", name],
+        );
     }
     add_docs(out, "", item.docs.as_str(), item.rule.as_str())
 }
@@ -252,10 +271,10 @@ fn add_own_calls(
         return Ok(());
     }
     let head = match form {
-        Form::Owned => "\nimpl $0 {\n",
-        Form::Borrowed => "\nimpl<'tree> $0<'tree> {\n",
+        Form::Owned => "\nimpl $wrapper {\n",
+        Form::Borrowed => "\nimpl<'tree> $wrapper<'tree> {\n",
     };
-    fill(out, head, &[scope.grammar.wrapper(form, index)])?;
+    fill(out, head, &["wrapper", scope.grammar.wrapper(form, index)])?;
     add_call_imports(out, scope, form, index)?;
     add_calls(out, scope, form, index)?;
     out.push_str("}\n")

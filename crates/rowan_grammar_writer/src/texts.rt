@@ -12,7 +12,7 @@ const SIGNS: &str = "+-*/%^!&|=<>@.,;:#?~";
 const HEAD: &str = "
 impl Kind {
     ghost use Rattle.std.specs.Prelude.{◌≡◌};
-$0";
+$words";
 
 const CALLS: &str = "
     /// Whether its tokens are always one word.
@@ -20,7 +20,7 @@ const CALLS: &str = "
         ensures { result ≡ is_keyword self }
     {
         match self {
-$0            _ => false,
+$keywords            _ => false,
         }
     }
 
@@ -29,7 +29,7 @@ $0            _ => false,
         ensures { result ≡ is_punct self }
     {
         match self {
-$1            _ => false,
+$signs            _ => false,
         }
     }
 
@@ -37,7 +37,7 @@ $1            _ => false,
     pub fn from_keyword(text: &str) -> Option<Kind>
         ensures { result ≡ keyword_of text.now }
     {
-$2        None
+$tests        None
     }
 ";
 
@@ -45,7 +45,7 @@ const MACRO: &str = "
 /// The kind of a token by the text that it always has.
 #[macro_export]
 macro_rules! T {
-$0}
+$rules}
 ";
 
 /// Whether tokens of some kind always have one text.
@@ -74,7 +74,7 @@ pub fn add_calls_of_kinds(out: &mut String, scope: &Scope<'_>) -> Result<(), All
         words.add("sign_of")?;
     }
     add_set_words(&mut words, scope)?;
-    fill(out, HEAD, &[words.finish()?])?;
+    fill(out, HEAD, &["words", words.finish()?])?;
     let mut rules = String::new(scope.alloc);
     if has_texts {
         add_text_calls(out, &mut rules, scope)?;
@@ -86,7 +86,7 @@ pub fn add_calls_of_kinds(out: &mut String, scope: &Scope<'_>) -> Result<(), All
     out.push_str("}\n")?;
     match rules.is_empty() {
         true => Ok(()),
-        false => fill(out, MACRO, &[rules.as_str()]),
+        false => fill(out, MACRO, &["rules", rules.as_str()]),
     }
 }
 
@@ -104,24 +104,31 @@ fn add_text_calls(
             continue;
         };
         let name = scope.grammar.name(*index);
-        let arm = "            Kind::$0 => true,\n";
+        let arm = "            Kind::$kind => true,\n";
         if is_word(text) {
-            fill(&mut keywords, arm, &[name])?;
-            fill(&mut tests, TEST, &[text, name])?;
+            fill(&mut keywords, arm, &["kind", name])?;
+            fill(&mut tests, TEST, &["text", text, "kind", name])?;
         } else {
-            fill(&mut signs, arm, &[name])?;
+            fill(&mut signs, arm, &["kind", name])?;
         }
         add_rule(rules, scope.module, text, name)?;
     }
     fill(
         out,
         CALLS,
-        &[keywords.as_str(), signs.as_str(), tests.as_str()],
+        &[
+            "keywords",
+            keywords.as_str(),
+            "signs",
+            signs.as_str(),
+            "tests",
+            tests.as_str(),
+        ],
     )
 }
 
-const TEST: &str = "        if text == \"$0\" {
-            return Some(Kind::$1);
+const TEST: &str = "        if text == \"$text\" {
+            return Some(Kind::$kind);
         }
 ";
 
@@ -144,8 +151,8 @@ fn add_rule(rules: &mut String, module: &str, text: &str, name: &str) -> Result<
     }
     fill(
         rules,
-        "] => { $0crate::$1::Kind::$2 };\n",
-        &["$", module, name],
+        "] => { ${dollar}crate::$module::Kind::$kind };\n",
+        &["dollar", "$", "module", module, "kind", name],
     )
 }
 
@@ -160,10 +167,10 @@ pub fn add_text_specs(out: &mut String, scope: &Scope<'_>) -> Result<(), AllocEr
         let name = scope.grammar.name(*index);
         match text_of(scope, *index) {
             Some(text) if is_word(text) => {
-                fill(out, "is_keyword Kind.$0 = true\n", &[name])?;
+                fill(out, "is_keyword Kind.$kind = true\n", &["kind", name])?;
                 chain.push_str(if count == 0 { "    " } else { "    else (" })?;
-                let test = "if bytes_eq text (codes \"$0\") then Some Kind.$1\n";
-                fill(&mut chain, test, &[text, name])?;
+                let test = "if bytes_eq text (codes \"$text\") then Some Kind.$kind\n";
+                fill(&mut chain, test, &["text", text, "kind", name])?;
                 count = count.saturating_add(1);
             }
             _ => {}
@@ -177,8 +184,8 @@ pub fn add_text_specs(out: &mut String, scope: &Scope<'_>) -> Result<(), AllocEr
             Some(text) if !is_word(text) => {
                 fill(
                     out,
-                    "is_punct Kind.$0 = true\n",
-                    &[scope.grammar.name(*index)],
+                    "is_punct Kind.$kind = true\n",
+                    &["kind", scope.grammar.name(*index)],
                 )?;
             }
             _ => {}

@@ -9,7 +9,7 @@ const TOKEN_OF: &str = "
 /// A token whose kind has this number.
 #[derive(Clone, PartialEq, Eq, Hash, Drop)]
 pub struct TokenOf<const KIND: u16> {
-    syntax: @SyntaxToken<$1>,
+    syntax: @SyntaxToken<$language>,
 }
 
 impl<const KIND: u16> @Model for TokenOf<KIND> {
@@ -17,8 +17,8 @@ impl<const KIND: u16> @Model for TokenOf<KIND> {
     ghost use Rattle.rowan.specs.Cursor.{Cursor};
     ghost use Rattle.rowan.specs.CursorCode.{coded_cursor};
     ghost use Rattle.rowan.specs.Ast.{casts_at};
-    ghost use Rattle.$0.specs.Casts.{has_number};
-    ghost use Rattle.$0.specs.Kinds.{kind_of};
+    ghost use Rattle.$crate.specs.Casts.{has_number};
+    ghost use Rattle.$crate.specs.Kinds.{kind_of};
 
     ghost Value = { Cursor };
 
@@ -32,23 +32,23 @@ impl<const KIND: u16> @Model for TokenOf<KIND> {
 }
 
 impl<const KIND: u16> @AstToken for TokenOf<KIND> {
-    type Language = $1;
+    type Language = $language;
 
     ghost use Rattle.std.specs.Prelude.{◌≡◌};
     ghost use Rattle.std.specs.Option.{option_map};
     ghost use Rattle.rowan.specs.Ast.{casts_at, if_casts};
-    ghost use Rattle.$0.specs.Casts.{has_number};
-    ghost use Rattle.$0.specs.Kinds.{kind_of};
+    ghost use Rattle.$crate.specs.Casts.{has_number};
+    ghost use Rattle.$crate.specs.Kinds.{kind_of};
 
     ghost casts = { has_number KIND };
 
     ghost token_of = { λ wrapper. wrapper };
 
     fn can_cast(kind: Kind) -> bool {
-$4
+$test
     }
 
-$2
+$cast
         ensures { let casting = casts_at kind_of (has_number KIND) in
             option_map (λ wrapper. wrapper) result ≡ if_casts casting syntax }
     {
@@ -59,14 +59,14 @@ $2
         }
     }
 
-    fn syntax(&self) -> &@SyntaxToken<$1> {
+    fn syntax(&self) -> &@SyntaxToken<$language> {
         &self.syntax
     }
 }
 
 impl<const KIND: u16> TokenOf<KIND> {
     ghost use Rattle.std.specs.Prelude.{◌≡◌};
-    ghost use Rattle.$0.specs.NodeIn.{token_in};
+    ghost use Rattle.$crate.specs.NodeIn.{token_in};
 
     /// The same token, borrowed from its tree.
     pub fn as_ref(&self) -> TokenOfRef<'_, KIND>
@@ -90,21 +90,21 @@ const TOKEN_OF_REF: &str = "
 /// A token whose kind has this number, borrowed from its tree.
 #[derive(Clone, Copy, PartialEq, Eq, Hash)]
 pub struct TokenOfRef<'tree, const KIND: u16> {
-    syntax: @SyntaxTokenRef<'tree, $1>,
+    syntax: @SyntaxTokenRef<'tree, $language>,
     ghost casts: { casts_at kind_of (has_number KIND) (token_place syntax) ≡ true },
 }
 
 impl<'tree, const KIND: u16> @AstTokenRef<'tree> for TokenOfRef<'tree, KIND> {
-    type Language = $1;
+    type Language = $language;
 
     ghost use Rattle.std.specs.Prelude.{◌≡◌, true};
     ghost use Rattle.std.specs.Option.{option_map};
     ghost use Rattle.rowan.specs.Ast.{casts_at, if_casts};
     ghost use Rattle.rowan.specs.Cursor.{text_at};
     ghost use Rattle.rowan.specs.Refs.{token_place};
-    ghost use Rattle.$0.specs.Casts.{has_number};
-    ghost use Rattle.$0.specs.Kinds.{kind_of};
-    ghost use Rattle.$0.specs.NodeIn.{token_in};
+    ghost use Rattle.$crate.specs.Casts.{has_number};
+    ghost use Rattle.$crate.specs.Kinds.{kind_of};
+    ghost use Rattle.$crate.specs.NodeIn.{token_in};
 
     ghost casts = { has_number KIND };
 
@@ -113,10 +113,10 @@ impl<'tree, const KIND: u16> @AstTokenRef<'tree> for TokenOfRef<'tree, KIND> {
     fn can_cast(kind: Kind) -> bool
         ensures { result ≡ has_number KIND kind }
     {
-$4
+$test
     }
 
-$3
+$borrowed
         ensures { let casting = casts_at kind_of (has_number KIND) in
             option_map token_in result ≡ if_casts casting (token_place syntax.entry) }
     {
@@ -127,7 +127,7 @@ $3
         }
     }
 
-    fn syntax(&self) -> @SyntaxTokenRef<'tree, $1>
+    fn syntax(&self) -> @SyntaxTokenRef<'tree, $language>
         ensures token { token_place result ≡ token_in self.now }
         ensures casts { casts_at kind_of (has_number KIND) (token_place result) ≡ true }
     {
@@ -143,7 +143,7 @@ $3
 
 impl<'tree, const KIND: u16> TokenOfRef<'tree, KIND> {
     ghost use Rattle.std.specs.Prelude.{◌≡◌, IfOk, IfErr};
-    ghost use Rattle.$0.specs.NodeIn.{token_in};
+    ghost use Rattle.$crate.specs.NodeIn.{token_in};
 
     /// The same token in a wrapper that keeps the tree. Refused with `Memory` alone.
     pub fn to_owned(&self) -> @Result<TokenOf<KIND>, Fault>
@@ -164,10 +164,10 @@ impl<const KIND: u16> std::fmt::Debug for TokenOfRef<'_, KIND> {
 
 /// The names of the wrappers of one kind.
 const TOKEN: &str = "\
-pub type $0 = TokenOf<$2>;
+pub type $name = TokenOf<$number>;
 
-/// [`$0`], borrowed from its tree.
-pub type $1<'tree> = TokenOfRef<'tree, $2>;
+/// [`$name`], borrowed from its tree.
+pub type $borrowed<'tree> = TokenOfRef<'tree, $number>;
 ";
 
 /// The types that wrappers of tokens are.
@@ -181,10 +181,15 @@ pub fn add_token_types(out: &mut String, scope: &Scope<'_>) -> Result<(), AllocE
         "TokenOfRef<'tree, KIND>",
     )?;
     let values = [
+        "crate",
         scope.crate_name,
+        "language",
         scope.language,
+        "cast",
         cast.as_str(),
+        "borrowed",
         borrowed.as_str(),
+        "test",
         test.as_str(),
     ];
     scope.fill(out, TOKEN_OF, &values)?;
@@ -201,6 +206,13 @@ pub fn add_token(
     out.push('\n')?;
     add_docs(out, "", item.docs.as_str(), "")?;
     let number = format!(in scope.alloc; "{}", scope.kind_number(index))?;
-    let values = [item.name.as_str(), item.borrowed.as_str(), number.as_str()];
+    let values = [
+        "name",
+        item.name.as_str(),
+        "borrowed",
+        item.borrowed.as_str(),
+        "number",
+        number.as_str(),
+    ];
     fill(out, TOKEN, &values)
 }

@@ -7,45 +7,45 @@ use rowan_grammar_model::forms::Form;
 use std::alloc::AllocError;
 
 const CHILD: &str = "
-    /// The first child that is `$0`.
-$1
-        ensures ok { let casts = casts_at kind_of is_$2 in
+    /// The first child that is `$target`.
+$head
+        ensures ok { let casts = casts_at kind_of is_$snake in
             IfOk result (λ found.
-            option_map $3 found ≡ find casts (children ($4 self.now))) }
-        ensures err { IfErr result (λ e. e ≡ Fault.Memory) }$5";
+            option_map $inner found ≡ find casts (children ($node self.now))) }
+        ensures err { IfErr result (λ e. e ≡ Fault.Memory) }$body";
 
 const CHILD_REF: &str = "
-    /// The first child that is `$0`.
-$1
-        ensures { let casts = casts_at kind_of is_$2 in
-            option_map $3 result ≡ find casts (children ($4 self.now)) }$5";
+    /// The first child that is `$target`.
+$head
+        ensures { let casts = casts_at kind_of is_$snake in
+            option_map $inner result ≡ find casts (children ($node self.now)) }$body";
 
 const CHILDREN: &str = "
-    /// The children that are `$0`, in order.
-$1
-        ensures ok { IfOk result (λ nodes. nodes ≡ children ($4 self.now)) }
-        ensures err { IfErr result (λ e. e ≡ Fault.Memory) }$5";
+    /// The children that are `$target`, in order.
+$head
+        ensures ok { IfOk result (λ nodes. nodes ≡ children ($node self.now)) }
+        ensures err { IfErr result (λ e. e ≡ Fault.Memory) }$body";
 
 const CHILDREN_REF: &str = "
-    /// The children that are `$0`, in order.
-$1
-        ensures { let casts = casts_at kind_of is_$2 in
-            rest_that_casts casts result ≡ filter casts (children ($4 self.now)) }$5";
+    /// The children that are `$target`, in order.
+$head
+        ensures { let casts = casts_at kind_of is_$snake in
+            rest_that_casts casts result ≡ filter casts (children ($node self.now)) }$body";
 
 const TOKEN: &str = "
-    /// The first token `$0`.
-$1
-        ensures ok { let means = means_kind kind_of (sameb the_type) Kind.$0 in
+    /// The first token `$target`.
+$head
+        ensures ok { let means = means_kind kind_of (sameb the_type) Kind.$target in
             IfOk result (λ found. option_map Token found
-            ≡ find (is_token_of means) (children_with_tokens ($4 self.now))) }
-        ensures err { IfErr result (λ e. e ≡ Fault.Memory) }$5";
+            ≡ find (is_token_of means) (children_with_tokens ($node self.now))) }
+        ensures err { IfErr result (λ e. e ≡ Fault.Memory) }$body";
 
 const TOKEN_REF: &str = "
-    /// The first token `$0`.
-$1
-        ensures { let means = means_kind kind_of (sameb the_type) Kind.$0 in
+    /// The first token `$target`.
+$head
+        ensures { let means = means_kind kind_of (sameb the_type) Kind.$target in
             option_map Token (option_map token_place result)
-            ≡ find (is_token_of means) (children_with_tokens ($4 self.now)) }$5";
+            ≡ find (is_token_of means) (children_with_tokens ($node self.now)) }$body";
 
 /// The traits, and what has them. A trait has the form of wrappers that all its calls have.
 pub fn add_traits(out: &mut String, scope: &Scope<'_>) -> Result<(), AllocError> {
@@ -72,8 +72,8 @@ fn add_trait(
         Form::Borrowed if shared.forms.owned => {
             fill(
                 out,
-                "/// [`$0`], of wrappers that borrow the tree.\n",
-                &[name],
+                "/// [`$name`], of wrappers that borrow the tree.\n",
+                &["name", name],
             )?;
         }
         _ => add_docs(out, "", scope.grammar.docs(shared.item), "")?,
@@ -169,11 +169,17 @@ fn add_call(
     let head = signature(alloc, start.as_str(), "&self", result.as_str())?;
     let inner = scope.node_of(form, item)?;
     let values = [
+        "target",
         scope.grammar.name(item),
+        "head",
         head.as_str(),
+        "snake",
         scope.grammar.snake(item),
+        "inner",
         inner.as_str(),
+        "node",
         node_of.as_str(),
+        "body",
         body.as_str(),
     ];
     fill(out, template_of(form, call.gives), &values)

@@ -136,28 +136,46 @@ const MAX_TESTED: usize = 92;
 /// How long arguments on one line may be, and the elements of a list.
 pub const ARGUMENTS: usize = 60;
 
-/// Adds a template, in which `$0` stands for the first of the values, `$1` for the second, and so
-/// on up to `$9`. What there is no value for is left out.
+/// Adds a template, in which `$name` stands for the value of that name, or `${name}` where a letter
+/// or a digit follows. The values are names, in small letters, each with its value behind it. A name
+/// that has none is left out.
 pub fn fill(out: &mut String, template: &str, values: &[&str]) -> Result<(), AllocError> {
     for (index, piece) in template.split('$').enumerate() {
         if index == 0 {
             out.push_str(piece)?;
         } else {
-            out.push_str(value_before(piece, values))?;
-            out.push_str(piece.get(1..).unwrap_or(""))?;
+            let (name, rest) = name_before(piece);
+            out.push_str(value_of(name, values))?;
+            out.push_str(rest)?;
         }
     }
     Ok(())
 }
 
-/// The value whose number the piece begins with.
-fn value_before<'a>(piece: &str, values: &[&'a str]) -> &'a str {
-    let digit = piece.as_bytes().first().copied().unwrap_or(0);
-    let number = usize::from(digit.saturating_sub(b'0'));
-    match values.get(number) {
-        Some(value) => value,
-        None => "",
+/// The name with which a piece begins, and what stands behind it.
+fn name_before(piece: &str) -> (&str, &str) {
+    if let Some(inner) = piece.strip_prefix('{') {
+        return inner.split_once('}').unwrap_or((inner, ""));
     }
+    let len = piece
+        .find(|character: char| !character.is_ascii_lowercase())
+        .unwrap_or(piece.len());
+    (
+        piece.get(..len).unwrap_or(""),
+        piece.get(len..).unwrap_or(""),
+    )
+}
+
+/// The value behind a name.
+fn value_of<'a>(name: &str, values: &[&'a str]) -> &'a str {
+    for pair in values.chunks_exact(2) {
+        if let [other, value] = pair {
+            if *other == name {
+                return value;
+            }
+        }
+    }
+    ""
 }
 
 /// The head of a function of one parameter, which has a line of its own where one line is too
@@ -237,10 +255,14 @@ pub fn add_arm(
     let len = indent.len().saturating_add(pattern.len());
     let len = len.saturating_add(body.len()).saturating_add(" => ,".len());
     let template = match len > WIDTH {
-        true => "$0$1 =>\n$0    $2,\n",
-        false => "$0$1 => $2,\n",
+        true => "$indent$pattern =>\n$indent    $body,\n",
+        false => "$indent$pattern => $body,\n",
     };
-    fill(out, template, &[indent, pattern, body])
+    fill(
+        out,
+        template,
+        &["indent", indent, "pattern", pattern, "body", body],
+    )
 }
 
 /// Lines that import names of one module, as many in a line as it takes.
@@ -307,17 +329,17 @@ pub fn add_docs(out: &mut String, indent: &str, docs: &str, rule: &str) -> Resul
         return Ok(());
     }
     if !docs.is_empty() {
-        fill(out, "$0///\n", &[indent])?;
+        fill(out, "$indent///\n", &["indent", indent])?;
     }
-    fill(out, "$0/// ```text\n$0///", &[indent])?;
+    fill(out, "$indent/// ```text\n$indent///", &["indent", indent])?;
     let mut width = 0usize;
     for word in rule.split(' ') {
         width = width.saturating_add(word.len()).saturating_add(1);
         if width > 90 {
-            fill(out, "\n$0///    ", &[indent])?;
+            fill(out, "\n$indent///    ", &["indent", indent])?;
             width = word.len().saturating_add(4);
         }
-        fill(out, " $0", &[word])?;
+        fill(out, " $word", &["word", word])?;
     }
-    fill(out, "\n$0/// ```\n", &[indent])
+    fill(out, "\n$indent/// ```\n", &["indent", indent])
 }
