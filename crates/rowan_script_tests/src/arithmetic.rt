@@ -1,13 +1,11 @@
-//! A parser of sums and products, as `1 + 2 * (3`. No text is refused for its form, and the tree
-//! has each byte of it: a group that is never closed runs to the end, and what has no place stands
-//! in a node of its own.
-mod kinds;
-
+//! A parser of sums and products, as `1 + 2 * (3`, by calls of a builder and no events. No text is
+//! refused for its form, and the tree has each byte of it: a group that is never closed runs to the
+//! end, and what has no place stands in a node of its own.
 ghost use Rattle.std.specs.Prelude.{◌≡◌, ◌++◌, IfOk, OnOk};
 ghost use Rattle.rowan_green.specs.Loan.{text_so_far};
 ghost use Rattle.rowan_green.specs.Term.{node_text};
 
-pub use kinds::{Arithmetic, Kind};
+use arithmetic_syntax::{Arithmetic, Kind};
 use rowan::{Checkpoint, Fault, GreenNode, GreenNodeBuilder, Language, OwnedCache, SyntaxKind};
 use std::alloc::Global;
 
@@ -50,24 +48,24 @@ fn place(
     match token {
         "+" => {
             sum.close_product(builder)?;
-            builder.token(raw(Kind::Sign), token)?;
+            builder.token(raw(Kind::Plus), token)?;
             sum.product = builder.checkpoint();
             sum.has_plus = true;
             sum.has_star = false;
         }
         "*" => {
-            builder.token(raw(Kind::Sign), token)?;
+            builder.token(raw(Kind::Star), token)?;
             sum.has_star = true;
         }
         "(" => {
             around.push(sum)?;
             builder.start_node(raw(Kind::Group))?;
-            builder.token(raw(Kind::Sign), token)?;
+            builder.token(raw(Kind::Open), token)?;
             sum = Sum::new(builder.checkpoint());
         }
         ")" if let Some(outer) = around.pop() => {
             sum.close(builder)?;
-            builder.token(raw(Kind::Sign), token)?;
+            builder.token(raw(Kind::Close), token)?;
             builder.finish_node()?;
             sum = outer;
         }
@@ -87,7 +85,7 @@ fn place_error(builder: &mut Builder<'_>, token: &str) -> Result<(), Fault>
     ensures { OnOk result (text_so_far builder.new ≡ text_so_far builder.old ++ token.now) }
 {
     builder.start_node(raw(Kind::Error))?;
-    builder.token(raw(Kind::Sign), token)?;
+    builder.token(raw(Kind::Error), token)?;
     builder.finish_node()
 }
 
@@ -149,18 +147,18 @@ mod test {
   SUM@0..13
     NUMBER@0..2 "12"
     SPACE@2..3 " "
-    SIGN@3..4 "+"
+    PLUS@3..4 "+"
     PRODUCT@4..13
       SPACE@4..5 " "
       NUMBER@5..6 "2"
       SPACE@6..7 " "
-      SIGN@7..8 "*"
+      STAR@7..8 "*"
       SPACE@8..9 " "
       GROUP@9..13
-        SIGN@9..10 "("
+        OPEN@9..10 "("
         NUMBER@10..11 "3"
         ERROR@11..13
-          SIGN@11..13 "é"
+          ERROR@11..13 "é"
 "#;
 
     #[test]
