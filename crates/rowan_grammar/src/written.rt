@@ -11,7 +11,7 @@ use rowan_grammar_model::grammar::Grammar;
 use rowan_grammar_model::place::{is_error, render};
 use rowan_grammar_reader::{Reading, read};
 use rowan_grammar_writer::{File, Source, files_of};
-use std::alloc::Global;
+use std::alloc::{AllocError, Global};
 
 /// How much a grammar has.
 #[derive(Clone, Copy, PartialEq, Eq, Debug)]
@@ -91,15 +91,7 @@ fn answer(
     let messages = render(alloc, &mut checker.problems, text, name)?;
     let calls = checker.calls.as_slice();
     let files = match has_files && !has_errors {
-        true => files_of(&Source {
-            alloc,
-            text,
-            name,
-            grammar,
-            calls,
-            traits: checker.traits.as_slice(),
-            rules: checker.rules.as_ref(),
-        })?,
+        true => files(checker, text, name, grammar)?,
         false => Vec::new(alloc),
     };
     let summary = summary_of(grammar, calls);
@@ -108,6 +100,24 @@ fn answer(
         has_errors,
         summary,
         files,
+    })
+}
+
+/// The files of a grammar in which nothing is wrong.
+fn files<'g>(
+    checker: &'g Checker<'_>,
+    text: &'g str,
+    name: &'g str,
+    grammar: &'g Grammar,
+) -> Result<Vec<File>, AllocError> {
+    files_of(&Source {
+        alloc: checker.alloc,
+        text,
+        name,
+        grammar,
+        calls: checker.calls.as_slice(),
+        traits: checker.traits.as_slice(),
+        rules: checker.rules.as_ref(),
     })
 }
 
