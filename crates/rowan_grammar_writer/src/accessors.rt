@@ -1,5 +1,6 @@
 //! The calls of a wrapper as source text.
-use crate::writer::{ARGUMENTS, Imports, Scope, WIDTH, arguments, fill, signature};
+use crate::pieces::Pieces;
+use crate::writer::{ARGUMENTS, Imports, Scope, WIDTH, fill};
 use rowan_grammar_calls::calls::{Alike, Call, Gives};
 use rowan_grammar_model::forms::Form;
 use rowan_grammar_model::grammar::Sort;
@@ -173,46 +174,6 @@ fn add_alike(out: &mut String, scope: &Scope<'_>, alike: &Alike) -> Result<(), A
     )
 }
 
-/// The pieces of which a call is written.
-#[derive(Drop)]
-struct Pieces {
-    target: String,
-    snake: String,
-    /// The function from the wrapper of a child to its node.
-    node_of: String,
-    head: String,
-    /// What the function of `support` takes.
-    arguments: String,
-    kinds: String,
-    index: String,
-    /// The function from the wrapper to its node.
-    node_of_self: String,
-}
-
-impl Pieces {
-    fn fill(&self, out: &mut String, template: &str) -> Result<(), AllocError> {
-        let values = [
-            "target",
-            self.target.as_str(),
-            "head",
-            self.head.as_str(),
-            "snake",
-            self.snake.as_str(),
-            "inner",
-            self.node_of.as_str(),
-            "kinds",
-            self.kinds.as_str(),
-            "index",
-            self.index.as_str(),
-            "arguments",
-            self.arguments.as_str(),
-            "node",
-            self.node_of_self.as_str(),
-        ];
-        fill(out, template, &values)
-    }
-}
-
 fn add_call(
     out: &mut String,
     scope: &Scope<'_>,
@@ -220,25 +181,11 @@ fn add_call(
     index: usize,
     call: &Call,
 ) -> Result<(), AllocError> {
-    let alloc = scope.alloc;
-    let start = format!(in alloc; "    pub fn {}", call.name)?;
-    let result = result_of(scope, form, call)?;
-    let nth = call.nth();
-    let kinds = match nth.and_then(|nth| scope.alike(index).get(nth.alike)) {
-        Some(alike) => alike.name.as_str(),
-        None => "",
-    };
-    let item = call.item().unwrap_or(0);
-    let pieces = Pieces {
-        target: String::from_str(alloc, scope.grammar.name(item))?,
-        snake: String::from_str(alloc, scope.grammar.snake(item))?,
-        node_of: scope.node_of(form, item)?,
-        head: signature(alloc, start.as_str(), "&self", result.as_str())?,
-        arguments: arguments_of(scope, form, call, kinds)?,
-        kinds: String::from_str(alloc, kinds)?,
-        index: format!(in alloc; "{}", nth.map_or(0, |nth| nth.index))?,
-        node_of_self: scope.node_of(form, index)?,
-    };
+    let mut pieces = Pieces::new(scope.alloc);
+    pieces.read(scope, form, "    pub fn ", call)?;
+    pieces.read_kinds(scope, index, call)?;
+    pieces.read_arguments(scope, form.parent(), call)?;
+    pieces.read_node(scope, form, index)?;
     pieces.fill(out, template_of(form, call.gives))
 }
 
@@ -255,51 +202,6 @@ fn template_of(form: Form, gives: Gives) -> &'static str {
         (Form::Borrowed, Gives::NthChild(_, _)) => NTH_CHILD_REF,
         (Form::Borrowed, Gives::Children(_)) => CHILDREN_REF,
     }
-}
-
-/// What the function of `support` takes.
-fn arguments_of(
-    scope: &Scope<'_>,
-    form: Form,
-    call: &Call,
-    kinds: &str,
-) -> Result<String, AllocError> {
-    let alloc = scope.alloc;
-    let parent = form.parent();
-    match call.gives {
-        Gives::Token(item) => {
-            let kind = scope.grammar.name(item);
-            let values = format!(in alloc; "{parent}\nKind::{kind}")?;
-            arguments(alloc, values.as_str(), ",")
-        }
-        Gives::NthToken(nth) | Gives::NthChild(_, nth) => {
-            let values = format!(in alloc; "{parent}\n{kinds}\n{}", nth.index)?;
-            arguments(alloc, values.as_str(), ",")
-        }
-        Gives::Child(_) | Gives::Children(_) => String::from_str(alloc, parent),
-    }
-}
-
-/// The type of what a call gives.
-pub fn result_of(scope: &Scope<'_>, form: Form, call: &Call) -> Result<String, AllocError> {
-    let template = match (form, call.gives) {
-        (Form::Owned, Gives::Token(_) | Gives::NthToken(_)) =>
-            "@Result<@Option<@SyntaxToken<$language>>, Fault>",
-        (Form::Owned, Gives::Children(_)) => "@AstChildren<$name>",
-        (Form::Owned, _) => "@Result<@Option<$name>, Fault>",
-        (Form::Borrowed, Gives::Token(_) | Gives::NthToken(_)) =>
-            "@Option<@SyntaxTokenRef<'tree, $language>>",
-        (Form::Borrowed, Gives::Children(_)) => "@AstNodesRef<'tree, $name<'tree>>",
-        (Form::Borrowed, _) => "@Option<$name<'tree>>",
-    };
-    let name = scope.grammar.wrapper(form, call.item().unwrap_or(0));
-    let mut out = String::new(scope.alloc);
-    scope.fill(
-        &mut out,
-        template,
-        &["name", name, "language", scope.language],
-    )?;
-    Ok(out)
 }
 
 /// Which contracts some calls have.

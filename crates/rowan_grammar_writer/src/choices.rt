@@ -1,10 +1,10 @@
 //! The wrappers of choices as source text.
 use crate::structs::add_wrapper_docs;
-use crate::writer::{Scope, WIDTH, add_docs, cast_head, fill, signature};
+use crate::writer::{Scope, WIDTH, add_cast_head, add_docs, add_signature, fill};
 use rowan_grammar_calls::reach::{Reach, Step, steps_from};
 use rowan_grammar_model::forms::Form;
 use rowan_grammar_model::grammar::{Item, Sort};
-use std::alloc::AllocError;
+use std::alloc::{AllocError, Global};
 
 /// How long a kind and what is made of its node are together at most on one line.
 const MAX_ARM: usize = 70;
@@ -153,19 +153,6 @@ pub fn add_choice(
     Ok(())
 }
 
-const FROM: &str = "
-$line
-    ghost use Rattle.std.specs.Prelude.{◌≡◌};
-    ghost use Rattle.$crate.specs.NodeIn.{$words};
-
-    ghost from_gives = { λ node whole. $gives };
-
-$head
-        $body
-    }
-}
-";
-
 /// What makes a choice of one of its alternatives.
 fn add_from(
     out: &mut String,
@@ -174,38 +161,56 @@ fn add_from(
     whole: usize,
     one: usize,
 ) -> Result<(), AllocError> {
-    let alloc = scope.alloc;
     let from = wrapper_type(scope, form, one)?;
     let into = wrapper_type(scope, form, whole)?;
-    let line = impl_line(scope, form, from.as_str(), into.as_str())?;
-    let parameter = format!(in alloc; "node: {from}")?;
-    let end = format!(in alloc; "{into} {{")?;
-    let head = signature(alloc, "    fn from", parameter.as_str(), end.as_str())?;
-    let body = from_body(scope, form, whole, one)?;
-    let mut words = scope.node_of(form, whole)?;
-    let mut gives = format!(in alloc; "{words} whole ≡ ")?;
-    if has_word(scope, form, one) {
-        let inner = scope.node_of(form, one)?;
-        write!(words, ", {inner}")?;
-        write!(gives, "{inner} node")?;
-    } else {
-        gives.push_str("node")?;
+    out.push('\n')?;
+    add_impl_line(out, scope, form, from.as_str(), into.as_str())?;
+    add_from_words(out, scope, form, whole, one)?;
+    add_from_head(out, scope, from.as_str(), into.as_str())?;
+    add_from_body(out, scope, form, whole, one)?;
+    out.push_str("    }\n}\n")
+}
+
+/// The contract of what makes a choice: the node stays.
+fn add_from_words(
+    out: &mut String,
+    scope: &Scope<'_>,
+    form: Form,
+    whole: usize,
+    one: usize,
+) -> Result<(), AllocError> {
+    let has_word = has_word(scope, form, one);
+    out.push_str("    ghost use Rattle.std.specs.Prelude.{◌≡◌};\n")?;
+    write!(
+        out,
+        "    ghost use Rattle.{}.specs.NodeIn.{{",
+        scope.crate_name
+    )?;
+    scope.add_node_of(out, form, whole)?;
+    if has_word {
+        out.push_str(", ")?;
+        scope.add_node_of(out, form, one)?;
     }
-    let values = [
-        "line",
-        line.as_str(),
-        "crate",
-        scope.crate_name,
-        "words",
-        words.as_str(),
-        "gives",
-        gives.as_str(),
-        "head",
-        head.as_str(),
-        "body",
-        body.as_str(),
-    ];
-    fill(out, FROM, &values)
+    out.push_str("};\n\n    ghost from_gives = { λ node whole. ")?;
+    scope.add_node_of(out, form, whole)?;
+    out.push_str(" whole ≡ ")?;
+    if has_word {
+        scope.add_node_of(out, form, one)?;
+        out.push(' ')?;
+    }
+    out.push_str("node };\n\n")
+}
+
+fn add_from_head(
+    out: &mut String,
+    scope: &Scope<'_>,
+    from: &str,
+    into: &str,
+) -> Result<(), AllocError> {
+    let parameter = format!(in scope.alloc; "node: {from}")?;
+    let end = format!(in scope.alloc; "{into} {{")?;
+    add_signature(out, "    fn ", "from", parameter.as_str(), end.as_str())?;
+    out.push('\n')
 }
 
 /// The type of the wrapper of an item.
@@ -215,30 +220,37 @@ fn wrapper_type(scope: &Scope<'_>, form: Form, index: usize) -> Result<String, A
 }
 
 /// The first line of an impl of `From`, or the first two where it is long.
-fn impl_line(scope: &Scope<'_>, form: Form, from: &str, into: &str) -> Result<String, AllocError> {
+fn add_impl_line(
+    out: &mut String,
+    scope: &Scope<'_>,
+    form: Form,
+    from: &str,
+    into: &str,
+) -> Result<(), AllocError> {
     let generics = match form {
         Form::Owned => " ",
         Form::Borrowed => "<'tree> ",
     };
     let name = scope.outside("From");
     let line = format!(in scope.alloc; "impl{generics}{name}<{from}> for {into} {{")?;
-    if line.len() > WIDTH {
-        return format!(in scope.alloc; "impl{generics}{name}<{from}>\n    for {into} {{");
+    match line.len() > WIDTH {
+        true => writeln!(out, "impl{generics}{name}<{from}>\n    for {into} {{"),
+        false => writeln!(out, "{line}"),
     }
-    Ok(line)
 }
 
 /// A node in its variant.
-fn from_body(
+fn add_from_body(
+    out: &mut String,
     scope: &Scope<'_>,
     form: Form,
     whole: usize,
     one: usize,
-) -> Result<String, AllocError> {
+) -> Result<(), AllocError> {
     let variant = variant_of(scope, form, whole, one)?;
     match variant.len() {
-        0..=86 => format!(in scope.alloc; "{variant}(node)"),
-        _ => format!(in scope.alloc; "{variant}(\n            node,\n        )"),
+        0..=86 => writeln!(out, "        {variant}(node)"),
+        _ => writeln!(out, "        {variant}(\n            node,\n        )"),
     }
 }
 
@@ -259,6 +271,51 @@ fn has_word(scope: &Scope<'_>, form: Form, item: usize) -> bool {
     form == Form::Borrowed || scope.grammar.sort(item) == Sort::Choice
 }
 
+/// What the templates of a choice have of its alternatives.
+#[derive(Drop)]
+struct Parts {
+    test: String,
+    cast: String,
+    casts: String,
+    lemmas: String,
+    arms: String,
+}
+
+impl Parts {
+    fn new(alloc: Global) -> Parts {
+        Parts {
+            test: String::new(alloc),
+            cast: String::new(alloc),
+            casts: String::new(alloc),
+            lemmas: String::new(alloc),
+            arms: String::new(alloc),
+        }
+    }
+
+    /// Which kinds cast to it, and how.
+    fn read_kinds(
+        &mut self,
+        scope: &Scope<'_>,
+        form: Form,
+        item: &Item,
+        index: usize,
+    ) -> Result<(), AllocError> {
+        let reached = steps_from(scope.alloc, scope.grammar, index)?;
+        add_casts(&mut self.casts, scope, form, &reached)?;
+        if form == Form::Borrowed && item.forms.owned {
+            return writeln!(self.test, "        {}::can_cast(kind)", item.name);
+        }
+        add_test(&mut self.test, scope, &reached)
+    }
+
+    /// The head of `cast`.
+    fn read_cast(&mut self, scope: &Scope<'_>, form: Form, index: usize) -> Result<(), AllocError> {
+        let wrapper = wrapper_type(scope, form, index)?;
+        let from = node_type(form);
+        add_cast_head(&mut self.cast, scope, from, form, wrapper.as_str())
+    }
+}
+
 /// One form of the wrapper of a choice, from the line of its enum on.
 fn add_form(
     out: &mut String,
@@ -268,19 +325,22 @@ fn add_form(
     index: usize,
 ) -> Result<(), AllocError> {
     add_variants(out, scope, form, item, index)?;
-    let reached = steps_from(scope.alloc, scope.grammar, index)?;
-    let kinds = kinds_of(scope, &reached)?;
-    let wrapper = wrapper_type(scope, form, index)?;
-    let cast = cast_head(scope, node_type(form), form, wrapper.as_str())?;
-    let casts = casts_of(scope, form, &reached)?;
-    let lemmas = lemmas_of(scope, form, item)?;
-    let arms = syntax_arms(scope, form, item, index)?;
-    let can_cast = match form == Form::Borrowed && item.forms.owned {
-        true => format!(in scope.alloc; "        {}::can_cast(kind)\n", item.name)?,
-        false => format!(in scope.alloc;
-            "        match kind {{\n{kinds}            _ => false,\n        }}\n"
-        )?,
-    };
+    let mut parts = Parts::new(scope.alloc);
+    parts.read_kinds(scope, form, item, index)?;
+    parts.read_cast(scope, form, index)?;
+    add_lemmas(&mut parts.lemmas, scope, form, item)?;
+    add_arms(&mut parts.arms, scope, form, item, index)?;
+    add_impls(out, scope, form, item, &parts)
+}
+
+/// What the wrapper of a choice implements.
+fn add_impls(
+    out: &mut String,
+    scope: &Scope<'_>,
+    form: Form,
+    item: &Item,
+    parts: &Parts,
+) -> Result<(), AllocError> {
     let values = [
         "name",
         item.name.as_str(),
@@ -291,15 +351,15 @@ fn add_form(
         "language",
         scope.language,
         "test",
-        can_cast.as_str(),
+        parts.test.as_str(),
         "cast",
-        cast.as_str(),
+        parts.cast.as_str(),
         "casts",
-        casts.as_str(),
+        parts.casts.as_str(),
         "lemmas",
-        lemmas.as_str(),
+        parts.lemmas.as_str(),
         "arms",
-        arms.as_str(),
+        parts.arms.as_str(),
         "borrowed",
         item.borrowed.as_str(),
     ];
@@ -354,41 +414,41 @@ fn add_variants(
     Ok(())
 }
 
-/// The arms of the kinds that cast to a choice.
-fn kinds_of(scope: &Scope<'_>, reached: &Reach) -> Result<String, AllocError> {
-    let mut out = String::new(scope.alloc);
+/// Whether a kind casts to a choice.
+fn add_test(out: &mut String, scope: &Scope<'_>, reached: &Reach) -> Result<(), AllocError> {
+    out.push_str("        match kind {\n")?;
     for step in reached.steps.iter() {
         if scope.grammar.sort(step.item) == Sort::Node {
             let name = scope.grammar.name(step.item);
-            fill(
-                &mut out,
-                "            Kind::$kind => true,\n",
-                &["kind", name],
-            )?;
+            writeln!(out, "            Kind::{name} => true,")?;
         }
     }
-    Ok(out)
+    out.push_str("            _ => false,\n        }\n")
 }
 
 /// The arms that make the choice of nodes.
-fn casts_of(scope: &Scope<'_>, form: Form, reached: &Reach) -> Result<String, AllocError> {
-    let mut out = String::new(scope.alloc);
+fn add_casts(
+    out: &mut String,
+    scope: &Scope<'_>,
+    form: Form,
+    reached: &Reach,
+) -> Result<(), AllocError> {
     for (number, step) in reached.steps.iter().enumerate() {
         if scope.grammar.sort(step.item) == Sort::Node {
-            add_cast_arm(&mut out, scope, form, reached, number)?;
+            add_cast_arm(out, scope, form, reached, number)?;
         }
     }
-    Ok(out)
+    Ok(())
 }
 
 /// The arms that give the node in an alternative.
-fn syntax_arms(
+fn add_arms(
+    out: &mut String,
     scope: &Scope<'_>,
     form: Form,
     item: &Item,
     index: usize,
-) -> Result<String, AllocError> {
-    let mut out = String::new(scope.alloc);
+) -> Result<(), AllocError> {
     for used in item.alternatives.iter() {
         let variant = variant_of(scope, form, index, used.item)?;
         let template = match variant.len() {
@@ -396,9 +456,9 @@ fn syntax_arms(
             65..=79 => "            $variant(node) =>\n                node.syntax(),\n",
             _ => "            $variant(\n                node,\n            ) => node.syntax(),\n",
         };
-        fill(&mut out, template, &["variant", variant.as_str()])?;
+        fill(out, template, &["variant", variant.as_str()])?;
     }
-    Ok(out)
+    Ok(())
 }
 
 /// The arm that wraps a node of the kind that was reached by the step with this number.
@@ -501,22 +561,22 @@ const LONG_WRAP: &str = "                let node =
 ";
 
 /// The lemmas that what casts to an alternative casts to the whole.
-fn lemmas_of(scope: &Scope<'_>, form: Form, item: &Item) -> Result<String, AllocError> {
+fn add_lemmas(
+    out: &mut String,
+    scope: &Scope<'_>,
+    form: Form,
+    item: &Item,
+) -> Result<(), AllocError> {
     let template = match form {
         Form::Owned => "crate::proofs::CastLemmas::$one_is_$whole",
         Form::Borrowed => "crate::proofs::CastLemmas::$one_is_$whole_raw",
     };
-    let mut out = String::new(scope.alloc);
     let mut comma = "";
     for used in item.alternatives.iter() {
         let one = scope.grammar.snake(used.item);
         out.push_str(comma)?;
-        fill(
-            &mut out,
-            template,
-            &["one", one, "whole", item.snake.as_str()],
-        )?;
+        fill(out, template, &["one", one, "whole", item.snake.as_str()])?;
         comma = ", ";
     }
-    Ok(out)
+    Ok(())
 }

@@ -7,6 +7,7 @@ mod files;
 mod kinds;
 mod nodes;
 mod parsers;
+mod pieces;
 mod sets;
 mod signs;
 mod specs;

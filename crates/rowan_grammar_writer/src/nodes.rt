@@ -9,18 +9,13 @@ use rowan_grammar_model::forms::Form;
 use rowan_grammar_model::grammar::Sort;
 use std::alloc::AllocError;
 
-const HEAD: &str = "\
-//! Wrappers of the nodes of $language$which.
-${fields}use crate::$module::{$names};
-";
+/// What the ghost fields of borrowed wrappers name, and the contract of `nth_child`: before the words
+/// of that contract, and behind the places of what is borrowed.
+const OF_FIELDS: &str = "ghost use Rattle.std.specs.Prelude.{◌≡◌, true};\n";
 
-/// What the ghost fields of borrowed wrappers name, and the contract of `nth_child`.
-const OF_FIELDS: &str = "\
-ghost use Rattle.std.specs.Prelude.{◌≡◌, true};
-${nth}ghost use Rattle.rowan.specs.Ast.{casts_at};
-${places}ghost use Rattle.$crate.specs.Kinds.{kind_of};
+const OF_CASTS: &str = "ghost use Rattle.rowan.specs.Ast.{casts_at};\n";
 
-";
+const OF_KINDS: &str = "ghost use Rattle.$crate.specs.Kinds.{kind_of};\n\n";
 
 /// What the contract of `nth_child` names.
 const OF_NTH: &str = "\
@@ -96,33 +91,37 @@ fn add_head(
     owned: Needs,
     borrowed: Needs,
 ) -> Result<(), AllocError> {
+    let has_contents = !scope.contents.is_empty();
+    let has_owned = scope.has_nodes(Form::Owned) || has_contents;
+    let has_borrowed = scope.has_nodes(Form::Borrowed) || has_contents;
+    let which = which(has_owned, has_borrowed);
+    writeln!(
+        out,
+        "//! Wrappers of the nodes of {}{which}.",
+        scope.language
+    )?;
+    if has_borrowed || owned.nth_child {
+        add_words_of_fields(out, scope, owned)?;
+    }
+    let (first, second) = match scope.language < "Kind" {
+        true => (scope.language, "Kind"),
+        false => ("Kind", scope.language),
+    };
+    writeln!(out, "use crate::{}::{{{first}, {second}}};", scope.module)?;
+    add_uses(out, scope, owned, borrowed)
+}
+
+/// What is named from other crates.
+fn add_uses(
+    out: &mut String,
+    scope: &Scope<'_>,
+    owned: Needs,
+    borrowed: Needs,
+) -> Result<(), AllocError> {
     let has_owned = scope.has_nodes(Form::Owned);
     let has_borrowed = scope.has_nodes(Form::Borrowed);
     let has_contents = !scope.contents.is_empty();
     let has_fault = owned.has_calls() || scope.has_both();
-    let names = match scope.language < "Kind" {
-        true => format!(in scope.alloc; "{}, Kind", scope.language)?,
-        false => format!(in scope.alloc; "Kind, {}", scope.language)?,
-    };
-    let mut of_fields = String::new(scope.alloc);
-    if has_borrowed || has_contents || owned.nth_child {
-        add_words_of_fields(&mut of_fields, scope, owned)?;
-    }
-    let which = which(has_owned || has_contents, has_borrowed || has_contents);
-    let which = String::from_str(scope.alloc, which)?;
-    let values = [
-        "language",
-        scope.language,
-        "which",
-        which.as_str(),
-        "fields",
-        of_fields.as_str(),
-        "module",
-        scope.module,
-        "names",
-        names.as_str(),
-    ];
-    fill(out, HEAD, &values)?;
     add_use(
         out,
         scope,
@@ -159,26 +158,15 @@ fn add_words_of_fields(
     scope: &Scope<'_>,
     owned: Needs,
 ) -> Result<(), AllocError> {
-    let mut of_nth = String::new(scope.alloc);
+    let names = ["crate", scope.crate_name, "module", scope.module];
+    out.push_str(OF_FIELDS)?;
     if owned.nth_child {
-        fill(
-            &mut of_nth,
-            OF_NTH,
-            &["crate", scope.crate_name, "module", scope.module],
-        )?;
+        fill(out, OF_NTH, &names)?;
     }
-    let mut of_places = String::new(scope.alloc);
+    out.push_str(OF_CASTS)?;
     let places = places(scope.has_nodes(Form::Borrowed), !scope.contents.is_empty());
-    fill(&mut of_places, places, &["crate", scope.crate_name])?;
-    let values = [
-        "nth",
-        of_nth.as_str(),
-        "places",
-        of_places.as_str(),
-        "crate",
-        scope.crate_name,
-    ];
-    fill(out, OF_FIELDS, &values)
+    fill(out, places, &names)?;
+    fill(out, OF_KINDS, &names)
 }
 
 /// The lines that import the places of what is borrowed, and which kinds cast to it.

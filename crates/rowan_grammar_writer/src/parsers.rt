@@ -1,7 +1,7 @@
 //! The parser of a language as source text: `src/parser.rt`.
 use crate::signs::plain;
 use crate::texts::text_of;
-use crate::writer::{ARGUMENTS, Scope, WIDTH, fill, signature};
+use crate::writer::{ARGUMENTS, Scope, WIDTH, add_signature, fill};
 use rowan_grammar_calls::predictive::{Of, Rules};
 use rowan_grammar_model::grammar::Sort;
 use rowan_grammar_model::place::text_at;
@@ -106,32 +106,46 @@ pub fn parser_code(scope: &Scope<'_>) -> Result<Option<String>, AllocError> {
     let (Some(rules), Some(lexer)) = (scope.rules, &scope.grammar.parsing.lexer) else {
         return Ok(None);
     };
-    let alloc = scope.alloc;
-    let mut out = String::new(alloc);
+    let mut out = String::new(scope.alloc);
     let trivia = trivia_of(scope)?;
-    let kinds = match trivia.is_empty() {
-        true => String::new(alloc),
-        false => format!(in alloc; "use crate::{}::Kind;\n", scope.module)?,
-    };
-    fill(
-        &mut out,
-        HEAD,
-        &[
-            "language",
-            scope.language,
-            "kinds",
-            kinds.as_str(),
-            "crate",
-            scope.crate_name,
-        ],
-    )?;
+    add_head(&mut out, scope, !trivia.is_empty())?;
     add_rules(&mut out, scope, rules)?;
     add_words(&mut out, scope)?;
+    let lexer = lexer.path.as_str();
+    add_parser(&mut out, scope, rules.start, lexer, trivia.as_str())?;
+    Ok(Some(out))
+}
+
+/// What stands before the rules.
+fn add_head(out: &mut String, scope: &Scope<'_>, has_trivia: bool) -> Result<(), AllocError> {
+    let mut kinds = String::new(scope.alloc);
+    if has_trivia {
+        writeln!(kinds, "use crate::{}::Kind;", scope.module)?;
+    }
+    let values = [
+        "language",
+        scope.language,
+        "kinds",
+        kinds.as_str(),
+        "crate",
+        scope.crate_name,
+    ];
+    fill(out, HEAD, &values)
+}
+
+/// The parser: its rules are tested by `new`, and begin at this one.
+fn add_parser(
+    out: &mut String,
+    scope: &Scope<'_>,
+    start: usize,
+    lexer: &str,
+    trivia: &str,
+) -> Result<(), AllocError> {
+    let alloc = scope.alloc;
     let root = format!(in alloc; "{}", number_of(scope, scope.root))?;
     let error = format!(in alloc; "{}", number_of(scope, scope.error))?;
-    let start = format!(in alloc; "{}", rules.start)?;
-    let gives = format!(in alloc; "Result<{}Parser, GrammarError>", scope.language)?;
-    let making = signature(alloc, "    pub fn new", "alloc: Global", gives.as_str())?;
+    let start = format!(in alloc; "{start}")?;
+    let making = making_of(scope)?;
     let values = [
         "language",
         scope.language,
@@ -142,16 +156,29 @@ pub fn parser_code(scope: &Scope<'_>) -> Result<Option<String>, AllocError> {
         "start",
         start.as_str(),
         "lexer",
-        lexer.path.as_str(),
+        lexer,
         "node",
         scope.root,
         "trivia",
-        trivia.as_str(),
+        trivia,
         "head",
         making.as_str(),
     ];
-    fill(&mut out, PARSER, &values)?;
-    Ok(Some(out))
+    fill(out, PARSER, &values)
+}
+
+/// The head of `new`.
+fn making_of(scope: &Scope<'_>) -> Result<String, AllocError> {
+    let mut out = String::new(scope.alloc);
+    let gives = format!(in scope.alloc; "Result<{}Parser, GrammarError>", scope.language)?;
+    add_signature(
+        &mut out,
+        "    pub fn ",
+        "new",
+        "alloc: Global",
+        gives.as_str(),
+    )?;
+    Ok(out)
 }
 
 /// The raw kind of what has this name.

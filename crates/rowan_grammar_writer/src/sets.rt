@@ -20,7 +20,10 @@ const LEMMAS: &str = "\
 use Rattle.std.specs.Prelude.{◌≡◌, refl}
 use Rattle.rowan_parser.specs.Seen.{has}
 use Rattle.$crate.specs.declared.$module.Kind.{Kind}
-$constants$words";
+";
+
+/// What a constant has around its name and its kinds.
+const CONSTANT: &str = "pub const : TokenSet = token_set![];";
 
 /// The name of the constant of a set.
 fn constant(scope: &Scope<'_>, set: usize) -> Result<String, AllocError> {
@@ -33,23 +36,39 @@ pub fn add_sets(out: &mut String, scope: &Scope<'_>) -> Result<(), AllocError> {
         let name = constant(scope, *set)?;
         out.push('\n')?;
         add_docs(out, "", scope.grammar.docs(*set), "")?;
-        let mut line = String::new(scope.alloc);
-        let mut lines = String::new(scope.alloc);
-        for used in scope.grammar.alternatives(*set).iter() {
-            let kind = scope.grammar.name(used.item);
-            line.push_str(if line.is_empty() { "" } else { ", " })?;
-            lines.push_str(if lines.is_empty() { "" } else { "," })?;
-            write!(line, "Kind::{kind}")?;
-            write!(lines, "\n    Kind::{kind}")?;
-        }
-        let whole = format!(in scope.alloc; "pub const {name}: TokenSet = token_set![{line}];")?;
-        if line.len() > ARGUMENTS || whole.len() > WIDTH {
-            writeln!(out, "pub const {name}: TokenSet = token_set![{lines}\n];")?;
-        } else {
-            writeln!(out, "{whole}")?;
-        }
+        write!(out, "pub const {name}: TokenSet = token_set![")?;
+        add_kinds(out, scope, *set, name.len())?;
+        out.push_str("];\n")?;
     }
     Ok(())
+}
+
+/// Adds the kinds of a set whose constant has a name of this length, each on a line of its own where
+/// they are long.
+fn add_kinds(
+    out: &mut String,
+    scope: &Scope<'_>,
+    set: usize,
+    name_len: usize,
+) -> Result<(), AllocError> {
+    let kinds = scope.grammar.alternatives(set);
+    let mut len = 0usize;
+    for used in kinds.iter() {
+        len = len.saturating_add(", Kind::".len());
+        len = len.saturating_add(scope.grammar.name(used.item).len());
+    }
+    len = len.saturating_sub(", ".len());
+    let whole = len.saturating_add(name_len).saturating_add(CONSTANT.len());
+    let is_long = len > ARGUMENTS || whole > WIDTH;
+    let (first, next) = match is_long {
+        true => ("\n    Kind::", ",\n    Kind::"),
+        false => ("Kind::", ", Kind::"),
+    };
+    for (number, used) in kinds.iter().enumerate() {
+        out.push_str(if number == 0 { first } else { next })?;
+        out.push_str(scope.grammar.name(used.item))?;
+    }
+    out.push_str(if is_long { "\n" } else { "" })
 }
 
 /// Adds the words that the contracts of the calls name.
@@ -105,47 +124,49 @@ pub fn add_set_specs(out: &mut String, scope: &Scope<'_>) -> Result<(), AllocErr
 
 /// The text of `proofs/SetLemmas.antt`: a set has the bits of its tokens, and no others.
 pub fn set_lemmas(scope: &Scope<'_>) -> Result<String, AllocError> {
-    let alloc = scope.alloc;
-    let mut out = String::new(alloc);
+    let mut out = String::new(scope.alloc);
+    let names = ["crate", scope.crate_name, "module", scope.module];
+    fill(&mut out, LEMMAS, &names)?;
+    add_constants(&mut out, scope)?;
+    add_words(&mut out, scope)?;
+    for set in scope.sets.iter() {
+        add_lemma(&mut out, scope, *set)?;
+    }
+    Ok(out)
+}
+
+/// Adds the lines that import the constants.
+fn add_constants(out: &mut String, scope: &Scope<'_>) -> Result<(), AllocError> {
     let (crate_name, module) = (scope.crate_name, scope.module);
-    let head = format!(in alloc;
+    let head = format!(in scope.alloc;
         "use Rattle.{crate_name}.specs.declared.{module}.TheConstants.{{"
     )?;
-    let mut constants = Imports::new(alloc, head.as_str(), "")?;
+    let mut constants = Imports::new(scope.alloc, head.as_str(), "")?;
     for set in scope.sets.iter() {
         constants.add(constant(scope, *set)?.as_str())?;
     }
-    let head = format!(in alloc; "use Rattle.{crate_name}.specs.Kinds.{{")?;
-    let mut words = Imports::new(alloc, head.as_str(), "")?;
+    out.push_str(constants.finish()?)
+}
+
+/// Adds the lines that import what tells the kinds in the sets.
+fn add_words(out: &mut String, scope: &Scope<'_>) -> Result<(), AllocError> {
+    let head = format!(in scope.alloc; "use Rattle.{}.specs.Kinds.{{", scope.crate_name)?;
+    let mut words = Imports::new(scope.alloc, head.as_str(), "")?;
     words.add("number_of")?;
     add_set_words(&mut words, scope)?;
-    let constants = String::from_str(alloc, constants.finish()?)?;
-    let words = String::from_str(alloc, words.finish()?)?;
-    let values = [
-        "crate",
-        crate_name,
-        "module",
-        module,
-        "constants",
-        constants.as_str(),
-        "words",
-        words.as_str(),
-    ];
-    fill(&mut out, LEMMAS, &values)?;
-    for set in scope.sets.iter() {
-        let name = constant(scope, *set)?;
-        let snake = scope.grammar.snake(*set);
-        let head =
-            "\npub $snake_has : (k : Kind) → has $constant.0 (number_of k) ≡ is_in_$snake k\n";
-        fill(&mut out, head, &["snake", snake, "constant", name.as_str()])?;
-        for kind in scope.kinds.iter() {
-            let kind = scope.grammar.name(*kind);
-            fill(
-                &mut out,
-                "$snake_has Kind.$kind = refl\n",
-                &["snake", snake, "kind", kind],
-            )?;
-        }
+    out.push_str(words.finish()?)
+}
+
+/// Adds the lemma of one set.
+fn add_lemma(out: &mut String, scope: &Scope<'_>, set: usize) -> Result<(), AllocError> {
+    let name = constant(scope, set)?;
+    let snake = scope.grammar.snake(set);
+    let head = "\npub $snake_has : (k : Kind) → has $constant.0 (number_of k) ≡ is_in_$snake k\n";
+    fill(out, head, &["snake", snake, "constant", name.as_str()])?;
+    for kind in scope.kinds.iter() {
+        let kind = scope.grammar.name(*kind);
+        let line = "$snake_has Kind.$kind = refl\n";
+        fill(out, line, &["snake", snake, "kind", kind])?;
     }
-    Ok(out)
+    Ok(())
 }

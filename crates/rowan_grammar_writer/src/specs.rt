@@ -5,29 +5,22 @@ use rowan_grammar_model::forms::Form;
 use rowan_grammar_model::grammar::Sort;
 use std::alloc::AllocError;
 
-const CASTS: &str = "\
--- Wrappers of the nodes of $language: the kinds that cast to each of them.
-use Rattle.std.specs.Prelude.{$words}
+/// Behind the names from the prelude.
+const CASTS: &str = "}
 use Rattle.$crate.specs.declared.$module.Kind.{Kind}
-${type}use Rattle.$crate.specs.Kinds.{number_of}
-$same
+";
+
+/// What `same_kind` needs, before and behind the line that all need.
+const THE_TYPE: &str = "use Rattle.$crate.specs.contracts.$module.Kind.{the_type}\n";
+
+const NUMBERS: &str = "use Rattle.$crate.specs.Kinds.{number_of}\n";
+
+const SAME: &str = "use denote.Enum.Bare.{same_true, sameb}\n";
+
+const HAS_NUMBER: &str = "
 -- whether it is the kind with this number
 abbrev pub has_number : ℕ → Kind → Bool
 has_number n kind = number_of kind == n
-";
-
-/// What `same_kind` needs.
-const THE_TYPE: &str = "\
-use Rattle.$crate.specs.contracts.$module.Kind.{the_type}
-";
-
-const SAME: &str = "\
-use denote.Enum.Bare.{same_true, sameb}
-";
-
-const CASTS_NODE: &str = "
-abbrev pub is_$snake : Kind → Bool
-is_$snake = has_number $number
 ";
 
 const SAME_KIND: &str = "
@@ -40,55 +33,11 @@ same_kind a b same = same_true the_type tt a b same
 pub fn casts_specs(scope: &Scope<'_>) -> Result<String, AllocError> {
     let mut out = String::new(scope.alloc);
     let has_owned = scope.has_nodes(Form::Owned);
-    let words = match (has_owned, scope.choices.is_empty()) {
-        (true, true) => "◌≡◌, ℕ, ◌==◌, Bool, true",
-        (true, false) => "◌≡◌, ℕ, ◌==◌, Bool, true, ◌||◌",
-        (false, true) => "ℕ, ◌==◌, Bool",
-        (false, false) => "ℕ, ◌==◌, Bool, ◌||◌",
-    };
-    let words = String::from_str(scope.alloc, words)?;
-    let mut the_type = String::new(scope.alloc);
-    let mut same = String::new(scope.alloc);
-    if has_owned {
-        fill(
-            &mut the_type,
-            THE_TYPE,
-            &["crate", scope.crate_name, "module", scope.module],
-        )?;
-        same.push_str(SAME)?;
-    }
-    let values = [
-        "crate",
-        scope.crate_name,
-        "language",
-        scope.language,
-        "words",
-        words.as_str(),
-        "module",
-        scope.module,
-        "type",
-        the_type.as_str(),
-        "same",
-        same.as_str(),
-    ];
-    fill(&mut out, CASTS, &values)?;
+    add_casts_head(&mut out, scope, has_owned)?;
     for index in scope.nodes.iter().chain(scope.contents.iter()) {
-        let number = format!(in scope.alloc; "{}", scope.kind_number(*index))?;
-        let names = [
-            "snake",
-            scope.grammar.snake(*index),
-            "number",
-            number.as_str(),
-        ];
-        fill(&mut out, CASTS_NODE, &names)?;
+        add_number_test(&mut out, scope, *index)?;
     }
     for index in scope.choices.iter() {
-        let whole = scope.grammar.snake(*index);
-        fill(
-            &mut out,
-            "\nabbrev pub is_$whole : Kind → Bool\nis_$whole kind =",
-            &["whole", whole],
-        )?;
         add_any(&mut out, scope, *index)?;
     }
     if has_owned {
@@ -97,9 +46,46 @@ pub fn casts_specs(scope: &Scope<'_>) -> Result<String, AllocError> {
     Ok(out)
 }
 
-/// That one of the alternatives casts. `||` leans to the left, and the lemmas take the first
+/// What the definitions name, and `has_number`.
+fn add_casts_head(out: &mut String, scope: &Scope<'_>, has_owned: bool) -> Result<(), AllocError> {
+    let names = ["crate", scope.crate_name, "module", scope.module];
+    writeln!(
+        out,
+        "-- Wrappers of the nodes of {}: the kinds that cast to each of them.",
+        scope.language
+    )?;
+    out.push_str("use Rattle.std.specs.Prelude.{")?;
+    out.push_str(match (has_owned, scope.choices.is_empty()) {
+        (true, true) => "◌≡◌, ℕ, ◌==◌, Bool, true",
+        (true, false) => "◌≡◌, ℕ, ◌==◌, Bool, true, ◌||◌",
+        (false, true) => "ℕ, ◌==◌, Bool",
+        (false, false) => "ℕ, ◌==◌, Bool, ◌||◌",
+    })?;
+    fill(out, CASTS, &names)?;
+    if has_owned {
+        fill(out, THE_TYPE, &names)?;
+    }
+    fill(out, NUMBERS, &names)?;
+    out.push_str(if has_owned { SAME } else { "" })?;
+    out.push_str(HAS_NUMBER)
+}
+
+/// Whether a kind is that of a node or of a token with a wrapper.
+fn add_number_test(out: &mut String, scope: &Scope<'_>, index: usize) -> Result<(), AllocError> {
+    let snake = scope.grammar.snake(index);
+    let number = scope.kind_number(index);
+    writeln!(
+        out,
+        "\nabbrev pub is_{snake} : Kind → Bool\nis_{snake} = has_number {number}"
+    )
+}
+
+/// Whether a kind is one of those of a choice: one of its alternatives casts. `||` leans to the left, and the lemmas take the first
 /// alternative off: hence the parentheses.
 fn add_any(out: &mut String, scope: &Scope<'_>, choice: usize) -> Result<(), AllocError> {
+    let whole = scope.grammar.snake(choice);
+    let head = "\nabbrev pub is_$whole : Kind → Bool\nis_$whole kind =";
+    fill(out, head, &["whole", whole])?;
     let alternatives = scope.grammar.alternatives(choice);
     let last = alternatives.len().saturating_sub(1);
     for (number, used) in alternatives.iter().enumerate() {
@@ -119,8 +105,7 @@ fn add_any(out: &mut String, scope: &Scope<'_>, choice: usize) -> Result<(), All
 
 const NODES_IN: &str = "\
 -- The nodes in wrappers: in borrowed ones, and in those of more than one kind.
-${numbers}use Rattle.rowan.specs.Cursor.{Cursor}
-$places";
+";
 
 const NODE_TYPE: &str = "use Rattle.$crate.specs.declared.nodes.NodeOfRef.{NodeOfRef}\n";
 
@@ -143,23 +128,7 @@ pub fn nodes_in(scope: &Scope<'_>) -> Result<String, AllocError> {
     let mut out = String::new(scope.alloc);
     let has_borrowed = scope.has_nodes(Form::Borrowed);
     let has_contents = !scope.contents.is_empty();
-    let numbers = match has_borrowed || has_contents {
-        true => "use Rattle.std.specs.Prelude.{ℕ}\n",
-        false => "",
-    };
-    let numbers = String::from_str(scope.alloc, numbers)?;
-    let places = String::from_str(scope.alloc, places(has_borrowed, has_contents))?;
-    fill(
-        &mut out,
-        NODES_IN,
-        &["numbers", numbers.as_str(), "places", places.as_str()],
-    )?;
-    if has_borrowed {
-        fill(&mut out, NODE_TYPE, &["crate", scope.crate_name])?;
-    }
-    if has_contents {
-        fill(&mut out, TOKEN_TYPE, &["crate", scope.crate_name])?;
-    }
+    add_nodes_in_head(&mut out, scope, has_borrowed, has_contents)?;
     for form in [Form::Owned, Form::Borrowed] {
         for index in scope.choices.iter() {
             if scope.grammar.forms(*index).has(form) {
@@ -173,12 +142,8 @@ pub fn nodes_in(scope: &Scope<'_>) -> Result<String, AllocError> {
             }
         }
     }
-    if has_borrowed {
-        out.push_str(PLACE_IN)?;
-    }
-    if has_contents {
-        out.push_str(TOKEN_IN)?;
-    }
+    out.push_str(if has_borrowed { PLACE_IN } else { "" })?;
+    out.push_str(if has_contents { TOKEN_IN } else { "" })?;
     for index in scope.choices.iter() {
         for form in [Form::Owned, Form::Borrowed] {
             if scope.grammar.forms(*index).has(form) {
@@ -187,6 +152,29 @@ pub fn nodes_in(scope: &Scope<'_>) -> Result<String, AllocError> {
         }
     }
     Ok(out)
+}
+
+/// What the definitions name, but for the wrappers of choices.
+fn add_nodes_in_head(
+    out: &mut String,
+    scope: &Scope<'_>,
+    has_borrowed: bool,
+    has_contents: bool,
+) -> Result<(), AllocError> {
+    let names = ["crate", scope.crate_name];
+    out.push_str(NODES_IN)?;
+    if has_borrowed || has_contents {
+        out.push_str("use Rattle.std.specs.Prelude.{ℕ}\n")?;
+    }
+    out.push_str("use Rattle.rowan.specs.Cursor.{Cursor}\n")?;
+    out.push_str(places(has_borrowed, has_contents))?;
+    if has_borrowed {
+        fill(out, NODE_TYPE, &names)?;
+    }
+    if has_contents {
+        fill(out, TOKEN_TYPE, &names)?;
+    }
+    Ok(())
 }
 
 /// What the places of borrowed wrappers need.

@@ -1,6 +1,6 @@
 //! The wrappers of nodes as source text.
 use crate::accessors::{add_call_imports, add_calls, add_kinds};
-use crate::writer::{Scope, add_docs, cast_head, fill, kind_test};
+use crate::writer::{Scope, add_cast_head, add_docs, fill, kind_test};
 use rowan_grammar_model::forms::Form;
 use rowan_grammar_model::grammar::Item;
 use std::alloc::AllocError;
@@ -171,43 +171,54 @@ const NODE_REF: &str = "pub type $borrowed<'tree> = NodeOfRef<'tree, $number>;\n
 pub fn add_node_types(out: &mut String, scope: &Scope<'_>) -> Result<(), AllocError> {
     let test = kind_test(scope)?;
     if scope.has_nodes(Form::Owned) {
-        let cast = cast_head(scope, "SyntaxNode", Form::Owned, "NodeOf<KIND>")?;
-        let values = [
-            "crate",
-            scope.crate_name,
-            "language",
-            scope.language,
-            "cast",
-            cast.as_str(),
-            "test",
-            test.as_str(),
-        ];
-        scope.fill(out, NODE_OF, &values)?;
-        if scope.has_both() {
-            scope.fill(out, AS_REF, &values)?;
-        }
-        fill(out, DEBUG, &["wrapper", "NodeOf<KIND>"])?;
+        add_node_type(out, scope, Form::Owned, test.as_str())?;
     }
     if scope.has_nodes(Form::Borrowed) {
-        let into = "NodeOfRef<'tree, KIND>";
-        let cast = cast_head(scope, "SyntaxNodeRef", Form::Borrowed, into)?;
-        let values = [
-            "crate",
-            scope.crate_name,
-            "language",
-            scope.language,
-            "cast",
-            cast.as_str(),
-            "test",
-            test.as_str(),
-        ];
-        scope.fill(out, NODE_OF_REF, &values)?;
-        if scope.has_both() {
-            scope.fill(out, TO_OWNED, &values)?;
-        }
-        fill(out, DEBUG, &["wrapper", "NodeOfRef<'_, KIND>"])?;
+        add_node_type(out, scope, Form::Borrowed, test.as_str())?;
     }
     Ok(())
+}
+
+/// The type of wrappers of one form, and what leads from it to the other one.
+fn add_node_type(
+    out: &mut String,
+    scope: &Scope<'_>,
+    form: Form,
+    test: &str,
+) -> Result<(), AllocError> {
+    let (from, into, template, other, wrapper) = match form {
+        Form::Owned => (
+            "SyntaxNode",
+            "NodeOf<KIND>",
+            NODE_OF,
+            AS_REF,
+            "NodeOf<KIND>",
+        ),
+        Form::Borrowed => (
+            "SyntaxNodeRef",
+            "NodeOfRef<'tree, KIND>",
+            NODE_OF_REF,
+            TO_OWNED,
+            "NodeOfRef<'_, KIND>",
+        ),
+    };
+    let mut cast = String::new(scope.alloc);
+    add_cast_head(&mut cast, scope, from, form, into)?;
+    let values = [
+        "crate",
+        scope.crate_name,
+        "language",
+        scope.language,
+        "cast",
+        cast.as_str(),
+        "test",
+        test,
+    ];
+    scope.fill(out, template, &values)?;
+    if scope.has_both() {
+        scope.fill(out, other, &values)?;
+    }
+    fill(out, DEBUG, &["wrapper", wrapper])
 }
 
 /// The wrappers of a node, and their calls.

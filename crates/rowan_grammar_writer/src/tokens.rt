@@ -1,5 +1,5 @@
 //! The wrappers of tokens whose text means something, as source text.
-use crate::writer::{Scope, add_docs, cast_head, fill, kind_test};
+use crate::writer::{Scope, add_cast_head, add_docs, fill, kind_test};
 use rowan_grammar_model::forms::Form;
 use rowan_grammar_model::grammar::Item;
 use std::alloc::AllocError;
@@ -173,13 +173,17 @@ pub type $borrowed<'tree> = TokenOfRef<'tree, $number>;
 /// The types that wrappers of tokens are.
 pub fn add_token_types(out: &mut String, scope: &Scope<'_>) -> Result<(), AllocError> {
     let test = kind_test(scope)?;
-    let cast = cast_head(scope, "SyntaxToken", Form::Owned, "TokenOf<KIND>")?;
-    let borrowed = cast_head(
+    let mut cast = String::new(scope.alloc);
+    add_cast_head(
+        &mut cast,
         scope,
-        "SyntaxTokenRef",
-        Form::Borrowed,
-        "TokenOfRef<'tree, KIND>",
+        "SyntaxToken",
+        Form::Owned,
+        "TokenOf<KIND>",
     )?;
+    let mut borrowed = String::new(scope.alloc);
+    let into = "TokenOfRef<'tree, KIND>";
+    add_cast_head(&mut borrowed, scope, "SyntaxTokenRef", Form::Borrowed, into)?;
     let values = [
         "crate",
         scope.crate_name,

@@ -1,6 +1,7 @@
 //! The traits of parts that many nodes share, as source text.
-use crate::accessors::{add_clause_words, add_nodes_in, result_of};
-use crate::writer::{Scope, WIDTH, add_docs, arguments, fill, signature};
+use crate::accessors::{add_clause_words, add_nodes_in};
+use crate::pieces::Pieces;
+use crate::writer::{Scope, WIDTH, add_docs, fill};
 use rowan_grammar_calls::calls::{Call, Gives};
 use rowan_grammar_calls::shared::Shared;
 use rowan_grammar_model::forms::Form;
@@ -82,12 +83,7 @@ fn add_trait(
     add_clause_words(out, scope, form, shared.item)?;
     add_nodes_in(out, scope, form, None, scope.calls(shared.item))?;
     for call in scope.calls(shared.item).iter() {
-        let body = match form {
-            Form::Owned => body_of(scope, form, call)?,
-            Form::Borrowed => String::from_str(scope.alloc, ";\n")?,
-        };
-        let node_of = String::from_str(scope.alloc, "Self.node_of")?;
-        add_call(out, scope, form, call, node_of, body)?;
+        add_own_call(out, scope, form, call)?;
     }
     out.push_str("}\n")?;
     for user in shared.users.iter() {
@@ -141,48 +137,46 @@ fn add_impl(
     if form == Form::Owned {
         return Ok(());
     }
-    let node_of = scope.node_of(form, user)?;
+    let itself = scope.node_of(form, user)?;
     add_clause_words(out, scope, form, shared.item)?;
     let calls = scope.calls(shared.item);
-    add_nodes_in(out, scope, form, Some(node_of.clone()?), calls)?;
+    add_nodes_in(out, scope, form, Some(itself), calls)?;
     for call in calls.iter() {
-        let body = body_of(scope, form, call)?;
-        add_call(out, scope, form, call, node_of.clone()?, body)?;
+        add_call_of(out, scope, form, user, call)?;
     }
     out.push_str("}\n")
 }
 
-/// A call of a trait, by the function from the wrapper to its node, and what stands behind its
-/// contract.
-fn add_call(
+/// A call in its trait: owned wrappers have it by its body there.
+fn add_own_call(
     out: &mut String,
     scope: &Scope<'_>,
     form: Form,
     call: &Call,
-    node_of: String,
-    body: String,
 ) -> Result<(), AllocError> {
-    let alloc = scope.alloc;
-    let item = call.item().unwrap_or(0);
-    let start = format!(in alloc; "    fn {}", call.name)?;
-    let result = result_of(scope, form, call)?;
-    let head = signature(alloc, start.as_str(), "&self", result.as_str())?;
-    let inner = scope.node_of(form, item)?;
-    let values = [
-        "target",
-        scope.grammar.name(item),
-        "head",
-        head.as_str(),
-        "snake",
-        scope.grammar.snake(item),
-        "inner",
-        inner.as_str(),
-        "node",
-        node_of.as_str(),
-        "body",
-        body.as_str(),
-    ];
-    fill(out, template_of(form, call.gives), &values)
+    let mut pieces = Pieces::new(scope.alloc);
+    pieces.node.push_str("Self.node_of")?;
+    match form {
+        Form::Owned => pieces.read_body(scope, function_of(form, call.gives), call)?,
+        Form::Borrowed => pieces.body.push_str(";\n")?,
+    }
+    pieces.read(scope, form, "    fn ", call)?;
+    pieces.fill(out, template_of(form, call.gives))
+}
+
+/// A call in the impl for a node or a choice.
+fn add_call_of(
+    out: &mut String,
+    scope: &Scope<'_>,
+    form: Form,
+    user: usize,
+    call: &Call,
+) -> Result<(), AllocError> {
+    let mut pieces = Pieces::new(scope.alloc);
+    pieces.read_node(scope, form, user)?;
+    pieces.read_body(scope, function_of(form, call.gives), call)?;
+    pieces.read(scope, form, "    fn ", call)?;
+    pieces.fill(out, template_of(form, call.gives))
 }
 
 fn template_of(form: Form, gives: Gives) -> &'static str {
@@ -196,24 +190,14 @@ fn template_of(form: Form, gives: Gives) -> &'static str {
     }
 }
 
-/// The body of a call.
-fn body_of(scope: &Scope<'_>, form: Form, call: &Call) -> Result<String, AllocError> {
-    let alloc = scope.alloc;
-    let function = match (form, call.gives) {
+/// The function of `support` that a call goes by.
+fn function_of(form: Form, gives: Gives) -> &'static str {
+    match (form, gives) {
         (Form::Owned, Gives::Child(_) | Gives::NthChild(_, _)) => "child",
         (Form::Owned, Gives::Children(_)) => "children",
         (Form::Owned, Gives::Token(_) | Gives::NthToken(_)) => "token",
         (Form::Borrowed, Gives::Child(_) | Gives::NthChild(_, _)) => "child_ref",
         (Form::Borrowed, Gives::Children(_)) => "children_ref",
         (Form::Borrowed, Gives::Token(_) | Gives::NthToken(_)) => "token_of",
-    };
-    let values = match call.gives {
-        Gives::Token(item) => format!(in alloc;
-            "self.syntax()\nKind::{}",
-            scope.grammar.name(item)
-        )?,
-        _ => format!(in alloc; "self.syntax()")?,
-    };
-    let values = arguments(alloc, values.as_str(), ",")?;
-    format!(in alloc; "\n    {{\n        support::{function}({values})\n    }}\n")
+    }
 }

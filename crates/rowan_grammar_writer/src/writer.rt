@@ -113,17 +113,23 @@ impl Scope<'_> {
         }
     }
 
-    /// The function from a wrapper to its node, as clauses have it.
-    pub fn node_of(&self, form: Form, item: usize) -> Result<String, AllocError> {
+    /// Adds the function from a wrapper to its node, as clauses have it.
+    pub fn add_node_of(&self, out: &mut String, form: Form, item: usize) -> Result<(), AllocError> {
         if self.grammar.sort(item) == Sort::Choice {
             let snake = self.grammar.snake(item);
-            return format!(in self.alloc; "{}_{snake}", form.word());
+            return write!(out, "{}_{snake}", form.word());
         }
-        let word = match form {
+        out.push_str(match form {
             Form::Owned => "(λ node. node)",
             Form::Borrowed => "place_in",
-        };
-        String::from_str(self.alloc, word)
+        })
+    }
+
+    /// The function from a wrapper to its node.
+    pub fn node_of(&self, form: Form, item: usize) -> Result<String, AllocError> {
+        let mut out = String::new(self.alloc);
+        self.add_node_of(&mut out, form, item)?;
+        Ok(out)
     }
 }
 
@@ -178,28 +184,36 @@ fn value_of<'a>(name: &str, values: &[&'a str]) -> &'a str {
     ""
 }
 
-/// The head of a function of one parameter, which has a line of its own where one line is too
-/// short. The start is that of the line up to the parenthesis.
-pub fn signature(
-    alloc: Global,
+/// Adds the head of a function of one parameter, from what stands before its name on. The parameter
+/// has a line of its own where one line is too short.
+pub fn add_signature(
+    out: &mut String,
     start: &str,
+    name: &str,
     parameter: &str,
     gives: &str,
-) -> Result<String, AllocError> {
-    let line = format!(in alloc; "{start}({parameter}) -> {gives}")?;
-    if line.len() > WIDTH {
-        return format!(in alloc; "{start}(\n        {parameter},\n    ) -> {gives}");
+) -> Result<(), AllocError> {
+    let len = start.len().saturating_add(name.len());
+    let len = len
+        .saturating_add(parameter.len())
+        .saturating_add(gives.len());
+    match len.saturating_add("() -> ".len()) > WIDTH {
+        true => write!(
+            out,
+            "{start}{name}(\n        {parameter},\n    ) -> {gives}"
+        ),
+        false => write!(out, "{start}{name}({parameter}) -> {gives}"),
     }
-    Ok(line)
 }
 
-/// The head of `cast` from a node or a token of this type to a wrapper.
-pub fn cast_head(
+/// Adds the head of `cast` from a node or a token of this type to a wrapper.
+pub fn add_cast_head(
+    out: &mut String,
     scope: &Scope<'_>,
     from: &'static str,
     form: Form,
     into: &str,
-) -> Result<String, AllocError> {
+) -> Result<(), AllocError> {
     let alloc = scope.alloc;
     let language = scope.language;
     let option = scope.outside("Option");
@@ -210,7 +224,7 @@ pub fn cast_head(
     };
     let parameter = format!(in alloc; "syntax: {from}<{lifetime}{language}>")?;
     let result = format!(in alloc; "{option}<{into}>")?;
-    signature(alloc, "    fn cast", parameter.as_str(), result.as_str())
+    add_signature(out, "    fn ", "cast", parameter.as_str(), result.as_str())
 }
 
 /// The test that a kind has the number of a wrapper.
@@ -225,24 +239,24 @@ pub fn kind_test(scope: &Scope<'_>) -> Result<String, AllocError> {
     }
 }
 
-/// Arguments of a call in a function's body, which are given one a line: each on a line of its own
-/// where they are long, with this end behind the last one.
-pub fn arguments(alloc: Global, values: &str, end: &str) -> Result<String, AllocError> {
-    let mut line = String::new(alloc);
-    let mut lines = String::new(alloc);
-    for value in values.lines() {
-        line.push_str(if line.is_empty() { "" } else { ", " })?;
-        line.push_str(value)?;
-        lines.push_str(if lines.is_empty() { "" } else { "," })?;
-        lines.push_str("\n            ")?;
-        lines.push_str(value)?;
+/// Adds arguments of a call in a function's body, which are given one a line: each on a line of its
+/// own where they are long, with this end behind the last one.
+pub fn add_arguments(out: &mut String, values: &str, end: &str) -> Result<(), AllocError> {
+    let commas = values.lines().count().saturating_sub(1);
+    let is_long = values.len().saturating_add(commas) > ARGUMENTS;
+    let (first, next) = match is_long {
+        true => ("\n            ", ",\n            "),
+        false => ("", ", "),
+    };
+    for (number, value) in values.lines().enumerate() {
+        out.push_str(if number == 0 { first } else { next })?;
+        out.push_str(value)?;
     }
-    if line.len() > ARGUMENTS {
-        lines.push_str(end)?;
-        lines.push_str("\n        ")?;
-        return Ok(lines);
+    if is_long {
+        out.push_str(end)?;
+        out.push_str("\n        ")?;
     }
-    Ok(line)
+    Ok(())
 }
 
 /// Adds an arm of a `match`. What it gives has a line of its own where one line is too short.
