@@ -4,7 +4,9 @@
 
 use anyhow::{Result, bail};
 use itertools::Itertools;
+use json_syntax::nodes::{LiteralRef, MemberRef, ObjectRef};
 use json_syntax::{Json, Kind};
+use rowan::ast::AstNodeRef;
 use rowan::{Direction, SyntaxNode, SyntaxNodeRef, TypedElementRefCalls};
 use rowan_edit::{EditError, Piece, Refusal, SyntaxEditor};
 use std::{env, io};
@@ -41,19 +43,20 @@ fn main(rt: HostRuntime) -> Result<()> {
     Ok(print!(rt; "{tree}")?)
 }
 
-fn name_of(member: Node<'_>) -> &str {
-    member.first_token().map_or("", |name| name.text())
+fn name_of<'tree>(member: MemberRef<'tree>) -> &'tree str {
+    member.name().map_or("", |name| name.text())
 }
 
-fn member_of<'tree>(root: Node<'tree>, name: &str) -> Result<Node<'tree>, EditError> {
-    let mut members = root.descendants().by_kind(Kind::Member);
+fn member_of<'tree>(root: Node<'tree>, name: &str) -> Result<MemberRef<'tree>, EditError> {
+    let mut members = root.descendants().filter_map(MemberRef::cast);
     let found = members.find(|member| name_of(*member) == name);
     found.ok_or(EditError::Refused(Refusal::NotFound))
 }
 
 fn rename(editor: &mut Editor, root: Node<'_>, old: &str, new: &str) -> Result<(), EditError> {
-    let members = root.descendants().by_kind(Kind::Member);
-    let mut found = members.filter_map(|at| at.first_token().filter(|name| name.text() == old));
+    let members = root.descendants().filter_map(MemberRef::cast);
+    let names = members.filter_map(|member| member.name());
+    let mut found = names.filter(|name| name.text() == old);
     found.try_for_each(|name| editor.set_text(name, new))
 }
 
@@ -66,14 +69,14 @@ fn put(editor: &mut Editor, old: Node<'_>, text: &str) -> Result<(), EditError> 
 }
 
 fn set(editor: &mut Editor, root: Node<'_>, name: &str, value: &str) -> Result<(), EditError> {
-    let old = member_of(root, name)?.first_child();
+    let old = member_of(root, name)?.value();
     let old = old.ok_or(EditError::Refused(Refusal::NotFound))?;
-    put(editor, old, value)
+    put(editor, old.syntax(), value)
 }
 
 /// Deletes a member, and what stands between it and the next one: a comma, a comment.
 fn delete(editor: &mut Editor, root: Node<'_>, name: &str) -> Result<(), EditError> {
-    let member = member_of(root, name)?;
+    let member = member_of(root, name)?.syntax();
     editor.delete(member)?;
     let behind = member.siblings_with_tokens(Direction::Next).skip(1);
     let mut gone = behind.take_while(|next| !matches!(next.kind(), Kind::Member | Kind::RBrace));
@@ -82,23 +85,25 @@ fn delete(editor: &mut Editor, root: Node<'_>, name: &str) -> Result<(), EditErr
 
 /// Puts each number into an array of its own.
 fn wrap(editor: &mut Editor, root: Node<'_>) -> Result<(), EditError> {
-    let is_number = |literal: &Node<'_>| literal.first_token_of_kind(Kind::Number).is_some();
-    let mut numbers = root.descendants().by_kind(Kind::Literal).filter(is_number);
+    let literals = root.descendants().filter_map(LiteralRef::cast);
+    let mut numbers = literals.filter(|literal| literal.number_token().is_some());
     numbers.try_for_each(|literal| {
-        let array = format!(in editor.allocator(); "[{literal}]")?;
-        put(editor, literal, array.as_str())
+        let number = literal.syntax();
+        let array = format!(in editor.allocator(); "[{number}]")?;
+        put(editor, number, array.as_str())
     })
 }
 
 /// Sorts the members of each object by their names. What stands between them stays there.
 fn sort(editor: &mut Editor, root: Node<'_>) -> Result<(), EditError> {
-    for object in root.descendants().by_kind(Kind::Object) {
-        let members = object.children();
+    for object in root.descendants().filter_map(ObjectRef::cast) {
+        let members = object.members();
         let mut sorted = members.sorted_by_key(editor.allocator(), |member| name_of(*member))?;
+        let object = object.syntax();
         let mut pieces = Vec::new(editor.allocator());
         for old in object.children_with_tokens() {
             let new = old.into_node().and_then(|_| sorted.next());
-            pieces.push(Piece::Old(new.map_or(old.index(), |member| member.index())))?;
+            pieces.push(Piece::Old(new.map_or(old.index(), |member| member.syntax().index())))?;
         }
         editor.replace_children(object, pieces)?;
     }

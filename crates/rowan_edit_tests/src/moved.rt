@@ -1,33 +1,17 @@
 //! Where ranges and pointers of an old text lie in the new one.
 ghost use Rattle.std.specs.Prelude.{codes};
 
-use crate::fixture::{LIST, WORD, nested, tree};
+use crate::fixture::{LIST, Splice, nested, spliced, tree};
 use rowan::ast::SyntaxNodePtr;
 use rowan::{
-    Fault, GreenElement, GreenToken, Language, NodeOrToken, SyntaxKind, SyntaxNode, SyntaxNodeRef,
-    TextRange, TextSize,
+    Fault, GreenNode, Language, SyntaxKind, SyntaxNode, SyntaxNodeRef, TextRange, TextSize,
 };
-use rowan_edit::{Changes, EditError, GreenEditor, Refusal};
+use rowan_edit::{EditError, Refusal};
 use std::alloc::Global;
 use std::test::Fail;
 
-fn word(alloc: Global, text: &str) -> Result<Vec<GreenElement>, Fault> {
-    Ok(vec![in alloc; NodeOrToken::Token(GreenToken::new(alloc, WORD, text)?)]?)
-}
-
-/// The changes of the text `abcde` to `axyzcde`: two bytes put before `b`, and `z` in its place.
-fn changes(alloc: Global) -> Result<Changes, Fault> {
-    let mut editor = GreenEditor::new(alloc, &tree(alloc)?)?;
-    match editor.splice(&[1], 0..1, word(alloc, "z")?) {
-        Ok(()) => {}
-        Err(_) => return Err(Fault::NotFound),
-    }
-    match editor.splice(&[1], 0..0, word(alloc, "xy")?) {
-        Ok(()) => {}
-        Err(_) => return Err(Fault::NotFound),
-    }
-    Ok(editor.finish()?.changes)
-}
+/// The text `abcde` becomes `axyzcde`: two bytes are put before `b`, and `z` in its place.
+const CHANGED: [Splice; 2] = [Splice(&[1], 0, 1, &["z"]), Splice(&[1], 0, 0, &["xy"])];
 
 /// A range, and where it is moved to.
 const MOVED: [(u32, u32, Option<(u32, u32)>); 8] = [
@@ -55,7 +39,8 @@ fn range(start: u32, end: u32) -> TextRange {
 
 #[test]
 fn borders_and_empty_ranges(rt: HostRuntime) -> Result<(), Fail> {
-    let changes = changes(rt.alloc())?;
+    let alloc = rt.alloc();
+    let changes = spliced(alloc, &tree(alloc)?, &CHANGED)?.changes;
     for (start, end, moved) in MOVED {
         let expected = moved.map(|moved| range(moved.0, moved.1));
         assert!(rt; changes.moved(range(start, end)) == expected);
@@ -97,27 +82,34 @@ fn pointer(root: &SyntaxNode<Raw>) -> Result<SyntaxNodePtr<Raw>, Fault> {
     Ok(SyntaxNodePtr::new(&list))
 }
 
-/// A list behind two bytes that are put is found again, and its parent is nowhere.
+/// Whether a pointer leads to a list in the tree with this root, which has this range there.
+fn leads_to_list(
+    alloc: Global,
+    pointer: SyntaxNodePtr<Raw>,
+    green: GreenNode,
+    place: TextRange,
+) -> Result<bool, Fault> {
+    let root: SyntaxNode<Raw> = SyntaxNode::new_root(alloc, green)?;
+    let found = pointer.to_node(&root)?;
+    Ok(found.kind() == LIST.0 && found.text_range() == place)
+}
+
+/// Two bytes before the list.
+const BEFORE: [Splice; 1] = [Splice(&[], 1, 1, &["xy"])];
+
+/// A list behind what is put is found again, and its parent is nowhere.
 #[test]
 fn pointers(rt: HostRuntime) -> Result<(), Fail> {
     let alloc = rt.alloc();
     let root: SyntaxNode<Raw> = SyntaxNode::new_root(alloc, tree(alloc)?)?;
     let list = pointer(&root)?;
-    let mut editor = GreenEditor::new(alloc, root.green())?;
-    editor.splice(&[], 1..1, word(alloc, "xy")?)?;
-    let edited = editor.finish()?;
-    assert!(rt;
-        edited
-            .changes
-            .moved_pointer(SyntaxNodePtr::new(&root))
-            .is_none()
-    );
+    let edited = spliced(alloc, root.green(), &BEFORE)?;
+    let whole = edited.changes.moved_pointer(SyntaxNodePtr::new(&root));
+    assert!(rt; whole.is_none());
     let Some(moved) = edited.changes.moved_pointer(list) else {
         return Err(Fault::NotFound.into());
     };
-    let new_root: SyntaxNode<Raw> = SyntaxNode::new_root(alloc, edited.green)?;
-    let found = moved.to_node(&new_root)?;
-    assert!(rt; found.kind() == LIST.0 && found.text_range() == range(3, 6));
+    assert!(rt; leads_to_list(alloc, moved, edited.green, range(3, 6))?);
     Ok(())
 }
 
@@ -131,42 +123,57 @@ fn list_in(node: SyntaxNodeRef<'_, Raw>) -> Result<SyntaxNodeRef<'_, Raw>, Fault
 
 /// Each edit of `ROOT["a" LIST[LIST["bcd"]] "e"]`, and the range to which it moves the pointer of the
 /// outer list.
-const AROUND: [(&[usize], usize, usize, &str, Option<(u32, u32)>); 6] = [
+const AROUND: [(Splice, Option<(u32, u32)>); 6] = [
     // Inside of it, before the inner list, which has the range that the outer one would have by
     // the changes alone.
-    (&[1], 0, 0, "x", Some((1, 5))),
-    (&[1, 0], 0, 1, "xyz", Some((1, 4))),
-    (&[1], 0, 1, "", Some((1, 1))),
+    (Splice(&[1], 0, 0, &["x"]), Some((1, 5))),
+    (Splice(&[1, 0], 0, 1, &["xyz"]), Some((1, 4))),
+    (Splice(&[1], 0, 1, &[]), Some((1, 1))),
     // Beside it.
-    (&[], 1, 1, "x", Some((2, 5))),
-    (&[], 2, 2, "x", Some((1, 4))),
-    (&[], 1, 2, "x", None),
+    (Splice(&[], 1, 1, &["x"]), Some((2, 5))),
+    (Splice(&[], 2, 2, &["x"]), Some((1, 4))),
+    (Splice(&[], 1, 2, &["x"]), None),
 ];
+
+/// Whether an edit moves the pointer of the outer list to this range, where the list is found.
+fn follows(
+    alloc: Global,
+    root: &SyntaxNode<Raw>,
+    edit: Splice,
+    expected: Option<(u32, u32)>,
+) -> Result<bool, EditError> {
+    let list = SyntaxNodePtr::from_ref(list_in(root.as_ref())?);
+    let edited = spliced(alloc, root.green(), &[edit])?;
+    let new: SyntaxNode<Raw> = SyntaxNode::new_root(alloc, edited.green.clone()?)?;
+    let moved = edited.moved_pointer(alloc, list, root.as_ref(), new.as_ref())?;
+    Ok(match (moved, expected) {
+        (Some(moved), Some((start, end))) => {
+            let found = moved.to_node_ref(new.as_ref())?;
+            moved.text_range() == range(start, end) && found == list_in(new.as_ref())?
+        }
+        (moved, _) => moved.is_none() && expected.is_none(),
+    })
+}
 
 #[test]
 fn pointers_around_edits(rt: HostRuntime) -> Result<(), Fail> {
     let alloc = rt.alloc();
     let root: SyntaxNode<Raw> = SyntaxNode::new_root(alloc, nested(alloc)?)?;
-    let list = SyntaxNodePtr::from_ref(list_in(root.as_ref())?);
-    for (parent, start, end, text, expected) in AROUND {
-        let mut editor = GreenEditor::new(alloc, root.green())?;
-        let new = if text == "" {
-            Vec::new(alloc)
-        } else {
-            word(alloc, text)?
-        };
-        editor.splice(parent, start..end, new)?;
-        let edited = editor.finish()?;
-        let new: SyntaxNode<Raw> = SyntaxNode::new_root(alloc, edited.green.clone()?)?;
-        let moved = edited.moved_pointer(alloc, list, root.as_ref(), new.as_ref())?;
-        assert!(rt; moved.map(|to| to.text_range()) == expected.map(|to| range(to.0, to.1)));
-        let Some(moved) = moved else {
-            continue;
-        };
-        let found = moved.to_node_ref(new.as_ref())?;
-        assert!(rt; found == list_in(new.as_ref())?);
+    for (edit, expected) in AROUND {
+        assert!(rt; follows(alloc, &root, edit, expected)?);
     }
     Ok(())
+}
+
+/// A word before the inner list, and that word taken away.
+const PUT: [Splice; 1] = [Splice(&[1], 0, 0, &["x"])];
+
+const TAKEN: [Splice; 1] = [Splice(&[1], 0, 1, &[])];
+
+/// The old tree, with a word before the inner list.
+fn with_word(alloc: Global) -> Result<SyntaxNode<Raw>, EditError> {
+    let green = spliced(alloc, &nested(alloc)?, &PUT)?.green;
+    Ok(SyntaxNode::new_root(alloc, green)?)
 }
 
 /// No pointer leads to the inner list once it has all of the text of the outer one, and a cursor of
@@ -174,17 +181,13 @@ fn pointers_around_edits(rt: HostRuntime) -> Result<(), Fail> {
 #[test]
 fn pointers_that_lead_elsewhere(rt: HostRuntime) -> Result<(), Fail> {
     let alloc = rt.alloc();
-    let mut editor = GreenEditor::new(alloc, &nested(alloc)?)?;
-    editor.splice(&[1], 0..0, word(alloc, "x")?)?;
-    let old: SyntaxNode<Raw> = SyntaxNode::new_root(alloc, editor.finish()?.green)?;
+    let old = with_word(alloc)?;
     let inner = SyntaxNodePtr::from_ref(list_in(list_in(old.as_ref())?)?);
-    let mut editor = GreenEditor::new(alloc, old.green())?;
-    editor.splice(&[1], 0..1, Vec::new(alloc))?;
-    let edited = editor.finish()?;
+    let edited = spliced(alloc, old.green(), &TAKEN)?;
     let new: SyntaxNode<Raw> = SyntaxNode::new_root(alloc, edited.green.clone()?)?;
     assert!(rt; edited.moved_path(alloc, &[1, 1])?.is_some());
-    let moved = edited.moved_pointer(alloc, inner, old.as_ref(), new.as_ref())?;
-    assert!(rt; moved.is_none());
+    let moved = edited.moved_pointer(alloc, inner, old.as_ref(), new.as_ref());
+    assert!(rt; moved == Ok(None));
     let other = edited.moved_pointer(alloc, inner, old.as_ref(), old.as_ref());
     assert!(rt; other == Err(EditError::Refused(Refusal::OtherTree)));
     Ok(())
