@@ -61,7 +61,7 @@ impl<L: Language, const KIND: u16> AstNode for NodeOf<L, KIND> {
         ensures { let casting = casts_at L.meaning (is_meaning L.meaning L.Kind.eq KIND) in
             option_map (λ wrapper. wrapper) result ≡ if_casts casting syntax }
     {
-        if syntax.kind() == L::kind_from_raw(SyntaxKind(KIND)) {
+        if Self::can_cast(syntax.kind()) {
             Some(NodeOf { syntax })
         } else {
             None

@@ -41,7 +41,7 @@ impl<'tree, L: Language, const KIND: u16> AstNodeRef<'tree> for NodeOfRef<'tree,
         ensures { let casting = casts_at L.meaning (is_meaning L.meaning L.Kind.eq KIND) in
             option_map place_in result ≡ if_casts casting (node_place syntax.entry) }
     {
-        if syntax.kind() == L::kind_from_raw(SyntaxKind(KIND)) {
+        if Self::can_cast(syntax.kind()) {
             Some(NodeOfRef { syntax })
         } else {
             None
