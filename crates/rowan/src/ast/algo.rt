@@ -90,9 +90,9 @@ pub fn non_trivia_sibling<'tree, L: Language>(
     None
 }
 
-/// The first token of another kind than these, from a token on in a direction, itself included: what
-/// stands at or behind it but for white space and comments, in whatever node. `None` where all
-/// tokens up to the end of the tree are of these kinds.
+/// The first token of another kind than these, from a token on in a direction, itself included: the
+/// next one that is no white space and no comment, in whatever node. `None` where all tokens up to
+/// that end of the tree are of these kinds.
 pub fn skip_trivia_token<'tree, L: Language>(
     token: SyntaxTokenRef<'tree, L>,
     direction: Direction,
