@@ -18,6 +18,10 @@ use Rattle.rowan.specs.declared.ast.nodes_ref.AstNodesRef.{AstNodesRef}
 abbrev pub casts_at : {K : Type 0} → (ℕ → K) → (K → Bool) → Cursor → Bool
 casts_at meaning casts c = option_map_or casts (option_map meaning (kind c)) false
 
+-- whether a kind is the one that a raw kind means, by what raw kinds mean and when kinds are equal
+abbrev pub is_meaning : {K : Type 0} → (ℕ → K) → (K → K → Bool) → ℕ → K → Bool
+is_meaning meaning same raw k = same k (meaning raw)
+
 -- the node, if it casts
 abbrev pub if_casts : (Cursor → Bool) → Cursor → Option Cursor
 if_casts casts c = if casts c then Some c else None

@@ -2,7 +2,7 @@
 //! of green trees are in `green`, those of cursors in `cursor`, and those of languages in `api`.
 ghost use Rattle.std.specs.Prelude.{◌≡◌, ℕ, ◌+◌, ◌<◌, ◌≤◌, Bool, true, List, [], ◌∷◌, ◌++◌, length};
 ghost use Rattle.std.specs.Prelude.{Option, Some, IsPermutation};
-ghost use Rattle.std.specs.Option.{option_and_then};
+ghost use Rattle.std.specs.Option.{option_and_then, option_map_or};
 ghost use Rattle.rowan_green.specs.Builder.{BuilderValue};
 ghost use Rattle.rowan_green.specs.Cache.{first_seen};
 ghost use Rattle.rowan_green.specs.Fits.{byte_limit};
@@ -13,10 +13,12 @@ ghost use Rattle.rowan_green.specs.Span.{Span};
 ghost use Rattle.rowan_green.specs.Stream.{intern_all, BuildsOn};
 ghost use Rattle.rowan_green.specs.Term.{NodeTerm, node_len, Term, term_len};
 ghost use Rattle.rowan_green.specs.Word.{Symbol, IsFinished, word_text, word_tokens};
+ghost use Rattle.rowan_green.specs.declared.utility_types.Direction.TheVariants.{Next, Prev};
 ghost use Rattle.rowan_green.specs.declared.utility_types.NodeOrToken.TheVariants.{Node};
 ghost use Rattle.rowan_cursor.specs.Cursor.{Cursor};
-ghost use Rattle.rowan_cursor.specs.Moves.{Element, nodes_at, cursor_at};
+ghost use Rattle.rowan_cursor.specs.Moves.{Element, nodes_at, cursor_at, next_token, prev_token};
 ghost use Rattle.rowan_cursor.specs.Search.{IsChain};
+ghost use Rattle.rowan.specs.Around.{other_tokens, tokens_from};
 ghost use Rattle.rowan.specs.Pointer.{Pointer, pointer_to, means_kind, is_meant, up_to, Resolves};
 ghost use Rattle.rowan.specs.Pointer.{LeadsAbove, carried, carried_in_turn};
 ghost use Rattle.rowan.specs.declared.script.calls.Call.{Call};
@@ -190,4 +192,14 @@ pub fn one_chain_begins_at_each_element()
         → IsChain root span [] chain
         → ((q : Path) (t : Term) → subterm (Node root) q ≡ Some t → length q ≤ d)
         → length (nodes_at root (up_to (is_meant means span root) ([] ∷ chain))) ≤ d + 1 }
+{}
+
+/// In each direction the other tokens from a token on are its next token and the others from there
+/// on, and there are none where it has no next one. So a search in `tokens_from` is one by
+/// `next_token` or `prev_token`.
+pub fn tokens_follow_one_another()
+    ensures next { (c : Cursor)
+        → other_tokens Next c ≡ option_map_or (tokens_from Next) (next_token c) [] }
+    ensures prev { (c : Cursor)
+        → other_tokens Prev c ≡ option_map_or (tokens_from Prev) (prev_token c) [] }
 {}

@@ -1,4 +1,4 @@
-//! A language of lists and words.
+//! A language of lists, words and spaces.
 use rowan::{Language, SyntaxKind};
 
 /// The language.
@@ -8,10 +8,12 @@ pub struct Lists;
 /// Its kinds.
 #[derive(Clone, Copy, PartialEq, Eq, PartialOrd, Ord, Hash, Debug)]
 pub enum Kind {
-    /// A node of words and lists. Its raw kind is 0.
+    /// A node of words, spaces and lists. Its raw kind is 0.
     List,
     /// A token, of any other raw kind.
     Word,
+    /// A token between words. Its raw kind is 2.
+    Space,
 }
 
 impl Language for Lists {
@@ -26,13 +28,18 @@ impl Language for Lists {
     ghost code = { number_of };
 
     fn kind_from_raw(raw: SyntaxKind) -> Kind {
-        if raw.0 == 0 { Kind::List } else { Kind::Word }
+        match raw.0 {
+            0 => Kind::List,
+            2 => Kind::Space,
+            _ => Kind::Word,
+        }
     }
 
     fn kind_to_raw(kind: Kind) -> SyntaxKind {
         match kind {
             Kind::List => SyntaxKind(0),
             Kind::Word => SyntaxKind(1),
+            Kind::Space => SyntaxKind(2),
         }
     }
 
@@ -40,6 +47,7 @@ impl Language for Lists {
         match kind {
             Kind::List => "LIST",
             Kind::Word => "WORD",
+            Kind::Space => "SPACE",
         }
     }
 }

@@ -3,6 +3,7 @@
 //! needs no other crate. `README.md` has the modules in the order in which one learns.
 #![tactic(auto)]
 
+pub mod aliases;
 pub mod borrowed;
 pub mod builders;
 pub mod cursors;

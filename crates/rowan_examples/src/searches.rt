@@ -1,15 +1,25 @@
 //! Searches by place, and the steps that they take.
-ghost use Rattle.std.specs.Prelude.{◌≡◌, ◌+◌, ◌≤◌, IfOk};
+ghost use Rattle.std.specs.Prelude.{◌≡◌, ◌+◌, ◌≤◌, [], ◌∷◌, not, IfOk};
+ghost use Rattle.std.specs.List.{find};
+ghost use Rattle.std.specs.Option.{option_map};
+ghost use Rattle.rowan.specs.Around.{other_tokens};
+ghost use Rattle.rowan.specs.Ast.{has_one_of};
 ghost use Rattle.rowan.specs.ChildSearch.{digits};
 ghost use Rattle.rowan.specs.Cursor.{text_range};
 ghost use Rattle.rowan.specs.Moves.{child_count};
+ghost use Rattle.rowan.specs.Refs.{token_place};
 ghost use Rattle.rowan.specs.Search.{FindsChild, IsCovering, LiesIn, tokens_at};
 ghost use Rattle.rowan.specs.Span.{Holds};
 ghost use Rattle.rowan.specs.TokenAtOffset.{tokens_of};
+ghost use Rattle.rowan.specs.Types.Direction.TheVariants.{Next};
+ghost use Rattle.rowan_examples.specs.Kinds.{kind_of, same_kind};
 
-use crate::kinds::Lists;
+use crate::kinds::{Kind, Lists};
+use rowan::ast::algo;
+use rowan::laws::tokens_follow_one_another;
 use rowan::{
-    Fault, Steps, SyntaxElement, SyntaxNode, SyntaxToken, TextRange, TextSize, TokenAtOffset,
+    Direction, Fault, Steps, SyntaxElement, SyntaxNode, SyntaxToken, SyntaxTokenRef, TextRange,
+    TextSize, TokenAtOffset,
 };
 
 /// The tokens at an offset.
@@ -42,4 +52,17 @@ pub fn child_at(
         steps.new.comparisons ≤ steps.old.comparisons + digits count }
 {
     node.child_or_token_at_range_counted(range, steps)
+}
+
+/// The next token that is no space.
+pub fn next_word<'tree>(token: SyntaxTokenRef<'tree, Lists>) -> Option<SyntaxTokenRef<'tree, Lists>>
+    ensures { let is_space = has_one_of kind_of same_kind (Kind.Space ∷ []) in
+        option_map token_place result
+        ≡ find (λ t. not (is_space t)) (other_tokens Next (token_place token.entry)) }
+{
+    tokens_follow_one_another();
+    match token.next_token() {
+        Some(next) => algo::skip_trivia_token(next, Direction::Next, &[Kind::Space]),
+        None => None,
+    }
 }

@@ -1,61 +1,13 @@
 //! Borrowed wrappers, parts of a node that are alike, and searches around a place.
-ghost use Rattle.std.specs.Prelude.{◌≡◌, true};
-ghost use Rattle.rowan.specs.Ast.{casts_at};
-ghost use Rattle.rowan.specs.Refs.{node_place};
-ghost use Rattle.rowan_tool.specs.Casts.{is_atom};
-ghost use Rattle.rowan_tool.specs.Sexp.{kind_of};
-
 use crate::trees::Tree;
-use rowan::ast::{AstNodeRef, algo, support};
+use rowan::ast::{AstNodeRef, NodeOfRef, algo, support};
 use rowan::{Direction, Fault, NodeOrToken, SyntaxNodeRef, TextRange, TextSize};
 use rowan_tool::sexp::{Atom, Lang, SyntaxKind};
 
+const ATOM: u16 = SyntaxKind::ATOM as u16;
+
 /// An atom that is borrowed from its tree.
-#[derive(Clone, Copy)]
-struct AtomRef<'tree> {
-    syntax: SyntaxNodeRef<'tree, Lang>,
-    ghost casts: { casts_at kind_of is_atom (node_place syntax) ≡ true },
-}
-
-impl<'tree> AstNodeRef<'tree> for AtomRef<'tree> {
-    type Language = Lang;
-
-    ghost use Rattle.std.specs.Prelude.{◌≡◌, true};
-    ghost use Rattle.std.specs.Option.{option_map};
-    ghost use Rattle.rowan.specs.Ast.{casts_at, if_casts};
-    ghost use Rattle.rowan.specs.Refs.{node_place};
-    ghost use Rattle.rowan_tool.specs.Casts.{is_atom};
-    ghost use Rattle.rowan_tool.specs.Sexp.{kind_of};
-
-    ghost casts = { is_atom };
-
-    ghost node_of = { λ atom. node_place atom.syntax };
-
-    fn can_cast(kind: SyntaxKind) -> bool
-        ensures { result ≡ is_atom kind }
-    {
-        matches!(kind, SyntaxKind::ATOM)
-    }
-
-    fn cast(syntax: SyntaxNodeRef<'tree, Lang>) -> Option<AtomRef<'tree>>
-        ensures { let casting = casts_at kind_of is_atom in
-            option_map (λ atom. node_place atom.syntax) result
-            ≡ if_casts casting (node_place syntax.entry) }
-    {
-        if AtomRef::can_cast(syntax.kind()) {
-            Some(AtomRef { syntax })
-        } else {
-            None
-        }
-    }
-
-    fn syntax(&self) -> SyntaxNodeRef<'tree, Lang>
-        ensures node { node_place result ≡ node_place self.now.syntax }
-        ensures casts { casts_at kind_of is_atom (node_place result) ≡ true }
-    {
-        self.syntax
-    }
-}
+type AtomRef<'tree> = NodeOfRef<'tree, Lang, ATOM>;
 
 pub fn make(call: &str, tree: &Tree) -> Result<Option<u64>, Fault> {
     let root = tree.root.as_ref();
@@ -65,6 +17,7 @@ pub fn make(call: &str, tree: &Tree) -> Result<Option<u64>, Fault> {
         "nth_owned" => nth_owned(tree)?,
         "around_a_place" => around(root),
         "other_siblings" => siblings(root),
+        "skip_trivia" => skip_trivia(root),
         _ => return Ok(None),
     };
     Ok(Some(number))
@@ -118,4 +71,15 @@ fn siblings(root: SyntaxNodeRef<'_, Lang>) -> u64 {
         Some(NodeOrToken::Token(_)) => 1,
         None => 0,
     }
+}
+
+/// From the first token to the first that is no word, and back from the last one.
+fn skip_trivia(root: SyntaxNodeRef<'_, Lang>) -> u64 {
+    let (Some(first), Some(last)) = (root.first_token(), root.last_token()) else {
+        return 0;
+    };
+    let words = &[SyntaxKind::WORD];
+    let on = algo::skip_trivia_token(first, Direction::Next, words);
+    let back = algo::skip_trivia_token(last, Direction::Prev, words);
+    u64::from(on.is_some()).wrapping_add(u64::from(back.is_some()))
 }

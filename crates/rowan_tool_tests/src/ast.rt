@@ -1,6 +1,7 @@
 //! Pointers and wrappers, over the language in which even and odd raw kinds mean one kind each.
 mod casts;
 mod comparisons;
+mod one_kind;
 mod pointers;
 mod wrappers;
 

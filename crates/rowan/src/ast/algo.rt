@@ -1,15 +1,16 @@
 //! Searches around a place, as tools for code make them: what is under the cursor of an editor,
 //! what a range is part of, what stands beside a node but for white space.
-ghost use Rattle.std.specs.Prelude.{◌≡◌, IsSome, not};
+ghost use Rattle.std.specs.Prelude.{◌≡◌, [], IsSome, not};
 ghost use Rattle.std.specs.List.{find};
-ghost use Rattle.std.specs.Option.{option_map};
+ghost use Rattle.std.specs.Option.{option_map, option_map_or};
 ghost use Rattle.rowan_green.specs.Span.{Holds};
 ghost use Rattle.rowan_cursor.specs.Cursor.{text_range};
 ghost use Rattle.rowan_cursor.specs.Moves.{Element, parent_ancestors, element_ancestors};
 ghost use Rattle.rowan_cursor.specs.Search.{LiesIn, IsCovering, tokens_at};
 ghost use Rattle.rowan_api.specs.Refs.{node_place, token_place, element_place, rest_of_ancestors};
-ghost use Rattle.rowan.specs.Around.{innermost, shorter, other_siblings};
-ghost use Rattle.rowan.specs.Ast.{casts_at, is_token_of, means_one_of};
+ghost use Rattle.rowan.specs.Around.{innermost, shorter, other_siblings, other_tokens};
+ghost use Rattle.rowan.specs.Around.{tokens_from};
+ghost use Rattle.rowan.specs.Ast.{casts_at, has_one_of, is_token_of, means_one_of};
 
 use super::AstNodeRef;
 use super::alike::is_token_among;
@@ -87,6 +88,42 @@ pub fn non_trivia_sibling<'tree, L: Language>(
         }
     }
     None
+}
+
+/// The first token of another kind than these, from a token on in a direction, itself included: the
+/// next one that is no white space and no comment, in whatever node. `None` where all tokens up to
+/// that end of the tree are of these kinds.
+pub fn skip_trivia_token<'tree, L: Language>(
+    token: SyntaxTokenRef<'tree, L>,
+    direction: Direction,
+    trivia: &[L::Kind],
+) -> Option<SyntaxTokenRef<'tree, L>>
+    ensures { let is_trivia = has_one_of L.meaning L.Kind.eq trivia.now in
+        option_map token_place result
+        ≡ find (λ t. not (is_trivia t)) (tokens_from direction (token_place token.entry)) }
+{
+    let mut here = token;
+    while trivia.contains(&here.kind()) {
+        match neighbour(here, direction) {
+            Some(token) => here = token,
+            None => return None,
+        }
+    }
+    Some(here)
+}
+
+/// The next token in a direction.
+fn neighbour<'tree, L: Language>(
+    token: SyntaxTokenRef<'tree, L>,
+    direction: Direction,
+) -> Option<SyntaxTokenRef<'tree, L>>
+    ensures { other_tokens direction (token_place token.entry)
+        ≡ option_map_or (tokens_from direction) (option_map token_place result) [] }
+{
+    match direction {
+        Direction::Next => token.next_token(),
+        Direction::Prev => token.prev_token(),
+    }
 }
 
 /// The innermost node around a token that casts.

@@ -1,0 +1,88 @@
+//! Wrappers of the nodes of one kind, and tokens that are skipped.
+use super::{Node, root_of};
+use crate::language::{Numbers, Parity};
+use crate::parts::Part::{self, Close, Leaf, Open};
+use rowan::ast::{AstNode, NodeOf, NodeOfRef, algo, support};
+use rowan::{Direction, Fault};
+use std::test::Fail;
+
+/// A node of the kind that 7 means, as each odd number does.
+type Odd = NodeOf<Numbers, 7>;
+
+type OddRef<'tree> = NodeOfRef<'tree, Numbers, 7>;
+
+/// A node with an even and two odd children, and with tokens in and between them.
+const TREE: [Part; 13] = [
+    Open(2),
+    Leaf(5, "a"),
+    Open(4),
+    Leaf(2, "b"),
+    Close,
+    Open(1),
+    Close,
+    Open(3),
+    Leaf(2, "c"),
+    Leaf(5, "d"),
+    Close,
+    Leaf(2, "e"),
+    Close,
+];
+
+/// The first odd child.
+fn first_odd(root: &Node) -> Result<Odd, Fault> {
+    support::child(root)?.ok_or(Fault::NotFound)
+}
+
+#[test]
+fn a_wrapper_casts_by_the_kind_and_not_by_its_number(rt: HostRuntime) -> Result<(), Fail> {
+    let root = root_of(rt.alloc(), &TREE)?;
+    assert!(rt; first_odd(&root)?.syntax().index() == 2);
+    assert!(rt; support::children_ref::<OddRef<'_>>(root.as_ref()).count() == 2);
+    assert!(rt; Odd::cast(root).is_none());
+    Ok(())
+}
+
+#[test]
+fn an_owned_and_a_borrowed_wrapper_lead_to_each_other(rt: HostRuntime) -> Result<(), Fail> {
+    let odd = first_odd(&root_of(rt.alloc(), &TREE)?)?;
+    assert!(rt; odd.as_ref().to_owned()? == odd.clone()?);
+    Ok(())
+}
+
+#[test]
+fn a_wrapper_prints_as_its_node(rt: HostRuntime) -> Result<(), Fail> {
+    let odd = first_odd(&root_of(rt.alloc(), &TREE)?)?;
+    let node = format!(in rt.alloc(); "{:?}", odd.syntax())?;
+    let owned = format!(in rt.alloc(); "{odd:?}")?;
+    let borrowed = format!(in rt.alloc(); "{:?}", odd.as_ref())?;
+    assert!(rt; owned == node);
+    assert!(rt; borrowed == node);
+    Ok(())
+}
+
+/// Where the token starts that comes when those of a kind are skipped, from the first or the last
+/// token on.
+fn start_behind(root: &Node, direction: Direction, trivia: &[Parity]) -> Option<u32> {
+    let from = match direction {
+        Direction::Next => root.as_ref().first_token(),
+        Direction::Prev => root.as_ref().last_token(),
+    };
+    let found = algo::skip_trivia_token(from?, direction, trivia)?;
+    Some(u32::from(found.text_range().start()))
+}
+
+#[test]
+fn tokens_of_other_kinds_are_found_across_nodes(rt: HostRuntime) -> Result<(), Fail> {
+    let root = root_of(rt.alloc(), &TREE)?;
+    for (direction, trivia, start) in [
+        (Direction::Next, Parity::Odd, 1u32),
+        (Direction::Next, Parity::Even, 0),
+        (Direction::Prev, Parity::Odd, 4),
+        (Direction::Prev, Parity::Even, 3),
+    ] {
+        assert!(rt; start_behind(&root, direction, &[trivia]) == Some(start));
+    }
+    let all = &[Parity::Odd, Parity::Even];
+    assert!(rt; start_behind(&root, Direction::Next, all).is_none());
+    Ok(())
+}
