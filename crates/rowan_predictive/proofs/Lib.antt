@@ -1,3 +1,5 @@
+pub mod Amid
+pub mod AmidNodes
 pub mod Anchors
 pub mod Arranged
 pub mod Below

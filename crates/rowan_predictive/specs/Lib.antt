@@ -1,3 +1,4 @@
+pub mod Amid
 pub mod Arranging
 pub mod ArrangingView
 pub mod Binary
