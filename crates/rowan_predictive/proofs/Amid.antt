@@ -1,5 +1,5 @@
 -- Other tokens of a rule, amid what stands around it.
-use Rattle.std.proofs.Common.{◌≡◌, ℕ, List, [], ◌∷◌, ◌++◌, refl, sym, ap, ◌∙◌, subst, append_assoc, append-nil}
+use Rattle.std.proofs.Common.{◌≡◌, ℕ, List, [], ◌∷◌, ◌++◌, sym, ap, ◌∙◌, subst, append_assoc, append-nil}
 use Rattle.rowan_predictive.specs.declared.rules.Action.{Action}
 use Rattle.rowan_predictive.specs.declared.rules.Action.TheVariants.{Open, Mark, Around, Close, Done}
 use Rattle.rowan_predictive.specs.declared.rules.Rule.{Rule}

@@ -1,3 +1,4 @@
+pub mod Alone
 pub mod Amid
 pub mod Arranging
 pub mod ArrangingView

@@ -1,13 +1,17 @@
 //! Laws of grammars, each as the contract of a function that does nothing.
-ghost use Rattle.std.specs.Prelude.{◌≡◌, ◌++◌, ◌∷◌, [], ℕ, List};
+ghost use Rattle.std.specs.Prelude.{◌≡◌, ◌++◌, ◌∷◌, [], false, ℕ, List};
 ghost use Rattle.rowan_parser.specs.Shape.{Forest};
 ghost use Rattle.rowan_predictive.specs.declared.grammars.Grammar.{Grammar};
 ghost use Rattle.rowan_predictive.specs.declared.rules.Action.{Action};
 ghost use Rattle.rowan_predictive.specs.declared.rules.Action.TheVariants.{Open};
 ghost use Rattle.rowan_predictive.specs.declared.rules.Complaint.{Complaint};
+ghost use Rattle.rowan_predictive.specs.declared.rules.Entry.{Entry};
+ghost use Rattle.rowan_predictive.specs.declared.rules.Item.{Item};
 ghost use Rattle.rowan_predictive.specs.declared.rules.Rule.{Rule};
+ghost use Rattle.rowan_predictive.specs.Alone.{AreAlike, in_whole};
 ghost use Rattle.rowan_predictive.specs.Amid.{IsAmid, OpensNode};
 ghost use Rattle.rowan_predictive.specs.Derivations.{Parses};
+ghost use Rattle.rowan_predictive.specs.Machine.{State, is_told, steps_of};
 ghost use Rattle.rowan_predictive.specs.Trees.{MakesForest, HasForest, HasActions};
 ghost use Rattle.rowan_predictive.specs.View.{entries_in, rules_in};
 ghost use Rattle.rowan_predictive.specs.Whole.{IsRun};
@@ -43,4 +47,17 @@ pub fn nodes_stand_amid_the_rest()
     ensures { (rules : List Rule) (i kind : ℕ) (tokens : List ℕ) (opening rest : List Action)
         → Parses rules i tokens (opening ++ Open kind ∷ rest)
         → OpensNode rules i kind tokens opening rest }
+{}
+
+/// What a machine does over the tokens of a part alone, it does over those of the whole in which
+/// the part stands, with the same complaints: as long as the tokens that it looks at are the same,
+/// and what is expected behind the part says nothing else of which are passed over. Before the part
+/// nothing may have been complained of since a token was taken.
+pub fn a_part_is_parsed_as_it_is_alone()
+    ensures { (entries : List Entry) (part whole : List ℕ) (d : ℕ) (actions : List Action)
+        (errors : List Complaint) (behind : List Item) (k : ℕ) (state : State)
+        → is_told d errors ≡ false
+        → AreAlike entries part whole d behind k state
+        → steps_of k entries whole (in_whole d actions errors behind state)
+        ≡ in_whole d actions errors behind (steps_of k entries part state) }
 {}
