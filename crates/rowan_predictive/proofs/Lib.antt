@@ -1,3 +1,6 @@
+pub mod Alone
+pub mod Amid
+pub mod AmidNodes
 pub mod Anchors
 pub mod Arranged
 pub mod Below

@@ -1,3 +1,5 @@
+pub mod Alone
+pub mod Amid
 pub mod Arranging
 pub mod ArrangingView
 pub mod Binary

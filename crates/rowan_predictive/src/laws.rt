@@ -1,10 +1,20 @@
 //! Laws of grammars, each as the contract of a function that does nothing.
-ghost use Rattle.std.specs.Prelude.{ℕ, List};
+ghost use Rattle.std.specs.Prelude.{◌≡◌, ◌++◌, ◌∷◌, [], false, ℕ, List};
 ghost use Rattle.rowan_parser.specs.Shape.{Forest};
+ghost use Rattle.rowan_predictive.specs.declared.grammars.Grammar.{Grammar};
 ghost use Rattle.rowan_predictive.specs.declared.rules.Action.{Action};
+ghost use Rattle.rowan_predictive.specs.declared.rules.Action.TheVariants.{Open};
+ghost use Rattle.rowan_predictive.specs.declared.rules.Complaint.{Complaint};
+ghost use Rattle.rowan_predictive.specs.declared.rules.Entry.{Entry};
+ghost use Rattle.rowan_predictive.specs.declared.rules.Item.{Item};
 ghost use Rattle.rowan_predictive.specs.declared.rules.Rule.{Rule};
+ghost use Rattle.rowan_predictive.specs.Alone.{AreAlike, in_whole};
+ghost use Rattle.rowan_predictive.specs.Amid.{IsAmid, OpensNode};
 ghost use Rattle.rowan_predictive.specs.Derivations.{Parses};
+ghost use Rattle.rowan_predictive.specs.Machine.{State, is_told, steps_of};
 ghost use Rattle.rowan_predictive.specs.Trees.{MakesForest, HasForest, HasActions};
+ghost use Rattle.rowan_predictive.specs.View.{entries_in, rules_in};
+ghost use Rattle.rowan_predictive.specs.Whole.{IsRun};
 
 /// A derivation by actions has a forest, which the events of the actions spell, and each forest
 /// that derives is that of such a derivation.
@@ -13,4 +23,41 @@ pub fn derivations_make_forests()
         → Parses rules i kinds actions → HasForest rules error i kinds actions }
     ensures actions { (rules : List Rule) (error i : ℕ) (kinds : List ℕ) (f : Forest)
         → MakesForest rules i kinds f → HasActions rules error i kinds f }
+{}
+
+/// Where a rule derives a part of the tokens, other tokens that it derives may stand in their place:
+/// the actions around the part stay, with those of the new tokens between them. So a run over all
+/// the new tokens does what a run over the part does by itself, amid the old actions.
+pub fn a_part_is_replaced()
+    ensures derives { (rules : List Rule) (start rule : ℕ) (before kinds behind : List ℕ)
+        (opening actions closing : List Action)
+        → IsAmid rules rule start before behind opening closing → Parses rules rule kinds actions
+        → Parses rules start (before ++ (kinds ++ behind)) (opening ++ (actions ++ closing)) }
+    ensures run { (grammar : Grammar) (start rule : ℕ) (before kinds behind : List ℕ)
+        (opening actions closing done : List Action) (complaints : List Complaint)
+        → IsAmid (rules_in grammar) rule start before behind opening closing
+        → IsRun (entries_in grammar) rule kinds actions []
+        → IsRun (entries_in grammar) start (before ++ (kinds ++ behind)) done complaints
+        → (complaints ≡ []) × (done ≡ opening ++ (actions ++ closing)) }
+{}
+
+/// Each node of a derivation is derived by a rule for such nodes, which stands amid the rest of the
+/// derivation: so other tokens of that rule may stand in place of those below the node.
+pub fn nodes_stand_amid_the_rest()
+    ensures { (rules : List Rule) (i kind : ℕ) (tokens : List ℕ) (opening rest : List Action)
+        → Parses rules i tokens (opening ++ Open kind ∷ rest)
+        → OpensNode rules i kind tokens opening rest }
+{}
+
+/// What a machine does over the tokens of a part alone, it does over those of the whole in which
+/// the part stands, with the same complaints: as long as the tokens that it looks at are the same,
+/// and what is expected behind the part says nothing else of which are passed over. Before the part
+/// nothing may have been complained of since a token was taken.
+pub fn a_part_is_parsed_as_it_is_alone()
+    ensures { (entries : List Entry) (part whole : List ℕ) (d : ℕ) (actions : List Action)
+        (errors : List Complaint) (behind : List Item) (k : ℕ) (state : State)
+        → is_told d errors ≡ false
+        → AreAlike entries part whole d behind k state
+        → steps_of k entries whole (in_whole d actions errors behind state)
+        ≡ in_whole d actions errors behind (steps_of k entries part state) }
 {}
