@@ -1,24 +1,23 @@
 //! From a text to its tree, by a lexer and a grammar.
-ghost use Rattle.std.specs.Prelude.{◌≡◌, ◌+◌, ◌<◌, ◌≤◌, ◌++◌, ◌∷◌, [], length, map, cond, All};
+ghost use Rattle.std.specs.Prelude.{◌≡◌, ◌+◌, ◌<◌, ◌≤◌, ◌++◌, ◌∷◌, length, map};
 ghost use Rattle.std.specs.Prelude.{IfOk, IfErr, OnOk, List, false};
 ghost use Rattle.rowan_green.specs.Cache.{first_seen};
 ghost use Rattle.rowan_green.specs.Fits.{byte_limit};
 ghost use Rattle.rowan_green.specs.Stream.{subterms, Grows};
 ghost use Rattle.rowan_green.specs.Term.{node_kind, node_text};
 ghost use Rattle.rowan_green.specs.declared.utility_types.NodeOrToken.TheVariants.{Node};
-ghost use Rattle.rowan_parser.specs.Parsing.{has_line_end, pieces_since, pieces, ranges_from};
-ghost use Rattle.rowan_parser.specs.Parsing.{empty_at, end_behind, nth_range, range_at};
-ghost use Rattle.rowan_parser.specs.Parsing.{error_value, error_of};
-ghost use Rattle.rowan_parser.specs.Parsing.{lexer_error, IsRun, WhyNotRun};
+ghost use Rattle.rowan_parser.specs.Parsing.{has_line_end, pieces_since, pieces, range_at};
+ghost use Rattle.rowan_parser.specs.Parsing.{error_value, error_of, IsRun, WhyNotRun};
 ghost use Rattle.rowan_parser.specs.Parsing.{IsParsed, WhyNotParsed, WhyNoTree};
 ghost use Rattle.rowan_parser.specs.Seen.{piece};
-ghost use Rattle.rowan_parser.specs.Tokens.{tokens_text, lies_within};
+ghost use Rattle.rowan_parser.specs.Tokens.{tokens_text};
 ghost use Rattle.rowan_parser.specs.declared.lexer.Token.{Token};
 
 use crate::event::Event;
-use crate::lexer::{LexError, Lexed, Lexer, Token, lex};
+use crate::lexer::{Lexed, Lexer, Token, lex};
 use crate::parsed::{Parse, SyntaxError};
 use crate::parser::{Complaint, Parser, SeenToken, Spot};
+use crate::places::{empty_at, end_behind, lexer_errors, nth_range, token_ranges};
 use crate::running::{Made, run_grammar};
 use crate::tree::{Source, Trivia, build_tree_with, is_trivia};
 use rowan::{Fault, Language, NodeCache, TextRange, TextSize};
@@ -141,7 +140,7 @@ pub fn run<'text, L: Language, X: Lexer + Drop, G: FnOnce(&mut Parser<'text, L>)
         tokens,
         errors: complained,
     } = lexed;
-    let mut errors = errors_of(alloc, complained.as_slice())?;
+    let mut errors = lexer_errors(alloc, complained.as_slice())?;
     let seen = seen_tokens(alloc, tokens.as_slice(), trivia)?;
     let made = run_grammar(alloc, seen, grammar)?;
     let Made { events, complaints } = made;
@@ -184,34 +183,6 @@ fn seen_tokens<'text>(
         gap = see(&mut seen, trivia, gap, token, end)?;
     }
     Ok(seen)
-}
-
-/// What a lexer complained of, as errors of a parse.
-fn errors_of(alloc: Global, complained: &[LexError]) -> Result<Vec<SyntaxError>, Fault>
-    requires { All (lies_within byte_limit) complained.now }
-    ensures told { IfOk result (λ errors.
-        map error_value errors.items ≡ map lexer_error complained.now) }
-    ensures err { IfErr result (λ e. e ≡ Fault.Memory) }
-{
-    let mut errors = Vec::new(alloc);
-    for error in complained {
-        errors.push(told_error(alloc, error)?)?;
-    }
-    Ok(errors)
-}
-
-fn told_error(alloc: Global, error: &LexError) -> Result<SyntaxError, Fault>
-    requires { lies_within byte_limit error.now }
-    ensures ok { IfOk result (λ e. error_value e ≡ lexer_error error.now) }
-    ensures err { IfErr result (λ e. e ≡ Fault.Memory) }
-{
-    let message = String::from_str(alloc, error.message)?;
-    let start = TextSize::from(error.range.start as u32);
-    let end = TextSize::from(error.range.end as u32);
-    Ok(SyntaxError {
-        message,
-        range: TextRange::new(start, end),
-    })
 }
 
 /// Puts a token, which ends here, behind the others, unless it is trivia, and gives what then stands
@@ -277,7 +248,7 @@ fn push_errors(
     if complaints.is_empty() {
         return Ok(());
     }
-    let ranges = ranges_of(alloc, tokens, trivia)?;
+    let ranges = token_ranges(alloc, tokens, trivia)?;
     for complaint in complaints {
         let Complaint {
             message,
@@ -304,64 +275,4 @@ fn range_at(ranges: &[TextRange], place: usize, spot: Spot) -> TextRange
             TextRange::new(TextSize::from(start.min(u32::from(end))), end)
         }
     }
-}
-
-/// One of the ranges, or the empty one behind the last where there are fewer.
-fn nth_range(ranges: &[TextRange], n: usize) -> TextRange
-    ensures { result ≡ nth_range ranges.now n }
-{
-    match ranges.get(n) {
-        Some(range) => *range,
-        None => empty_at(end_behind(ranges, n)),
-    }
-}
-
-fn empty_at(offset: TextSize) -> TextRange
-    ensures { result ≡ empty_at offset }
-{
-    TextRange::new(offset, offset)
-}
-
-/// Where the first so many ranges end, or all of them where they are fewer.
-fn end_behind(ranges: &[TextRange], n: usize) -> TextSize
-    ensures { result ≡ end_behind ranges.now n }
-{
-    match n.min(ranges.len()).checked_sub(1) {
-        Some(last) => ranges[last].end(),
-        None => TextSize::from(0),
-    }
-}
-
-/// The ranges of the tokens that are no trivia.
-fn ranges_of(
-    alloc: Global,
-    tokens: &[Token<'_>],
-    trivia: Trivia<'_>,
-) -> Result<Vec<TextRange>, Fault>
-    requires { length (tokens_text tokens.now) ≤ byte_limit }
-    ensures ranges { IfOk result (λ ranges. ranges.items ≡ ranges_from 0 trivia.entry tokens.now) }
-    ensures err { IfErr result (λ e. e ≡ Fault.Memory) }
-{
-    let mut ranges = Vec::new(alloc);
-    let mut end = 0u32;
-    for token in tokens {
-        let start = end;
-        end += token.text.len() as u32;
-        let range = TextRange::new(TextSize::from(start), TextSize::from(end));
-        push_range(&mut ranges, range, is_trivia(trivia, token))?;
-    }
-    Ok(ranges)
-}
-
-/// Puts the range of a token behind the others, unless the token is trivia.
-#[inline(always)]
-fn push_range(ranges: &mut Vec<TextRange>, range: TextRange, is_trivia: bool) -> Result<(), Fault>
-    ensures ranges { OnOk result (ranges.new.items
-        ≡ ranges.old.items ++ cond is_trivia [] (range ∷ [])) }
-    ensures err { IfErr result (λ e. e ≡ Fault.Memory) }
-{
-    if !is_trivia {
-        ranges.push(range)?;
-    }
-    Ok(())
 }

@@ -1,25 +1,25 @@
 //! From a text to its tree, by a lexer and a grammar that is data.
-ghost use Rattle.std.specs.Prelude.{◌≡◌, ◌<◌, ◌≤◌, ◌++◌, Err, map, length, All, IfOk, IfErr, OnOk};
+ghost use Rattle.std.specs.Prelude.{◌≡◌, ◌<◌, ◌≤◌, ◌++◌, Err, map, length, IfOk, IfErr, OnOk};
 ghost use Rattle.rowan_green.specs.Cache.{first_seen};
 ghost use Rattle.rowan_green.specs.Fits.{byte_limit};
 ghost use Rattle.rowan_green.specs.Stream.{subterms, Grows};
 ghost use Rattle.rowan_green.specs.Term.{node_kind, node_text};
 ghost use Rattle.rowan_green.specs.declared.utility_types.NodeOrToken.TheVariants.{Node};
-ghost use Rattle.rowan_parser.specs.Parsing.{error_value, error_of, lexer_error, WhyNotRun};
-ghost use Rattle.rowan_parser.specs.Parsing.{WhyNoTree};
-ghost use Rattle.rowan_parser.specs.Tokens.{tokens_text, lies_within};
+ghost use Rattle.rowan_parser.specs.Parsing.{error_value, error_of, WhyNotRun, WhyNoTree};
+ghost use Rattle.rowan_parser.specs.Tokens.{tokens_text};
 ghost use Rattle.rowan_predictive.specs.Parsing.{told_by, error_by, IsRead, IsParse, IsTreeBy};
 ghost use Rattle.rowan_predictive.specs.View.{entries_in, rules_in};
 
 use crate::arranging::arrange;
 use crate::grammars::Grammar;
+use crate::kinds::kinds_of;
 use crate::messages::message_of;
-use crate::places::{kinds_of, nth_range, ranges_of};
 use crate::rules::{Complaint, Entry};
 use crate::running::Outcome;
-use rowan::{Fault, NodeCache, SyntaxKind, TextRange, TextSize};
+use rowan::{Fault, NodeCache, SyntaxKind, TextRange};
 use rowan_parser::{
-    Event, LexError, Lexed, Lexer, Parse, Source, SyntaxError, Token, Trivia, build_tree_with, lex,
+    Event, Lexed, Lexer, Parse, Source, SyntaxError, Token, Trivia, build_tree_with, lex,
+    lexer_errors, nth_range, token_ranges,
 };
 use std::alloc::Global;
 
@@ -34,34 +34,6 @@ pub struct Start<'a> {
     pub error: SyntaxKind,
     /// The names of tokens in messages, by their raw kinds.
     pub words: &'a [&'a str],
-}
-
-/// What a lexer complained of, as errors of a parse.
-fn errors_of(alloc: Global, complained: &[LexError]) -> Result<Vec<SyntaxError>, Fault>
-    requires { All (lies_within byte_limit) complained.now }
-    ensures told { IfOk result (λ errors.
-        map error_value errors.items ≡ map lexer_error complained.now) }
-    ensures err { IfErr result (λ e. e ≡ Fault.Memory) }
-{
-    let mut errors = Vec::new(alloc);
-    for error in complained {
-        errors.push(told_error(alloc, error)?)?;
-    }
-    Ok(errors)
-}
-
-fn told_error(alloc: Global, error: &LexError) -> Result<SyntaxError, Fault>
-    requires { lies_within byte_limit error.now }
-    ensures ok { IfOk result (λ e. error_value e ≡ lexer_error error.now) }
-    ensures err { IfErr result (λ e. e ≡ Fault.Memory) }
-{
-    let message = String::from_str(alloc, error.message)?;
-    let start = TextSize::from(error.range.start as u32);
-    let end = TextSize::from(error.range.end as u32);
-    Ok(SyntaxError {
-        message,
-        range: TextRange::new(start, end),
-    })
 }
 
 /// The error of a complaint.
@@ -119,7 +91,7 @@ fn complain(
     if complaints.is_empty() {
         return Ok(());
     }
-    let ranges = ranges_of(alloc, tokens, trivia)?;
+    let ranges = token_ranges(alloc, tokens, trivia)?;
     push_errors(alloc, errors, entries, words, ranges.as_slice(), complaints)
 }
 
@@ -222,7 +194,7 @@ impl Grammar {
             tokens,
             errors: complained,
         } = lexed;
-        let mut errors = errors_of(alloc, complained.as_slice())?;
+        let mut errors = lexer_errors(alloc, complained.as_slice())?;
         let kinds = kinds_of(alloc, tokens.as_slice(), trivia)?;
         let outcome = self.run(alloc, start.rule, kinds.as_slice())?;
         let Outcome {

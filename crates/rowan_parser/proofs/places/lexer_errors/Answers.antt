@@ -1,7 +1,8 @@
-use Rattle.std.proofs.Common.{arith}
+use Rattle.std.proofs.Common.{ap, ◌++◌, map, drop, arith}
 use Rattle.std.proofs.lemmas.List.{drop_more}
+use Rattle.rowan_parser.specs.Parsing.{error_value, lexer_error}
 use Rattle.rowan_parser.proofs.Ranges.{lexer_more, lexer_end}
-use Rattle.rowan_predictive.proofs.parsing.errors_of.Goals as goal
+use Rattle.rowan_parser.proofs.places.lexer_errors.Goals as goal
 
 pub loop-error-preserved : goal.loop-error-preserved
 loop-error-preserved c =

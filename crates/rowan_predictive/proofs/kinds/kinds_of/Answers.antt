@@ -2,7 +2,7 @@ use Rattle.std.proofs.Common.{arith, ap, ◌++◌}
 use Rattle.std.proofs.lemmas.List.{drop_more}
 use Rattle.rowan_predictive.specs.Parsing.{kinds_of}
 use Rattle.rowan_predictive.proofs.TokenLemmas.{kinds-more, kinds-end}
-use Rattle.rowan_predictive.proofs.places.kinds_of.Goals as goal
+use Rattle.rowan_predictive.proofs.kinds.kinds_of.Goals as goal
 
 pub loop-token-init : goal.loop-token-init
 loop-token-init c = ap (λ ks. ks ++ kinds_of c.args.trivia c.args.tokens.now) c.in_ok-kinds.ensures.items

@@ -1,52 +1,52 @@
-//! The tokens of a text that are no trivia: their kinds, and where they stand.
-ghost use Rattle.std.specs.Prelude.{◌≡◌, ◌+◌, ◌≤◌, ◌++◌, ◌∷◌, [], cond, length, IfOk, IfErr, OnOk};
+//! What stands where in a text: the errors of a lexer, and the tokens that are no trivia.
+ghost use Rattle.std.specs.Prelude.{◌≡◌, ◌+◌, ◌≤◌, ◌++◌, ◌∷◌, [], length, map, cond, All};
+ghost use Rattle.std.specs.Prelude.{IfOk, IfErr, OnOk};
 ghost use Rattle.rowan_green.specs.Fits.{byte_limit};
-ghost use Rattle.rowan_parser.specs.Events.{is_trivia};
 ghost use Rattle.rowan_parser.specs.Parsing.{ranges_from, empty_at, end_behind, nth_range};
-ghost use Rattle.rowan_parser.specs.Tokens.{tokens_text};
-ghost use Rattle.rowan_predictive.specs.Parsing.{kinds_of};
+ghost use Rattle.rowan_parser.specs.Parsing.{error_value, lexer_error};
+ghost use Rattle.rowan_parser.specs.Tokens.{tokens_text, lies_within};
 
+use crate::lexer::{LexError, Token};
+use crate::parsed::SyntaxError;
+use crate::tree::{Trivia, is_trivia};
 use rowan::{Fault, TextRange, TextSize};
-use rowan_parser::{Token, Trivia};
 use std::alloc::Global;
 
-fn is_trivia(trivia: Trivia<'_>, token: &Token<'_>) -> bool
-    ensures { result ≡ is_trivia trivia.entry token.now }
-{
-    trivia.kinds.contains(token.kind)
-}
-
-/// The kinds of the tokens that are no trivia.
-pub(crate) fn kinds_of(
-    alloc: Global,
-    tokens: &[Token<'_>],
-    trivia: Trivia<'_>,
-) -> Result<Vec<u16>, Fault>
-    ensures kinds { IfOk result (λ kinds. kinds.items ≡ kinds_of trivia.entry tokens.now) }
+/// What a lexer complained of, as errors of a parse, in the same order.
+///
+/// Errors: `Memory` if an allocation failed.
+pub fn lexer_errors(alloc: Global, complained: &[LexError]) -> Result<Vec<SyntaxError>, Fault>
+    requires { All (lies_within byte_limit) complained.now }
+    ensures told { IfOk result (λ errors.
+        map error_value errors.items ≡ map lexer_error complained.now) }
     ensures err { IfErr result (λ e. e ≡ Fault.Memory) }
 {
-    let mut kinds = Vec::with_capacity(alloc, tokens.len())?;
-    for token in tokens {
-        push_kind(&mut kinds, token.kind.0, is_trivia(trivia, token))?;
+    let mut errors = Vec::new(alloc);
+    for error in complained {
+        errors.push(told_error(alloc, error)?)?;
     }
-    Ok(kinds)
+    Ok(errors)
 }
 
-/// Puts the kind of a token behind the others, unless the token is trivia.
-#[inline(always)]
-fn push_kind(kinds: &mut Vec<u16>, kind: u16, is_trivia: bool) -> Result<(), Fault>
-    ensures kinds { OnOk result (kinds.new.items
-        ≡ kinds.old.items ++ cond is_trivia [] (kind ∷ [])) }
+fn told_error(alloc: Global, error: &LexError) -> Result<SyntaxError, Fault>
+    requires { lies_within byte_limit error.now }
+    ensures ok { IfOk result (λ e. error_value e ≡ lexer_error error.now) }
     ensures err { IfErr result (λ e. e ≡ Fault.Memory) }
 {
-    if !is_trivia {
-        kinds.push(kind)?;
-    }
-    Ok(())
+    let message = String::from_str(alloc, error.message)?;
+    let start = TextSize::from(error.range.start as u32);
+    let end = TextSize::from(error.range.end as u32);
+    Ok(SyntaxError {
+        message,
+        range: TextRange::new(start, end),
+    })
 }
 
-/// Where the tokens stand that are no trivia.
-pub(crate) fn ranges_of(
+/// The ranges of the tokens that are no trivia. The first token starts at 0, and each other one
+/// where the one before it ends.
+///
+/// Errors: `Memory` if an allocation failed.
+pub fn token_ranges(
     alloc: Global,
     tokens: &[Token<'_>],
     trivia: Trivia<'_>,
@@ -80,7 +80,7 @@ fn push_range(ranges: &mut Vec<TextRange>, range: TextRange, is_trivia: bool) ->
 }
 
 /// One of the ranges, or the empty one behind the last where there are fewer.
-pub(crate) fn nth_range(ranges: &[TextRange], n: usize) -> TextRange
+pub fn nth_range(ranges: &[TextRange], n: usize) -> TextRange
     ensures { result ≡ nth_range ranges.now n }
 {
     match ranges.get(n) {
@@ -89,14 +89,14 @@ pub(crate) fn nth_range(ranges: &[TextRange], n: usize) -> TextRange
     }
 }
 
-fn empty_at(offset: TextSize) -> TextRange
+pub(crate) fn empty_at(offset: TextSize) -> TextRange
     ensures { result ≡ empty_at offset }
 {
     TextRange::new(offset, offset)
 }
 
 /// Where the first so many ranges end, or all of them where they are fewer.
-fn end_behind(ranges: &[TextRange], n: usize) -> TextSize
+pub(crate) fn end_behind(ranges: &[TextRange], n: usize) -> TextSize
     ensures { result ≡ end_behind ranges.now n }
 {
     match n.min(ranges.len()).checked_sub(1) {

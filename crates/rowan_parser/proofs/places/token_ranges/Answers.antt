@@ -1,7 +1,7 @@
 use Rattle.std.proofs.Common.{refl, ap₂, ◌∙◌, arith}
 use Rattle.std.proofs.lemmas.List.{drop_more}
 use Rattle.rowan_parser.proofs.Ranges.{span, ranges_more, ranges_end, left_more}
-use Rattle.rowan_parser.proofs.parsing.ranges_of.Goals as goal
+use Rattle.rowan_parser.proofs.places.token_ranges.Goals as goal
 
 pub loop-token-preserved : goal.loop-token-preserved
 loop-token-preserved c =

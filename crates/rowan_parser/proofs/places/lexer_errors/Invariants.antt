@@ -1,6 +1,6 @@
 use Rattle.std.proofs.Common.{◌≡◌, ◌++◌, map, drop}
 use Rattle.rowan_parser.specs.Parsing.{error_value, lexer_error}
-use Rattle.rowan_predictive.proofs.parsing.errors_of.Given as goal
+use Rattle.rowan_parser.proofs.places.lexer_errors.Given as goal
 
 abbrev pub invariant-loop-error : goal.invariant-loop-error
 invariant-loop-error l =
