@@ -1,4 +1,5 @@
-//! Wrappers of nodes of one kind: aliases of a type of the library, and calls of them in a trait.
+//! Wrappers of nodes of one kind: aliases of a type of the library with their calls in a trait, and
+//! a newtype over one, which has methods.
 ghost use Rattle.std.specs.Prelude.{◌≡◌, IfOk, IfErr};
 ghost use Rattle.std.specs.List.{find};
 ghost use Rattle.std.specs.Option.{option_map};
@@ -8,8 +9,8 @@ ghost use Rattle.rowan.specs.Moves.{children};
 ghost use Rattle.rowan.specs.NodeIn.{place_in};
 ghost use Rattle.rowan_examples.specs.Kinds.{casts_list, kind_of};
 
-use crate::kinds::Lists;
-use rowan::ast::{AstNode, AstNodeRef, NodeOf, NodeOfRef, support};
+use crate::kinds::{Kind, Lists};
+use rowan::ast::{AstChildren, AstNode, AstNodeRef, NodeOf, NodeOfRef, support};
 use rowan::{Fault, SyntaxNode};
 
 /// A list: a node of raw kind 0.
@@ -57,4 +58,56 @@ pub fn are_equal(list: &List, other: &List) -> bool
     ensures { result ≡ same_place list.now other.now }
 {
     list == other
+}
+
+/// A list with methods of its own, which an alias can't have: a wrapper of the alias.
+#[derive(Clone, PartialEq, Eq, Hash, Debug, Drop)]
+pub struct Items(List);
+
+impl AstNode for Items {
+    type Language = Lists;
+
+    ghost use Rattle.std.specs.Prelude.{◌≡◌};
+    ghost use Rattle.std.specs.Option.{option_map};
+    ghost use Rattle.rowan.specs.Ast.{casts_at, if_casts};
+    ghost use Rattle.rowan_examples.specs.Items.{node_in};
+    ghost use Rattle.rowan_examples.specs.Kinds.{casts_list, kind_of, one_kind};
+    ghost use Rattle.std.proofs.Common.{ap};
+
+    ghost casts = { casts_list };
+
+    ghost node_of = { node_in };
+
+    fn can_cast(kind: Kind) -> bool {
+        List::can_cast(kind)
+    }
+
+    fn cast(node: SyntaxNode<Lists>) -> Option<Items>
+        ensures { let casting = casts_at kind_of casts_list in
+            option_map node_in result ≡ if_casts casting node }
+    {
+        match List::cast(node) {
+            Some(list) => Some(Items(list)),
+            None => None,
+        }
+    }
+
+    fn syntax(&self) -> &SyntaxNode<Lists> {
+        self.0.syntax()
+    }
+
+    ghost equal_kinds = { λ a b same. ap casts_list (one_kind a b same) };
+}
+
+impl Items {
+    ghost use Rattle.std.specs.Prelude.{◌≡◌, IfOk};
+    ghost use Rattle.rowan.specs.Moves.{children};
+    ghost use Rattle.rowan_examples.specs.Items.{node_in};
+
+    /// The lists in the list.
+    pub fn items(&self) -> AstChildren<Items>
+        ensures { IfOk result (λ nodes. nodes ≡ children (node_in self.now)) }
+    {
+        support::children(self.syntax())
+    }
 }
