@@ -1,6 +1,7 @@
 pub mod Alone
 pub mod Amid
 pub mod AmidNodes
+pub mod AmidTrees
 pub mod Anchors
 pub mod Arranged
 pub mod Below

@@ -1,5 +1,6 @@
 pub mod Alone
 pub mod Amid
+pub mod AmidTrees
 pub mod Arranging
 pub mod ArrangingView
 pub mod Binary

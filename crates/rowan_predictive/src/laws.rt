@@ -8,9 +8,11 @@ ghost use Rattle.rowan_predictive.specs.declared.rules.Complaint.{Complaint};
 ghost use Rattle.rowan_predictive.specs.declared.rules.Entry.{Entry};
 ghost use Rattle.rowan_predictive.specs.declared.rules.Item.{Item};
 ghost use Rattle.rowan_predictive.specs.declared.rules.Rule.{Rule};
+ghost use Rattle.rowan_predictive.specs.declared.rules.Rule.TheVariants.{Node};
 ghost use Rattle.rowan_predictive.specs.Alone.{AreAlike, in_whole};
 ghost use Rattle.rowan_predictive.specs.Amid.{IsAmid, OpensNode};
-ghost use Rattle.rowan_predictive.specs.Derivations.{Parses};
+ghost use Rattle.rowan_predictive.specs.AmidTrees.{HasNodeOver};
+ghost use Rattle.rowan_predictive.specs.Derivations.{HasRule, Parses};
 ghost use Rattle.rowan_predictive.specs.Machine.{State, is_told, steps_of};
 ghost use Rattle.rowan_predictive.specs.Trees.{MakesForest, HasForest, HasActions};
 ghost use Rattle.rowan_predictive.specs.View.{entries_in, rules_in};
@@ -39,6 +41,16 @@ pub fn a_part_is_replaced()
         → IsRun (entries_in grammar) rule kinds actions []
         → IsRun (entries_in grammar) start (before ++ (kinds ++ behind)) done complaints
         → (complaints ≡ []) × (done ≡ opening ++ (actions ++ closing)) }
+{}
+
+/// The same of trees, where the part is a node: each forest that the node's rule derives may stand
+/// below it in a forest of the whole, and what stands around the node is the same for all of them.
+pub fn a_node_is_replaced()
+    ensures { (rules : List Rule) (start rule kind content : ℕ) (before behind : List ℕ)
+        (opening closing : List Action)
+        → IsAmid rules rule start before behind opening closing
+        → HasRule rules rule (Node kind content)
+        → HasNodeOver rules start kind content before behind }
 {}
 
 /// Each node of a derivation is derived by a rule for such nodes, which stands amid the rest of the
