@@ -1,7 +1,6 @@
 pub mod Alone
 pub mod Amid
 pub mod AmidNodes
-pub mod AmidTrees
 pub mod Anchors
 pub mod Arranged
 pub mod Below
@@ -17,5 +16,6 @@ pub mod Sound
 pub mod States
 pub mod Steps
 pub mod TokenLemmas
+pub mod TreeNodes
 pub mod Trees
 pub mod Whole

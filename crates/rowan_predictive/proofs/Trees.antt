@@ -330,11 +330,6 @@ module _ (rules : List Rule) (error : ℕ) where
       both-made c i a i ts us es fs (made c a ts es p) (made c i us fs q) (λ f g h m n. make.more is m n)
   made c i _ _ (parse.stop a is) = none-made c i (λ f. make.stop a is)
 
--- behind each forest a derivation makes one
-pub makes-some : (rules : List Rule) (c : Bool) (i : ℕ) (ts : List ℕ) (es : List Action) → Parses rules i ts es → (f : Forest)
-    → (g : Forest) × Makes rules c i f ts g
-makes-some rules c i ts es p f = let w = (made rules 0 c i ts es p).makes f in (w.0, w.1)
-
 -- where no chain is open, all is arranged
 arranged-by : (error : ℕ) (es : List Action) (kinds : List ℕ) (behind : List Event) → IsEffect error false es kinds behind
     → arranged error es ≡ behind

@@ -1,6 +1,5 @@
 pub mod Alone
 pub mod Amid
-pub mod AmidTrees
 pub mod Arranging
 pub mod ArrangingView
 pub mod Binary
@@ -15,6 +14,7 @@ pub mod Parsing
 pub mod Predictive
 pub mod Props
 pub mod Sets
+pub mod TreeNodes
 pub mod Trees
 pub mod View
 pub mod Whole

@@ -1,6 +1,6 @@
-use Rattle.rowan_predictive.proofs.AmidTrees.{has-node-over}
+use Rattle.rowan_predictive.proofs.TreeNodes.{replaceable}
 use Rattle.rowan_predictive.proofs.laws.a_node_is_replaced.Goals as goal
 
 pub returns : goal.returns
-returns c = λ rules start rule kind content before behind opening closing amid is.
-    has-node-over rules rule kind content is start before behind opening closing amid
+returns c = λ rules start kind kinds tree below ahead after unwrapped makes is.
+    replaceable rules kind below unwrapped start kinds tree ahead after makes is
