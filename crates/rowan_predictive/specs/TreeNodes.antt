@@ -1,7 +1,12 @@
 -- A node of a tree that derives, and what else may stand below it.
 use Rattle.std.specs.Prelude.{◌≡◌, ℕ, List, [], ◌∷◌, ◌++◌}
+use Rattle.rowan_green.specs.Word.{Symbol}
+use Rattle.rowan_green.specs.Word as green
+use Rattle.rowan_parser.specs.Events.{spelled_by}
 use Rattle.rowan_parser.specs.Shape.{Forest, token_then, joined_then, node_then, word}
 use Rattle.rowan_parser.specs.Shape.{Step, Enter, Take, TakeAs, Exit}
+use Rattle.rowan_parser.specs.declared.lexer.Token.{Token}
+use Rattle.rowan_parser.specs.declared.tree.Trivia.{Trivia}
 use Rattle.rowan_predictive.specs.declared.rules.Rule.{Rule}
 use Rattle.rowan_predictive.specs.declared.rules.Rule.TheVariants.{Node}
 use Rattle.rowan_predictive.specs.Derivations.{HasRule}
@@ -44,3 +49,8 @@ pub record IsReplaceable (rules : List Rule) (i kind : ℕ) (tokens : List ℕ) 
   pub holds : (others : List ℕ) (g : Forest) → MakesForest rules content others g
       → MakesWord rules i (before ++ (others ++ behind))
       (ahead ++ Enter kind ∷ (word g ++ Exit ∷ after))
+
+-- the word of a root of this kind around what these steps make of tokens
+abbrev pub word_by : ℕ → Trivia → List Token → List Step → List Symbol
+word_by root trivia tokens steps =
+    green.Open root ∷ (spelled_by trivia 0 steps tokens ++ green.Close ∷ [])

@@ -1,6 +1,11 @@
 //! Laws of grammars, each as the contract of a function that does nothing.
 ghost use Rattle.std.specs.Prelude.{◌≡◌, ◌++◌, ◌∷◌, [], false, ℕ, List};
-ghost use Rattle.rowan_parser.specs.Shape.{Forest, Step};
+ghost use Rattle.rowan_green.specs.Term.{NodeTerm};
+ghost use Rattle.rowan_green.specs.Word.{node_word};
+ghost use Rattle.rowan_green.specs.declared.green.SyntaxKind.{SyntaxKind};
+ghost use Rattle.rowan_parser.specs.Shape.{Forest, Step, Enter, Exit, word};
+ghost use Rattle.rowan_parser.specs.declared.parsed.SyntaxError.{SyntaxError};
+ghost use Rattle.rowan_parser.specs.declared.token_set.TokenSet.{TokenSet};
 ghost use Rattle.rowan_predictive.specs.declared.grammars.Grammar.{Grammar};
 ghost use Rattle.rowan_predictive.specs.declared.rules.Action.{Action};
 ghost use Rattle.rowan_predictive.specs.declared.rules.Action.TheVariants.{Open};
@@ -13,7 +18,8 @@ ghost use Rattle.rowan_predictive.specs.Alone.{AreAlike, in_whole};
 ghost use Rattle.rowan_predictive.specs.Amid.{IsAmid, OpensNode};
 ghost use Rattle.rowan_predictive.specs.Derivations.{HasRule, Parses};
 ghost use Rattle.rowan_predictive.specs.Machine.{State, is_told, steps_of};
-ghost use Rattle.rowan_predictive.specs.TreeNodes.{IsNodeIn, IsReplaceable};
+ghost use Rattle.rowan_predictive.specs.Parsing.{HasTree, kinds_of};
+ghost use Rattle.rowan_predictive.specs.TreeNodes.{IsNodeIn, IsReplaceable, word_by};
 ghost use Rattle.rowan_predictive.specs.Trees.{MakesForest, HasForest, HasActions};
 ghost use Rattle.rowan_predictive.specs.View.{entries_in, rules_in};
 ghost use Rattle.rowan_predictive.specs.Whole.{IsRun};
@@ -53,13 +59,25 @@ pub fn nodes_stand_amid_the_rest()
 
 /// Each node of a tree that derives was derived by a rule for such nodes, unless a `Wrap` has its
 /// kind. Whatever else that rule derives may stand below the node: its tokens then stand in place of
-/// the old ones, and what stands around the node stays as it is.
+/// the old ones, and what stands around the node stays as it is. So a parse of a text with the new
+/// tokens has no errors, and this tree.
 pub fn a_node_is_replaced()
-    ensures { (rules : List Rule) (start kind : ℕ) (kinds : List ℕ) (tree below : Forest)
+    ensures node { (rules : List Rule) (start kind : ℕ) (kinds : List ℕ) (tree below : Forest)
         (ahead after : List Step)
         → ((i a : ℕ) → HasRule rules i (Wrap kind a) → ⊥)
         → MakesForest rules start kinds tree → IsNodeIn kind below ahead after tree
         → IsReplaceable rules start kind kinds below ahead after }
+    ensures parsed { (rules : List Rule) (start kind : ℕ) (kinds : List ℕ) (below : Forest)
+        (ahead after : List Step) (old : IsReplaceable rules start kind kinds below ahead after)
+        (trivia : TokenSet) (attached : List (SyntaxKind × TokenSet)) (root : ℕ) (text : List ℕ)
+        (errors : List SyntaxError) (tree : NodeTerm)
+        (new : HasTree rules trivia attached root start text errors tree)
+        (others : List ℕ) (f : Forest)
+        → new.complained ≡ []
+        → kinds_of new.trivia new.tokens ≡ old.before ++ (others ++ old.behind)
+        → MakesForest rules old.content others f
+        → (errors ≡ []) × (node_word tree ≡ word_by root new.trivia new.tokens
+        (ahead ++ Enter kind ∷ (word f ++ Exit ∷ after))) }
 {}
 
 /// What a machine does over the tokens of a part alone, it does over those of the whole in which the
