@@ -16,5 +16,6 @@ pub mod Sound
 pub mod States
 pub mod Steps
 pub mod TokenLemmas
+pub mod TreeNodes
 pub mod Trees
 pub mod Whole

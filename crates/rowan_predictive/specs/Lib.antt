@@ -14,6 +14,7 @@ pub mod Parsing
 pub mod Predictive
 pub mod Props
 pub mod Sets
+pub mod TreeNodes
 pub mod Trees
 pub mod View
 pub mod Whole

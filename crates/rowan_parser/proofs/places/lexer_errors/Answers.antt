@@ -1,6 +1,5 @@
-use Rattle.std.proofs.Common.{ap, ◌++◌, map, drop, arith}
+use Rattle.std.proofs.Common.{arith}
 use Rattle.std.proofs.lemmas.List.{drop_more}
-use Rattle.rowan_parser.specs.Parsing.{error_value, lexer_error}
 use Rattle.rowan_parser.proofs.Ranges.{lexer_more, lexer_end}
 use Rattle.rowan_parser.proofs.places.lexer_errors.Goals as goal
 
