@@ -48,13 +48,13 @@ fn name_of<'tree>(member: MemberRef<'tree>) -> &'tree str {
 }
 
 fn member_of<'tree>(root: Node<'tree>, name: &str) -> Result<MemberRef<'tree>, EditError> {
-    let mut members = root.descendants().filter_map(MemberRef::cast);
+    let mut members = root.descendants().filter_map(|node| MemberRef::cast(node));
     let found = members.find(|member| name_of(*member) == name);
     found.ok_or(EditError::Refused(Refusal::NotFound))
 }
 
 fn rename(editor: &mut Editor, root: Node<'_>, old: &str, new: &str) -> Result<(), EditError> {
-    let members = root.descendants().filter_map(MemberRef::cast);
+    let members = root.descendants().filter_map(|node| MemberRef::cast(node));
     let names = members.filter_map(|member| member.name());
     let mut found = names.filter(|name| name.text() == old);
     found.try_for_each(|name| editor.set_text(name, new))
@@ -85,7 +85,7 @@ fn delete(editor: &mut Editor, root: Node<'_>, name: &str) -> Result<(), EditErr
 
 /// Puts each number into an array of its own.
 fn wrap(editor: &mut Editor, root: Node<'_>) -> Result<(), EditError> {
-    let literals = root.descendants().filter_map(LiteralRef::cast);
+    let literals = root.descendants().filter_map(|node| LiteralRef::cast(node));
     let mut numbers = literals.filter(|literal| literal.number_token().is_some());
     numbers.try_for_each(|literal| {
         let number = literal.syntax();
@@ -96,7 +96,7 @@ fn wrap(editor: &mut Editor, root: Node<'_>) -> Result<(), EditError> {
 
 /// Sorts the members of each object by their names. What stands between them stays there.
 fn sort(editor: &mut Editor, root: Node<'_>) -> Result<(), EditError> {
-    for object in root.descendants().filter_map(ObjectRef::cast) {
+    for object in root.descendants().filter_map(|node| ObjectRef::cast(node)) {
         let members = object.members();
         let mut sorted = members.sorted_by_key(editor.allocator(), |member| name_of(*member))?;
         let object = object.syntax();

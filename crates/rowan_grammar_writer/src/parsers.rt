@@ -103,16 +103,18 @@ $head
 
 /// The text of `src/parser.rt`; nothing where no parser is asked for.
 pub fn parser_code(scope: &Scope<'_>) -> Result<Option<String>, AllocError> {
-    let (Some(rules), Some(lexer)) = (scope.rules, &scope.grammar.parsing.lexer) else {
+    let Some(rules) = scope.rules else {
         return Ok(None);
     };
+    if scope.grammar.parsing.lexer.is_none() {
+        return Ok(None);
+    }
     let mut out = String::new(scope.alloc);
     let trivia = trivia_of(scope)?;
     add_head(&mut out, scope, !trivia.is_empty())?;
     add_rules(&mut out, scope, rules)?;
     add_words(&mut out, scope)?;
-    let lexer = lexer.path.as_str();
-    add_parser(&mut out, scope, rules.start, lexer, trivia.as_str())?;
+    add_parser(&mut out, scope, rules.start, trivia)?;
     Ok(Some(out))
 }
 
@@ -138,9 +140,11 @@ fn add_parser(
     out: &mut String,
     scope: &Scope<'_>,
     start: usize,
-    lexer: &str,
-    trivia: &str,
+    trivia: String,
 ) -> Result<(), AllocError> {
+    let Some(lexer) = &scope.grammar.parsing.lexer else {
+        return Ok(());
+    };
     let alloc = scope.alloc;
     let root = format!(in alloc; "{}", number_of(scope, scope.root))?;
     let error = format!(in alloc; "{}", number_of(scope, scope.error))?;
@@ -156,11 +160,11 @@ fn add_parser(
         "start",
         start.as_str(),
         "lexer",
-        lexer,
+        lexer.path.as_str(),
         "node",
         scope.root,
         "trivia",
-        trivia,
+        trivia.as_str(),
         "head",
         making.as_str(),
     ];

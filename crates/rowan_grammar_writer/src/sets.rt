@@ -157,16 +157,22 @@ fn add_words(out: &mut String, scope: &Scope<'_>) -> Result<(), AllocError> {
     out.push_str(words.finish()?)
 }
 
-/// Adds the lemma of one set.
+/// Adds the lemma of one set: a line for each kind.
 fn add_lemma(out: &mut String, scope: &Scope<'_>, set: usize) -> Result<(), AllocError> {
-    let name = constant(scope, set)?;
+    add_lemma_head(out, scope, set)?;
     let snake = scope.grammar.snake(set);
-    let head = "\npub $snake_has : (k : Kind) → has $constant.0 (number_of k) ≡ is_in_$snake k\n";
-    fill(out, head, &["snake", snake, "constant", name.as_str()])?;
     for kind in scope.kinds.iter() {
         let kind = scope.grammar.name(*kind);
-        let line = "$snake_has Kind.$kind = refl\n";
-        fill(out, line, &["snake", snake, "kind", kind])?;
+        writeln!(out, "{snake}_has Kind.{kind} = refl")?;
     }
     Ok(())
+}
+
+fn add_lemma_head(out: &mut String, scope: &Scope<'_>, set: usize) -> Result<(), AllocError> {
+    let name = constant(scope, set)?;
+    let snake = scope.grammar.snake(set);
+    writeln!(
+        out,
+        "\npub {snake}_has : (k : Kind) → has {name}.0 (number_of k) ≡ is_in_{snake} k"
+    )
 }
