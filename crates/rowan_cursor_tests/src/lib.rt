@@ -1,4 +1,5 @@
-//! Tests of the cursors over green trees: what the worked cases of `rowan_cases` cannot say.
+//! Tests of green trees and of the cursors over them: what the worked cases of `rowan_cases` cannot
+//! say.
 #![tactic(auto)]
 
 #[cfg(test)]
@@ -13,6 +14,8 @@ mod elements;
 mod example;
 #[cfg(test)]
 mod fixture;
+#[cfg(test)]
+mod green;
 #[cfg(test)]
 mod limits;
 #[cfg(test)]

@@ -1,5 +1,5 @@
-//! Tests of the typed layer, of pointers and wrappers, of the s-expressions and of the program that
-//! prints their trees.
+//! Tests of the typed layer, of pointers, wrappers and scripts, of the s-expressions and of the
+//! program that prints their trees.
 #![tactic(auto)]
 
 #[cfg(test)]
@@ -18,6 +18,7 @@ mod parser;
 mod parts;
 #[cfg(test)]
 mod program;
+pub mod scripts;
 #[cfg(test)]
 mod streams;
 #[cfg(test)]

@@ -62,11 +62,6 @@ fn is_node(typed: Option<Node>, raw: Option<cursor::SyntaxNode>) -> bool {
     typed.map(cursor::SyntaxNode::from) == raw
 }
 
-/// Whether a typed token is the raw one.
-fn is_token(typed: Option<Token>, raw: Option<cursor::SyntaxToken>) -> bool {
-    typed.map(cursor::SyntaxToken::from) == raw
-}
-
 /// Whether a typed element is the raw one.
 fn is_element(typed: Option<Element>, raw: Option<cursor::SyntaxElement>) -> bool {
     typed.map(Element::into_raw) == raw

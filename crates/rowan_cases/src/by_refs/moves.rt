@@ -2,9 +2,10 @@
 
 use super::written;
 use crate::tree;
-use rowan::cursor::{ElementRefCalls, SyntaxElementRef, SyntaxNodeRef, SyntaxTokenRef};
+use rowan::cursor::{SyntaxElementRef, SyntaxNodeRef, SyntaxTokenRef};
 use rowan::script::Step;
 use rowan::{Fault, GreenNode, NodeOrToken, TextRange, TextSize, TokenAtOffset};
+use rowan_moves::{Move, raw_refs};
 use std::alloc::{AllocError, Global};
 
 /// Makes a step of a script.
@@ -34,47 +35,42 @@ fn replaced(alloc: Global, made: Result<GreenNode, Fault>) -> Result<String, Fau
 
 /// Where a step leads, if anywhere.
 fn target<'t>(from: SyntaxElementRef<'t>, step: &Step) -> Option<SyntaxElementRef<'t>> {
-    match step {
-        Step::Parent => node(from.parent()),
-        Step::TreeTop => Some(NodeOrToken::Node(from.tree_top())),
-        Step::NextSiblingOrToken => from.next_sibling_or_token(),
-        Step::PrevSiblingOrToken => from.prev_sibling_or_token(),
-        Step::FirstToken => token(from.first_token()),
-        Step::LastToken => token(from.last_token()),
-        _ => match from {
-            NodeOrToken::Node(from) => from_node(from, step),
-            NodeOrToken::Token(from) => from_token(from, step),
-        },
+    match move_of(step) {
+        Some(way) => raw_refs::target_of_element(way, from),
+        None => found(from.into_node()?, step),
     }
 }
 
-fn from_node<'t>(from: SyntaxNodeRef<'t>, step: &Step) -> Option<SyntaxElementRef<'t>> {
+/// The move that a step is.
+fn move_of(step: &Step) -> Option<Move> {
+    Some(match step {
+        Step::Parent => Move::Parent,
+        Step::TreeTop => Move::TreeTop,
+        Step::FirstChild => Move::FirstChild,
+        Step::LastChild => Move::LastChild,
+        Step::FirstChildOrToken => Move::FirstChildOrToken,
+        Step::LastChildOrToken => Move::LastChildOrToken,
+        Step::NextSibling => Move::NextSibling,
+        Step::PrevSibling => Move::PrevSibling,
+        Step::NextSiblingOrToken => Move::NextSiblingOrToken,
+        Step::PrevSiblingOrToken => Move::PrevSiblingOrToken,
+        Step::FirstToken => Move::FirstToken,
+        Step::LastToken => Move::LastToken,
+        Step::NextToken => Move::NextToken,
+        Step::PrevToken => Move::PrevToken,
+        _ => return None,
+    })
+}
+
+/// What a search finds in a node.
+fn found<'t>(from: SyntaxNodeRef<'t>, step: &Step) -> Option<SyntaxElementRef<'t>> {
     match step {
-        Step::FirstChild => node(from.first_child()),
-        Step::LastChild => node(from.last_child()),
-        Step::FirstChildOrToken => from.first_child_or_token(),
-        Step::LastChildOrToken => from.last_child_or_token(),
-        Step::NextSibling => node(from.next_sibling()),
-        Step::PrevSibling => node(from.prev_sibling()),
         Step::ChildAtRange(range) => from.child_or_token_at_range(*range),
         Step::Covering(range) => covering(from, *range),
         Step::LeftTokenAt(offset) => token(tokens_at(from, *offset)?.left_biased()),
         Step::RightTokenAt(offset) => token(tokens_at(from, *offset)?.right_biased()),
         _ => None,
     }
-}
-
-fn from_token<'t>(from: SyntaxTokenRef<'t>, step: &Step) -> Option<SyntaxElementRef<'t>> {
-    match step {
-        Step::NextToken => token(from.next_token()),
-        Step::PrevToken => token(from.prev_token()),
-        _ => None,
-    }
-}
-
-/// A node that was found, as an element.
-fn node<'t>(found: Option<SyntaxNodeRef<'t>>) -> Option<SyntaxElementRef<'t>> {
-    Some(NodeOrToken::Node(found?))
 }
 
 /// A token that was found, as an element.

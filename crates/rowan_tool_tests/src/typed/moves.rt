@@ -1,78 +1,78 @@
 //! Moves and searches.
-use super::{Answers, Element, Node, Token, elements, is_element, is_node, is_token, nodes};
-use rowan::{ElementCalls, Fault, NodeOrToken, TextRange, TypedElementCalls, cursor};
+use super::{Answers, Element, Node, elements, is_element, nodes};
+use rowan::{Fault, NodeOrToken, TextRange, TypedElementCalls, cursor};
+use rowan_moves::{MOVES, Move, raw, typed};
 use std::test::Fail;
 
-/// A way from a node to a node.
-#[derive(Clone, Copy)]
-enum ToNode {
-    FirstChild,
-    LastChild,
-    Next,
-    Prev,
-}
-
-const TO_NODE: [ToNode; 4] = [
-    ToNode::FirstChild,
-    ToNode::LastChild,
-    ToNode::Next,
-    ToNode::Prev,
+/// The moves that elements have.
+const OF_ELEMENTS: [Move; 4] = [
+    Move::TreeTop,
+    Move::Parent,
+    Move::NextSiblingOrToken,
+    Move::PrevSiblingOrToken,
 ];
 
-fn typed_node(from: &Node, way: ToNode) -> Result<Option<Node>, Fault> {
-    match way {
-        ToNode::FirstChild => from.first_child(),
-        ToNode::LastChild => from.last_child(),
-        ToNode::Next => from.next_sibling(),
-        ToNode::Prev => from.prev_sibling(),
-    }
+/// Compares where a move leads, and says whether it leads anywhere.
+fn add_move(answers: &mut Answers, way: Move, from: &cursor::SyntaxElement) -> Result<bool, Fault> {
+    let typed = Element::from_raw(from.clone()?);
+    let target = typed::target(way, &typed)?;
+    let leads = target.is_some();
+    answers.add(is_element(target, raw::target(way, from)?));
+    Ok(leads)
 }
 
-fn raw_node(from: &cursor::SyntaxNode, way: ToNode) -> Result<Option<cursor::SyntaxNode>, Fault> {
-    match way {
-        ToNode::FirstChild => from.first_child(),
-        ToNode::LastChild => from.last_child(),
-        ToNode::Next => from.next_sibling(),
-        ToNode::Prev => from.prev_sibling(),
-    }
-}
-
-fn add_nodes(answers: &mut Answers, raw: &cursor::SyntaxNode) -> Result<(), Fault> {
-    let typed = Node::from(raw.clone()?);
-    for way in TO_NODE {
-        answers.add(is_node(typed_node(&typed, way)?, raw_node(raw, way)?));
+/// Compares where the moves of elements lead.
+fn add_moves_of_element(answers: &mut Answers, from: &cursor::SyntaxElement) -> Result<(), Fault> {
+    let typed = Element::from_raw(from.clone()?);
+    for way in OF_ELEMENTS {
+        let target = typed::target_of_element(way, &typed)?;
+        answers.add(is_element(target, raw::target_of_element(way, from)?));
     }
     Ok(())
 }
 
 #[test]
-fn nodes_lead_to_nodes(rt: HostRuntime) -> Result<(), Fail> {
-    let mut answers = Answers::new();
-    for raw in nodes(rt.alloc())? {
-        add_nodes(&mut answers, &raw)?;
+fn moves_lead_where_the_raw_ones_do(rt: HostRuntime) -> Result<(), Fail> {
+    let elements = elements(rt.alloc())?;
+    for way in MOVES {
+        let mut answers = Answers::new();
+        let mut leads = false;
+        for from in elements.iter() {
+            leads |= add_move(&mut answers, way, from)?;
+        }
+        assert!(rt; leads && answers.are_all_same(10));
     }
-    assert!(rt; answers.are_all_same(5 * 4));
     Ok(())
 }
 
-/// A way from a node to an element; the last three are searches.
+#[test]
+fn moves_of_elements_lead_where_the_raw_ones_do(rt: HostRuntime) -> Result<(), Fail> {
+    let mut answers = Answers::new();
+    for from in elements(rt.alloc())? {
+        add_moves_of_element(&mut answers, &from)?;
+    }
+    assert!(rt; answers.are_all_same(10 * 4));
+    Ok(())
+}
+
+/// A search from a node.
 #[derive(Clone, Copy)]
-enum ToElement {
-    FirstChild,
-    LastChild,
+enum Search {
     Second,
     AtRange,
     AtStart,
     Covering,
+    RightOfStart,
+    LeftOfEnd,
 }
 
-const TO_ELEMENT: [ToElement; 6] = [
-    ToElement::FirstChild,
-    ToElement::LastChild,
-    ToElement::Second,
-    ToElement::AtRange,
-    ToElement::AtStart,
-    ToElement::Covering,
+const SEARCHES: [Search; 6] = [
+    Search::Second,
+    Search::AtRange,
+    Search::AtStart,
+    Search::Covering,
+    Search::RightOfStart,
+    Search::LeftOfEnd,
 ];
 
 /// The empty range where another one starts.
@@ -80,220 +80,59 @@ fn start_of(range: TextRange) -> TextRange {
     TextRange::new(range.start(), range.start())
 }
 
-fn typed_element(from: &Node, way: ToElement) -> Result<Option<Element>, Fault> {
-    match way {
-        ToElement::FirstChild => from.first_child_or_token(),
-        ToElement::LastChild => from.last_child_or_token(),
-        ToElement::Second => from.child_or_token_at_index(1),
-        ToElement::AtRange => from.child_or_token_at_range(from.text_range()),
-        ToElement::AtStart => from.child_or_token_at_range(start_of(from.text_range())),
-        ToElement::Covering => Ok(Some(from.covering_element(from.text_range())?)),
-    }
-}
-
-fn raw_element(
-    from: &cursor::SyntaxNode,
-    way: ToElement,
-) -> Result<Option<cursor::SyntaxElement>, Fault> {
-    match way {
-        ToElement::FirstChild => from.first_child_or_token(),
-        ToElement::LastChild => from.last_child_or_token(),
-        ToElement::Second => from.child_or_token_at_index(1),
-        ToElement::AtRange => from.child_or_token_at_range(from.text_range()),
-        ToElement::AtStart => from.child_or_token_at_range(start_of(from.text_range())),
-        ToElement::Covering => Ok(Some(from.covering_element(from.text_range())?)),
-    }
-}
-
-fn add_elements(answers: &mut Answers, raw: &cursor::SyntaxNode) -> Result<(), Fault> {
-    let typed = Node::from(raw.clone()?);
-    for way in TO_ELEMENT {
-        answers.add(is_element(typed_element(&typed, way)?, raw_element(raw, way)?));
-    }
-    Ok(())
-}
-
-#[test]
-fn nodes_lead_to_elements(rt: HostRuntime) -> Result<(), Fail> {
-    let mut answers = Answers::new();
-    for raw in nodes(rt.alloc())? {
-        add_elements(&mut answers, &raw)?;
-    }
-    assert!(rt; answers.are_all_same(5 * 6));
-    Ok(())
-}
-
-/// A way from a node to a token; the last two are searches.
-#[derive(Clone, Copy)]
-enum ToToken {
-    First,
-    Last,
-    AtStart,
-    AtEnd,
-}
-
-const TO_TOKEN: [ToToken; 4] = [
-    ToToken::First,
-    ToToken::Last,
-    ToToken::AtStart,
-    ToToken::AtEnd,
-];
-
-fn typed_token(from: &Node, way: ToToken) -> Result<Option<Token>, Fault> {
+fn typed_found(from: &Node, search: Search) -> Result<Option<Element>, Fault> {
     let range = from.text_range();
-    match way {
-        ToToken::First => from.first_token(),
-        ToToken::Last => from.last_token(),
-        ToToken::AtStart => Ok(from.token_at_offset(range.start())?.right_biased()),
-        ToToken::AtEnd => Ok(from.token_at_offset(range.end())?.left_biased()),
-    }
-}
-
-fn raw_token(
-    from: &cursor::SyntaxNode,
-    way: ToToken,
-) -> Result<Option<cursor::SyntaxToken>, Fault> {
-    let range = from.text_range();
-    match way {
-        ToToken::First => from.first_token(),
-        ToToken::Last => from.last_token(),
-        ToToken::AtStart => Ok(from.token_at_offset(range.start())?.right_biased()),
-        ToToken::AtEnd => Ok(from.token_at_offset(range.end())?.left_biased()),
-    }
-}
-
-fn add_tokens(answers: &mut Answers, raw: &cursor::SyntaxNode) -> Result<(), Fault> {
-    let typed = Node::from(raw.clone()?);
-    for way in TO_TOKEN {
-        answers.add(is_token(typed_token(&typed, way)?, raw_token(raw, way)?));
-    }
-    Ok(())
-}
-
-#[test]
-fn nodes_lead_to_tokens(rt: HostRuntime) -> Result<(), Fail> {
-    let mut answers = Answers::new();
-    for raw in nodes(rt.alloc())? {
-        add_tokens(&mut answers, &raw)?;
-    }
-    assert!(rt; answers.are_all_same(5 * 4));
-    Ok(())
-}
-
-/// A way from a token to a token.
-#[derive(Clone, Copy)]
-enum Beside {
-    Next,
-    Prev,
-}
-
-const BESIDE: [Beside; 2] = [Beside::Next, Beside::Prev];
-
-fn typed_token_beside(from: &Token, way: Beside) -> Result<Option<Token>, Fault> {
-    match way {
-        Beside::Next => from.next_token(),
-        Beside::Prev => from.prev_token(),
-    }
-}
-
-fn raw_token_beside(
-    from: &cursor::SyntaxToken,
-    way: Beside,
-) -> Result<Option<cursor::SyntaxToken>, Fault> {
-    match way {
-        Beside::Next => from.next_token(),
-        Beside::Prev => from.prev_token(),
-    }
-}
-
-fn add_tokens_beside(answers: &mut Answers, raw: &cursor::SyntaxToken) -> Result<(), Fault> {
-    let typed = Token::from(raw.clone()?);
-    for way in BESIDE {
-        answers.add(is_token(
-            typed_token_beside(&typed, way)?,
-            raw_token_beside(raw, way)?,
-        ));
-    }
-    Ok(())
-}
-
-#[test]
-fn tokens_lead_to_tokens(rt: HostRuntime) -> Result<(), Fail> {
-    let mut answers = Answers::new();
-    for raw in elements(rt.alloc())? {
-        if let NodeOrToken::Token(raw) = raw {
-            add_tokens_beside(&mut answers, &raw)?;
+    match search {
+        Search::Second => from.child_or_token_at_index(1),
+        Search::AtRange => from.child_or_token_at_range(range),
+        Search::AtStart => from.child_or_token_at_range(start_of(range)),
+        Search::Covering => Ok(Some(from.covering_element(range)?)),
+        Search::RightOfStart => {
+            let tokens = from.token_at_offset(range.start())?;
+            Ok(tokens.right_biased().map(NodeOrToken::Token))
+        }
+        Search::LeftOfEnd => {
+            let tokens = from.token_at_offset(range.end())?;
+            Ok(tokens.left_biased().map(NodeOrToken::Token))
         }
     }
-    assert!(rt; answers.are_all_same(5 * 2));
-    Ok(())
 }
 
-// The calls of an element are those of the node or the token that it is.
-
-fn typed_beside(from: &Element, way: Beside) -> Result<Option<Element>, Fault> {
-    match way {
-        Beside::Next => from.next_sibling_or_token(),
-        Beside::Prev => from.prev_sibling_or_token(),
-    }
-}
-
-fn raw_beside(
-    from: &cursor::SyntaxElement,
-    way: Beside,
+fn raw_found(
+    from: &cursor::SyntaxNode,
+    search: Search,
 ) -> Result<Option<cursor::SyntaxElement>, Fault> {
-    match way {
-        Beside::Next => from.next_sibling_or_token(),
-        Beside::Prev => from.prev_sibling_or_token(),
+    let range = from.text_range();
+    match search {
+        Search::Second => from.child_or_token_at_index(1),
+        Search::AtRange => from.child_or_token_at_range(range),
+        Search::AtStart => from.child_or_token_at_range(start_of(range)),
+        Search::Covering => Ok(Some(from.covering_element(range)?)),
+        Search::RightOfStart => {
+            let tokens = from.token_at_offset(range.start())?;
+            Ok(tokens.right_biased().map(NodeOrToken::Token))
+        }
+        Search::LeftOfEnd => {
+            let tokens = from.token_at_offset(range.end())?;
+            Ok(tokens.left_biased().map(NodeOrToken::Token))
+        }
     }
 }
 
-fn add_beside(answers: &mut Answers, raw: &cursor::SyntaxElement) -> Result<(), Fault> {
-    let typed = Element::from_raw(raw.clone()?);
-    for way in BESIDE {
-        answers.add(is_element(typed_beside(&typed, way)?, raw_beside(raw, way)?));
-    }
-    Ok(())
-}
-
-/// A way from an element up to a node.
-#[derive(Clone, Copy)]
-enum Up {
-    Parent,
-    Top,
-}
-
-const UP: [Up; 2] = [Up::Parent, Up::Top];
-
-fn typed_above(from: &Element, way: Up) -> Result<Option<Node>, Fault> {
-    match way {
-        Up::Parent => from.parent(),
-        Up::Top => Ok(Some(from.tree_top()?)),
-    }
-}
-
-fn raw_above(from: &cursor::SyntaxElement, way: Up) -> Result<Option<cursor::SyntaxNode>, Fault> {
-    match way {
-        Up::Parent => from.parent(),
-        Up::Top => Ok(Some(from.tree_top()?)),
-    }
-}
-
-fn add_above(answers: &mut Answers, raw: &cursor::SyntaxElement) -> Result<(), Fault> {
-    let typed = Element::from_raw(raw.clone()?);
-    for way in UP {
-        answers.add(is_node(typed_above(&typed, way)?, raw_above(raw, way)?));
+fn add_searches(answers: &mut Answers, from: &cursor::SyntaxNode) -> Result<(), Fault> {
+    let typed = Node::from(from.clone()?);
+    for search in SEARCHES {
+        answers.add(is_element(typed_found(&typed, search)?, raw_found(from, search)?));
     }
     Ok(())
 }
 
 #[test]
-fn elements_lead_up_and_beside(rt: HostRuntime) -> Result<(), Fail> {
+fn searches_find_what_the_raw_ones_do(rt: HostRuntime) -> Result<(), Fail> {
     let mut answers = Answers::new();
-    for raw in elements(rt.alloc())? {
-        add_beside(&mut answers, &raw)?;
-        add_above(&mut answers, &raw)?;
+    for from in nodes(rt.alloc())? {
+        add_searches(&mut answers, &from)?;
     }
-    assert!(rt; answers.are_all_same(10 * 4));
+    assert!(rt; answers.are_all_same(5 * 6));
     Ok(())
 }

@@ -1,0 +1,4 @@
+//! What `rowan_grammar` wrote of two languages, run on trees.
+
+mod sample;
+mod small;
