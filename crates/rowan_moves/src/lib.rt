@@ -88,7 +88,7 @@ pub mod raw {
     /// Where a move leads by the calls of the node or the token. It leads nowhere from one that has no
     /// such call.
     ///
-    /// Errors: `Memory` if an allocation failed.
+    /// Errors: `Memory` where the count of the tree's owners is full.
     pub fn target(way: Move, from: &SyntaxElement) -> Result<Option<SyntaxElement>, Fault> {
         match from {
             NodeOrToken::Node(node) => at_node(way, node),
@@ -128,7 +128,7 @@ pub mod raw {
 
     /// Where a move leads by the calls of elements. It leads nowhere where elements have no such call.
     ///
-    /// Errors: `Memory` if an allocation failed.
+    /// Errors: `Memory` where the count of the tree's owners is full.
     pub fn target_of_element(
         way: Move,
         from: &SyntaxElement,
@@ -211,7 +211,7 @@ pub mod typed {
     /// Where a move leads by the calls of the node or the token. It leads nowhere from one that has no
     /// such call.
     ///
-    /// Errors: `Memory` if an allocation failed.
+    /// Errors: `Memory` where the count of the tree's owners is full.
     pub fn target<L: Language>(
         way: Move,
         from: &SyntaxElement<L>,
@@ -260,7 +260,7 @@ pub mod typed {
 
     /// Where a move leads by the calls of elements. It leads nowhere where elements have no such call.
     ///
-    /// Errors: `Memory` if an allocation failed.
+    /// Errors: `Memory` where the count of the tree's owners is full.
     pub fn target_of_element<L: Language>(
         way: Move,
         from: &SyntaxElement<L>,
