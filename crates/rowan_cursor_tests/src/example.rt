@@ -1,6 +1,6 @@
 //! The example of README.md.
-use rowan::cursor::{ElementCalls, SyntaxNode};
-use rowan::{Fault, GreenNode, GreenNodeBuilder, SyntaxKind, TextRange, TextSize};
+use rowan_cursor::cursor::{ElementCalls, SyntaxNode};
+use rowan_green::{Fault, GreenNode, GreenNodeBuilder, SyntaxKind, TextRange, TextSize};
 use std::alloc::Global;
 use std::test::Fail;
 

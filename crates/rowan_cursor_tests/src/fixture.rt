@@ -1,8 +1,8 @@
 //! Trees for the tests, and what cursors show of themselves.
-use rowan::builder::CacheHome;
-use rowan::cursor::{ElementCalls, SyntaxElement, SyntaxNode, SyntaxToken};
-use rowan::text::TextRange;
-use rowan::{Fault, GreenNode, GreenNodeBuilder, SyntaxKind};
+use rowan_cursor::cursor::{ElementCalls, SyntaxElement, SyntaxNode, SyntaxToken};
+use rowan_green::builder::CacheHome;
+use rowan_green::text::TextRange;
+use rowan_green::{Fault, GreenNode, GreenNodeBuilder, NodeOrToken, SyntaxKind};
 use std::alloc::Global;
 
 pub const ROOT: u16 = 0;
@@ -125,5 +125,15 @@ pub fn element(found: Result<Option<SyntaxElement>, Fault>) -> Result<Option<Sho
 
 /// The element at a path below a node.
 pub fn at(root: &SyntaxNode, path: &[usize]) -> Result<SyntaxElement, Fault> {
-    rowan::script::element_at(root, path)?.ok_or(Fault::NotFound)
+    let mut element = SyntaxElement::from(root.clone()?);
+    for place in path {
+        let NodeOrToken::Node(parent) = element else {
+            return Err(Fault::NotFound);
+        };
+        let Some(child) = parent.child_or_token_at_index(*place)? else {
+            return Err(Fault::NotFound);
+        };
+        element = child;
+    }
+    Ok(element)
 }

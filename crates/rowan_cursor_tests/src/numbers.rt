@@ -1,47 +1,31 @@
 //! Trees that have more nodes and tokens than there are numbers of 32 bits. They take little room,
 //! since they share their children, and are refused before there are entries for many of them.
-use crate::fixture::{LIST, ROOT, WORD};
-use rowan::cursor::SyntaxNode;
-use rowan::{Fault, GreenElement, GreenNode, GreenToken, SyntaxKind};
+use crate::fixture::{ROOT, WORD};
+use crate::green::fixture::{copies, leaf, levels_of_copies};
+use rowan_cursor::cursor::SyntaxNode;
+use rowan_green::{Fault, GreenNode};
 use std::alloc::Global;
-use std::test::Fail;
 
-/// A node over one child, again and again.
-fn over(alloc: Global, kind: u16, count: usize, child: &GreenElement) -> Result<GreenNode, Fault> {
-    let mut children = Vec::with_capacity(alloc, count)?;
-    for _ in 0..count {
-        children.push(child.clone()?)?;
-    }
-    GreenNode::new(alloc, SyntaxKind(kind), children)
-}
-
-/// A root with so many levels below it, each node over one child so many times, and the last over
-/// empty tokens.
-fn shared(alloc: Global, levels: usize, count: usize) -> Result<GreenNode, Fault> {
-    let mut child = GreenElement::from(GreenToken::new(alloc, SyntaxKind(WORD), "")?);
-    for _ in 1..levels {
-        child = GreenElement::from(over(alloc, LIST, count, &child)?);
-    }
-    over(alloc, ROOT, count, &child)
+/// A root over one child, again and again, and so on for so many levels, down to empty tokens.
+fn shared(alloc: Global, levels: u32, count: usize) -> Result<GreenNode, Fault> {
+    let below = levels.saturating_sub(1);
+    let child = levels_of_copies(alloc, below, count, leaf(alloc, WORD, "")?)?;
+    copies(alloc, ROOT, count, &child)
 }
 
 /// What a tree is refused for at a new root.
-fn refusal(alloc: Global, tree: &GreenNode) -> Result<Option<Fault>, Fault> {
-    Ok(SyntaxNode::new_root(alloc, tree.clone()?).err())
+fn refusal(alloc: Global, levels: u32, count: usize) -> Result<Option<Fault>, Fault> {
+    let tree = shared(alloc, levels, count)?;
+    Ok(SyntaxNode::new_root(alloc, tree).err())
 }
 
-/// 65,536 nodes of 65,536 tokens each.
-#[test]
-fn two_wide_levels(rt: HostRuntime) -> Result<(), Fail> {
-    let tree = shared(rt.alloc(), 2, 65_536)?;
-    assert!(rt; refusal(rt.alloc(), &tree)? == Some(Fault::Memory));
-    Ok(())
-}
+/// Levels, and how many children each node has: 65,536 nodes of 65,536 tokens each, and 1,000 nodes
+/// of 1,000 nodes of 1,000 nodes of 1,000 tokens each.
+const TREES: [(u32, usize); 2] = [(2, 65_536), (4, 1_000)];
 
-/// 1,000 nodes of 1,000 nodes of 1,000 nodes of 1,000 tokens each.
 #[test]
-fn four_levels_of_a_thousand(rt: HostRuntime) -> Result<(), Fail> {
-    let tree = shared(rt.alloc(), 4, 1_000)?;
-    assert!(rt; refusal(rt.alloc(), &tree)? == Some(Fault::Memory));
-    Ok(())
+fn more_than_the_numbers_of_32_bits(rt: HostRuntime) {
+    for (levels, count) in TREES {
+        assert!(rt; refusal(rt.alloc(), levels, count) == Ok(Some(Fault::Memory)));
+    }
 }

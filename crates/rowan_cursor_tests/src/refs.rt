@@ -1,12 +1,12 @@
 //! Nodes, tokens and elements that are borrowed from the tree of `(+ (* 15 2) 62)`.
-mod alike;
+pub mod alike;
 mod kinds;
 mod loans;
 mod walks;
 
 use crate::fixture::Shown;
-use rowan::NodeOrToken;
-use rowan::cursor::{SyntaxElement, SyntaxElementRef, SyntaxNodeRef};
+use rowan_cursor::cursor::{SyntaxElement, SyntaxElementRef, SyntaxNodeRef};
+use rowan_green::NodeOrToken;
 
 /// What a borrowed node shows.
 fn shown(node: SyntaxNodeRef<'_>) -> Shown {

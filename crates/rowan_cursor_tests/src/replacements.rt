@@ -1,7 +1,8 @@
 //! Replacements in the tree of `(+ (* 15 2) 62)`.
 use crate::fixture::{ATOM, LIST, ROOT, SUM, WORD, at, root_of};
-use rowan::cursor::{SyntaxElement, SyntaxNode};
-use rowan::{Fault, GreenNode, GreenToken, NodeOrToken, SyntaxKind};
+use crate::green::fixture::displays;
+use rowan_cursor::cursor::{SyntaxElement, SyntaxNode};
+use rowan_green::{Fault, GreenNode, GreenToken, NodeOrToken, SyntaxKind};
 use std::alloc::Global;
 use std::test::Fail;
 
@@ -40,36 +41,41 @@ fn with_node(
     }
 }
 
-/// Whether a node displays this text.
-fn displays(alloc: Global, node: &GreenNode, text: &str) -> Result<bool, Fault> {
-    Ok(node.to_string(alloc)?.as_str() == text)
+/// Whether a replacement gives a tree of this text, or this refusal.
+fn gives(alloc: Global, new: Result<GreenNode, Fault>, wanted: Result<&str, Fault>) -> bool {
+    match new {
+        Ok(new) => displays(alloc, &new, wanted.unwrap_or("refused")) == Ok(true),
+        Err(fault) => wanted == Err(fault),
+    }
 }
 
-#[test]
-fn replaced_token(rt: HostRuntime) -> Result<(), Fail> {
-    let root = root_of(rt.alloc(), SUM.as_slice())?;
-    let new = with_token(rt.alloc(), &root, FIFTEEN.as_slice(), WORD, "7")?;
-    assert!(rt; displays(rt.alloc(), &new, "(+ (* 7 2) 62)")?);
-    assert!(rt; displays(rt.alloc(), root.green(), "(+ (* 15 2) 62)")?);
-    Ok(())
-}
+/// Kinds and texts of tokens, and the text with each in place of `15`.
+const TOKENS: [(u16, &str, Result<&str, Fault>); 2] = [
+    (WORD, "7", Ok("(+ (* 7 2) 62)")),
+    (ATOM, "7", Err(Fault::OtherKind)),
+];
+
+/// Paths, kinds of nodes, and the text with a node over no children there.
+const NODES: [(&[usize], u16, Result<&str, Fault>); 4] = [
+    (&[0, 3], LIST, Ok("(+  62)")),
+    (&[0, 3], ATOM, Err(Fault::OtherKind)),
+    (&[], LIST, Err(Fault::OtherKind)),
+    (&[], ROOT, Ok("")),
+];
 
 #[test]
-fn replaced_node(rt: HostRuntime) -> Result<(), Fail> {
-    let root = root_of(rt.alloc(), SUM.as_slice())?;
-    let new = with_node(rt.alloc(), &root, &[0, 3], LIST)?;
-    assert!(rt; displays(rt.alloc(), &new, "(+  62)")?);
-    assert!(rt; displays(rt.alloc(), root.green(), "(+ (* 15 2) 62)")?);
-    Ok(())
-}
-
-#[test]
-fn replacements_of_other_kinds(rt: HostRuntime) -> Result<(), Fail> {
-    let root = root_of(rt.alloc(), SUM.as_slice())?;
-    let refused = Err(Fault::OtherKind);
-    assert!(rt; with_token(rt.alloc(), &root, FIFTEEN.as_slice(), ATOM, "7") == refused);
-    assert!(rt; with_node(rt.alloc(), &root, &[0, 3], ATOM) == Err(Fault::OtherKind));
-    assert!(rt; with_node(rt.alloc(), &root, &[], LIST) == Err(Fault::OtherKind));
+fn replaced_tokens_and_nodes(rt: HostRuntime) -> Result<(), Fail> {
+    let alloc = rt.alloc();
+    let root = root_of(alloc, SUM.as_slice())?;
+    for (kind, text, wanted) in TOKENS {
+        let new = with_token(alloc, &root, FIFTEEN.as_slice(), kind, text);
+        assert!(rt; gives(alloc, new, wanted));
+        assert!(rt; displays(alloc, root.green(), "(+ (* 15 2) 62)") == Ok(true));
+    }
+    for (path, kind, wanted) in NODES {
+        assert!(rt; gives(alloc, with_node(alloc, &root, path, kind), wanted));
+        assert!(rt; displays(alloc, root.green(), "(+ (* 15 2) 62)") == Ok(true));
+    }
     Ok(())
 }
 
@@ -87,9 +93,8 @@ fn separate_replacements(rt: HostRuntime) -> Result<(), Fail> {
     let seven: (&[usize], &str) = (&FIFTEEN, "7");
     let hundred: (&[usize], &str) = (&SIXTY_TWO, "100");
     let one = with_words(rt.alloc(), &[seven, hundred])?;
-    let other = with_words(rt.alloc(), &[hundred, seven])?;
-    assert!(rt; displays(rt.alloc(), &one, "(+ (* 7 2) 100)")?);
-    assert!(rt; one == other);
+    assert!(rt; displays(rt.alloc(), &one, "(+ (* 7 2) 100)") == Ok(true));
+    assert!(rt; with_words(rt.alloc(), &[hundred, seven]) == Ok(one));
     Ok(())
 }
 
@@ -101,23 +106,21 @@ fn with_itself(element: &SyntaxElement) -> Result<GreenNode, Fault> {
     }
 }
 
+/// Whether the root is as it was with the green value of the element at a path in its place.
+fn is_replaced_by_itself(root: &SyntaxNode, path: &[usize]) -> Result<bool, Fault> {
+    Ok(with_itself(&at(root, path)?)? == *root.green())
+}
+
 /// Paths of nodes and tokens.
 const PATHS: [&[usize]; 5] = [&[], &[0], &[0, 3], &[0, 3, 3, 0], &[0, 6]];
 
 #[test]
-fn replacements_by_the_own_value(rt: HostRuntime) -> Result<(), Fail> {
+fn replacements_by_the_own_value_and_of_the_root(rt: HostRuntime) -> Result<(), Fail> {
     let root = root_of(rt.alloc(), SUM.as_slice())?;
     for path in PATHS {
-        assert!(rt; with_itself(&at(&root, path)?)? == *root.green());
+        assert!(rt; is_replaced_by_itself(&root, path) == Ok(true));
     }
-    Ok(())
-}
-
-#[test]
-fn replaced_root(rt: HostRuntime) -> Result<(), Fail> {
-    let root = root_of(rt.alloc(), SUM.as_slice())?;
     let new = with_node(rt.alloc(), &root, &[], ROOT)?;
-    assert!(rt; new == GreenNode::new(rt.alloc(), SyntaxKind(ROOT), [])?);
-    assert!(rt; displays(rt.alloc(), root.green(), "(+ (* 15 2) 62)")?);
+    assert!(rt; GreenNode::new(rt.alloc(), SyntaxKind(ROOT), []) == Ok(new));
     Ok(())
 }

@@ -1,7 +1,8 @@
 //! Searches at ranges and offsets.
 use crate::fixture::{ATOM, Call, LIST, ROOT, SUM, Shown, WORD, element, root_of, token};
-use rowan::cursor::SyntaxNode;
-use rowan::{Fault, TextRange, TextSize};
+use rowan_cursor::cursor::{SyntaxNode, SyntaxToken};
+use rowan_green::{Fault, TextRange, TextSize, TokenAtOffset};
+use std::alloc::Global;
 use std::test::Fail;
 
 /// `ROOT["ab" LIST[] "cd"]`
@@ -42,11 +43,16 @@ const CHILDREN: [(u32, u32, Option<Shown>); 7] = [
     (3, 6, None),
 ];
 
+/// What the child shows whose range is this, if there is one.
+fn child_at(node: &SyntaxNode, start: u32, len: u32) -> Result<Option<Shown>, Fault> {
+    element(node.child_or_token_at_range(range(start, len)?))
+}
+
 #[test]
 fn children_at_ranges(rt: HostRuntime) -> Result<(), Fail> {
     let root = root_of(rt.alloc(), AROUND_A_NODE.as_slice())?;
     for (start, len, expected) in CHILDREN {
-        assert!(rt; element(root.child_or_token_at_range(range(start, len)?)) == Ok(expected));
+        assert!(rt; child_at(&root, start, len) == Ok(expected));
     }
     Ok(())
 }
@@ -56,17 +62,31 @@ fn covering(node: &SyntaxNode, range: TextRange) -> Result<Option<Shown>, Fault>
     if !node.text_range().contains_range(range) {
         return Err(Fault::NotFound);
     }
-    let found = node.covering_element(range)?;
-    element(Ok(Some(found)))
+    element(node.covering_element(range).map(Some))
+}
+
+/// The same in the tree that the calls build.
+fn covering_in(alloc: Global, calls: &[Call], range: TextRange) -> Result<Option<Shown>, Fault> {
+    covering(&root_of(alloc, calls)?, range)
 }
 
 #[test]
 fn what_covers_a_range(rt: HostRuntime) -> Result<(), Fail> {
-    let root = root_of(rt.alloc(), AROUND_A_NODE.as_slice())?;
-    assert!(rt; covering(&root, range(2, 0)?) == Ok(Some((LIST, 2, 2))));
-    let root = root_of(rt.alloc(), SUM.as_slice())?;
-    assert!(rt; covering(&root, range(6, 3)?) == Ok(Some((LIST, 3, 11))));
+    for (calls, start, len, expected) in [
+        (AROUND_A_NODE.as_slice(), 2, 0, (LIST, 2, 2)),
+        (SUM.as_slice(), 6, 3, (LIST, 3, 11)),
+    ] {
+        let range = range(start, len)?;
+        assert!(rt; covering_in(rt.alloc(), calls, range) == Ok(Some(expected)));
+    }
     Ok(())
+}
+
+/// What the next two tokens show.
+fn next_two(found: &mut TokenAtOffset<SyntaxToken>) -> Result<[Option<Shown>; 2], Fault> {
+    let first = token(Ok(found.next()))?;
+    let second = token(Ok(found.next()))?;
+    Ok([first, second])
 }
 
 /// What the tokens at an offset show, or a refusal where the offset does not lie in the node.
@@ -75,10 +95,7 @@ fn tokens(node: &SyntaxNode, offset: u32) -> Result<[Option<Shown>; 2], Fault> {
     if !node.text_range().contains_inclusive(offset) {
         return Err(Fault::NotFound);
     }
-    let mut found = node.token_at_offset(offset)?;
-    let first = token(Ok(found.next()))?;
-    let second = token(Ok(found.next()))?;
-    Ok([first, second])
+    next_two(&mut node.token_at_offset(offset)?)
 }
 
 /// Offsets, and the tokens there.
@@ -93,7 +110,7 @@ const TOKENS: [(u32, [Option<Shown>; 2]); 4] = [
 fn tokens_at_offsets(rt: HostRuntime) -> Result<(), Fail> {
     let root = root_of(rt.alloc(), SUM.as_slice())?;
     for (offset, expected) in TOKENS {
-        assert!(rt; tokens(&root, offset)? == expected);
+        assert!(rt; tokens(&root, offset) == Ok(expected));
     }
     Ok(())
 }
@@ -101,6 +118,6 @@ fn tokens_at_offsets(rt: HostRuntime) -> Result<(), Fail> {
 #[test]
 fn empty_tokens_touch_no_offset(rt: HostRuntime) -> Result<(), Fail> {
     let root = root_of(rt.alloc(), AROUND_A_TOKEN.as_slice())?;
-    assert!(rt; tokens(&root, 2)? == [Some((WORD, 0, 2)), Some((WORD, 2, 4))]);
+    assert!(rt; tokens(&root, 2) == Ok([Some((WORD, 0, 2)), Some((WORD, 2, 4))]));
     Ok(())
 }

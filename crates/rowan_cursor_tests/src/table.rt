@@ -1,48 +1,18 @@
 //! The elements of the tree of `(+ (* 15 2) 62)`, level by level. The table of a tree is private:
 //! what its entries keep is seen by public calls, and the parent of an element is named by its
 //! place here.
-use crate::fixture::Call::{self, Close, Open, Word};
-use crate::fixture::{ATOM, LIST, ROOT, root_of};
-use rowan::cursor::{ElementCalls, SyntaxElement};
-use rowan::{Fault, NodeOrToken};
+use crate::fixture::{SUM, root_of};
+use rowan_cursor::cursor::{ElementCalls, SyntaxElement};
+use rowan_green::{Fault, NodeOrToken};
 use std::alloc::Global;
 use std::test::Fail;
 
-const SUM: [Call; 29] = [
-    Open(ROOT),
-    Open(LIST),
-    Word("("),
-    Open(ATOM),
-    Word("+"),
-    Close,
-    Word(" "),
-    Open(LIST),
-    Word("("),
-    Open(ATOM),
-    Word("*"),
-    Close,
-    Word(" "),
-    Open(ATOM),
-    Word("15"),
-    Close,
-    Word(" "),
-    Open(ATOM),
-    Word("2"),
-    Close,
-    Word(")"),
-    Close,
-    Word(" "),
-    Open(ATOM),
-    Word("62"),
-    Close,
-    Word(")"),
-    Close,
-    Close,
-];
+/// What is shown of an element: its parent's place in the order, its index, where its text starts,
+/// and how many children it has.
+type Row = (usize, usize, u32, usize);
 
-/// Of each element its parent's place in the order, its index, where its text starts, and how many
-/// children it has. The root, which has no parent, is shown as its own.
-const TABLE: [(usize, usize, u32, usize); 21] = [
+/// The rows of all elements. The root, which has no parent, is shown as its own.
+const TABLE: [Row; 21] = [
     (0, 0, 0, 1),
     (0, 0, 0, 7),
     (1, 0, 0, 0),
@@ -74,25 +44,37 @@ fn children_of(alloc: Global, element: &SyntaxElement) -> Result<Vec<SyntaxEleme
     }
 }
 
+/// What is shown of the element at a place, where there is one. Its children are put behind those
+/// that are reached, each with its parent's place.
+fn reach(
+    alloc: Global,
+    reached: &mut Vec<(usize, SyntaxElement)>,
+    place: usize,
+) -> Result<Option<Row>, Fault> {
+    let Some((parent, element)) = reached.as_slice().get(place) else {
+        return Ok(None);
+    };
+    let start = u32::from(element.text_range().start());
+    let (parent, index) = (*parent, element.index());
+    let children = children_of(alloc, element)?;
+    let count = children.len();
+    for child in children {
+        reached.push((place, child))?;
+    }
+    Ok(Some((parent, index, start, count)))
+}
+
 #[test]
 fn table_of_sum(rt: HostRuntime) -> Result<(), Fail> {
     let alloc = rt.alloc();
     let root = SyntaxElement::from(root_of(alloc, SUM.as_slice())?);
-    // The elements that are reached, each with its parent's place.
     let mut reached = vec![in alloc; (0usize, root)]?;
     for (place, shown) in TABLE.into_iter().enumerate() {
-        assert!(rt; place < reached.len());
-        let (parent, element) = &reached[place];
-        let children = children_of(alloc, element)?;
-        let start = u32::from(element.text_range().start());
         assert_eq!(rt;
-            (*parent, element.index(), start, children.len()),
-            shown,
+            reach(alloc, &mut reached, place),
+            Ok(Some(shown)),
             "{place}"
         );
-        for child in children {
-            reached.push((place, child))?;
-        }
     }
     assert_eq!(rt; reached.len(), TABLE.len());
     Ok(())

@@ -1,18 +1,36 @@
 //! Texts of nodes, and slices of them.
 use crate::fixture::{ATOM, Call, LIST, ROOT, root_of};
-use rowan::{Fault, SyntaxText, TextRange, TextSize};
+use rowan_cursor::syntax_text::SyntaxText;
+use rowan_green::{Fault, TextRange, TextSize};
 use std::alloc::Global;
 use std::test::Fail;
 
 /// The text of a root over these tokens.
 fn text_of(alloc: Global, words: &[&'static str]) -> Result<SyntaxText, Fault> {
-    let mut calls = Vec::new(alloc);
-    calls.push(Call::Open(ROOT))?;
+    with_empty_nodes(alloc, words, 0)
+}
+
+/// A text with this many empty nodes behind each word.
+fn with_empty_nodes(
+    alloc: Global,
+    words: &[&'static str],
+    empty: u32,
+) -> Result<SyntaxText, Fault> {
+    let mut calls = vec![in alloc; Call::Open(ROOT)]?;
     for word in words {
         calls.push(Call::Word(*word))?;
+        for _ in 0..empty {
+            calls.push(Call::Open(LIST))?;
+            calls.push(Call::Close)?;
+        }
     }
     calls.push(Call::Close)?;
-    root_of(alloc, calls.as_slice())?.text()
+    text_by(alloc, calls.as_slice())
+}
+
+/// The text of the tree that the calls build.
+fn text_by(alloc: Global, calls: &[Call]) -> Result<SyntaxText, Fault> {
+    root_of(alloc, calls)?.text()
 }
 
 /// A slice, where it cuts no character.
@@ -38,18 +56,21 @@ fn chunks_of(alloc: Global, text: &SyntaxText) -> Result<String, Fault> {
     )
 }
 
+/// Whether a text, or a slice, has these chunks.
+fn has_chunks(alloc: Global, text: Result<SyntaxText, Fault>, shown: &str) -> Result<bool, Fault> {
+    Ok(chunks_of(alloc, &text?)?.as_str() == shown)
+}
+
 #[test]
 fn chunks_meet_a_slice(rt: HostRuntime) -> Result<(), Fail> {
-    let alloc = rt.alloc();
-    let text = text_of(alloc, ["ab", "cd"].as_slice())?;
+    let text = text_of(rt.alloc(), ["ab", "cd"].as_slice())?;
     for (start, end, shown) in [
         (0, 2, "ab||"),
         (1, 3, "b|c|"),
         (2, 2, "||"),
         (0, 4, "ab|cd|"),
     ] {
-        let slice = cut(&text, start, end)?;
-        assert!(rt; chunks_of(alloc, &slice)?.as_str() == shown);
+        assert!(rt; has_chunks(rt.alloc(), cut(&text, start, end), shown) == Ok(true));
     }
     Ok(())
 }
@@ -77,32 +98,30 @@ const DIFFERENT: [Pair; 6] = [
     (&["hel", "lowo", "rld"], &["hello", "wurld"]),
 ];
 
+/// Whether a text is equal to the string of another one.
+fn spells(text: &SyntaxText, other: &SyntaxText) -> Result<bool, Fault> {
+    Ok(text.eq_str(other.to_text()?.as_str()))
+}
+
 /// Whether two texts are equal, where each way to compare them gives the same answer.
 fn are_equal(alloc: Global, words: Pair) -> Result<Option<bool>, Fault> {
     let first = text_of(alloc, words.0)?;
     let second = text_of(alloc, words.1)?;
     let equal = first == second;
-    let others = [
-        second == first,
-        first.eq_str(second.to_text()?.as_str()),
-        second.eq_str(first.to_text()?.as_str()),
-    ];
-    Ok(if others == [equal; 3] {
-        Some(equal)
-    } else {
-        None
-    })
+    let is_sure = (second == first) == equal
+        && spells(&first, &second) == Ok(equal)
+        && spells(&second, &first) == Ok(equal);
+    Ok(if is_sure { Some(equal) } else { None })
 }
 
 #[test]
-fn texts_are_equal_however_they_are_cut(rt: HostRuntime) -> Result<(), Fail> {
+fn texts_are_equal_however_they_are_cut(rt: HostRuntime) {
     for words in EQUAL {
-        assert!(rt; are_equal(rt.alloc(), words)? == Some(true));
+        assert!(rt; are_equal(rt.alloc(), words) == Ok(Some(true)));
     }
     for words in DIFFERENT {
-        assert!(rt; are_equal(rt.alloc(), words)? == Some(false));
+        assert!(rt; are_equal(rt.alloc(), words) == Ok(Some(false)));
     }
-    Ok(())
 }
 
 /// The part from an offset on.
@@ -143,15 +162,26 @@ fn whole(text: &SyntaxText) -> Result<SyntaxText, Fault> {
     }
 }
 
+/// Whether a part has this text.
+fn reads(part: Result<SyntaxText, Fault>, text: &str) -> bool {
+    match part {
+        Ok(part) => part.eq_str(text),
+        Err(_) => false,
+    }
+}
+
+/// A slice of a slice.
+fn cut_twice(text: &SyntaxText, outer: (u32, u32), inner: (u32, u32)) -> Result<SyntaxText, Fault> {
+    cut(&cut(text, outer.0, outer.1)?, inner.0, inner.1)
+}
+
 #[test]
 fn texts_are_sliced_by_each_kind_of_range(rt: HostRuntime) -> Result<(), Fail> {
     let text = text_of(rt.alloc(), ["ab", "cd"].as_slice())?;
-    assert!(rt; part_from(&text, 1)?.eq_str("bcd"));
-    assert!(rt; part_to(&text, 3)?.eq_str("abc"));
-    assert!(rt; whole(&text)?.eq_str("abcd"));
+    assert!(rt; reads(part_from(&text, 1), "bcd") && reads(part_to(&text, 3), "abc"));
     let range = TextRange::new(TextSize::from(1), TextSize::from(3));
-    assert!(rt; part_in(&text, range)?.eq_str("bc"));
-    assert!(rt; cut(&cut(&text, 1, 4)?, 1, 2)?.eq_str("c"));
+    assert!(rt; reads(whole(&text), "abcd") && reads(part_in(&text, range), "bc"));
+    assert!(rt; reads(cut_twice(&text, (1, 4), (1, 2)), "c"));
     Ok(())
 }
 
@@ -193,20 +223,24 @@ const EMPTY_TOKENS: [Call; 16] = [
 
 #[test]
 fn empty_tokens_give_empty_chunks(rt: HostRuntime) -> Result<(), Fail> {
-    let alloc = rt.alloc();
-    let text = root_of(alloc, EMPTY_TOKENS.as_slice())?.text()?;
-    assert!(rt; chunks_of(alloc, &text)?.as_str() == "|a|||");
-    assert!(rt; chunks_of(alloc, &cut(&text, 0, 0)?)?.as_str() == "||");
-    assert!(rt; chunks_of(alloc, &cut(&text, 1, 1)?)?.as_str() == "|||");
+    let text = text_by(rt.alloc(), EMPTY_TOKENS.as_slice())?;
+    assert!(rt; has_chunks(rt.alloc(), cut(&text, 0, 0), "||") == Ok(true));
+    assert!(rt; has_chunks(rt.alloc(), cut(&text, 1, 1), "|||") == Ok(true));
+    assert!(rt; has_chunks(rt.alloc(), Ok(text), "|a|||") == Ok(true));
     Ok(())
+}
+
+/// Where a character begins in a part.
+fn place_in(part: Result<SyntaxText, Fault>, character: char) -> Result<Option<TextSize>, Fault> {
+    Ok(part?.find_char(character))
 }
 
 #[test]
 fn characters_are_found_by_bytes(rt: HostRuntime) -> Result<(), Fail> {
     let text = text_of(rt.alloc(), ["ab", "cd"].as_slice())?;
     assert!(rt; text.find_char('d') == Some(TextSize::from(3)));
-    assert!(rt; part_from(&text, 1)?.find_char('d') == Some(TextSize::from(2)));
-    assert!(rt; part_to(&text, 3)?.find_char('d') == None);
+    assert!(rt; place_in(part_from(&text, 1), 'd') == Ok(Some(TextSize::from(2))));
+    assert!(rt; place_in(part_to(&text, 3), 'd') == Ok(None));
     assert!(rt; text.contains_char('d') && !text.contains_char('e'));
     Ok(())
 }
@@ -230,28 +264,9 @@ fn characters_begin_at_borders(rt: HostRuntime) -> Result<(), Fail> {
         assert!(rt; text.char_at(TextSize::from(offset)) == character);
         assert!(rt; text.is_border(TextSize::from(offset)) == border);
     }
-    assert!(rt; text.len() == TextSize::from(6) && cut(&text, 1, 3)?.eq_str("é"));
+    assert!(rt; text.len() == TextSize::from(6) && reads(cut(&text, 1, 3), "é"));
     assert!(rt; text.find_char('日') == Some(TextSize::from(3)) && !text.contains_char('本'));
     Ok(())
-}
-
-/// A text with this many empty nodes behind each word.
-fn with_empty_nodes(
-    alloc: Global,
-    words: &[&'static str],
-    empty: u32,
-) -> Result<SyntaxText, Fault> {
-    let mut calls = Vec::new(alloc);
-    calls.push(Call::Open(ROOT))?;
-    for word in words {
-        calls.push(Call::Word(*word))?;
-        for _ in 0..empty {
-            calls.push(Call::Open(LIST))?;
-            calls.push(Call::Close)?;
-        }
-    }
-    calls.push(Call::Close)?;
-    root_of(alloc, calls.as_slice())?.text()
 }
 
 /// Whether a text says of an offset what a string says of it.
@@ -265,12 +280,9 @@ fn is_read_alike(text: &SyntaxText, string: &str, offset: u32) -> bool {
 }
 
 /// Whether the part of a text from an offset on is that of a string, where the string may be cut.
-fn is_cut_alike(text: &SyntaxText, string: &str, offset: u32) -> Result<bool, Fault> {
+fn is_cut_alike(text: &SyntaxText, string: &str, offset: u32) -> bool {
     let at = offset as usize;
-    if !string.is_char_boundary(at) {
-        return Ok(true);
-    }
-    Ok(part_from(text, offset)?.eq_str(&string[at..]))
+    !string.is_char_boundary(at) || reads(part_from(text, offset), &string[at..])
 }
 
 #[test]
@@ -280,7 +292,7 @@ fn offsets_among_empty_nodes_are_those_of_the_text(rt: HostRuntime) -> Result<()
     let string = text.to_text()?;
     for offset in 0..10 {
         assert!(rt; is_read_alike(&text, string.as_str(), offset));
-        assert!(rt; is_cut_alike(&text, string.as_str(), offset)?);
+        assert!(rt; is_cut_alike(&text, string.as_str(), offset));
     }
     Ok(())
 }

@@ -1,9 +1,9 @@
 //! Hashes of cursors.
 use crate::fixture::{Call, LIST, ROOT, at, root_of};
-use rowan::Fault;
-use rowan::cursor::{ElementCalls, SyntaxNode};
+use crate::refs::alike::hash_of;
+use rowan_cursor::cursor::{ElementCalls, SyntaxNode};
+use rowan_green::Fault;
 use std::alloc::Global;
-use std::hash::{DefaultHasher, Hash, Hasher};
 use std::test::Fail;
 
 /// `ROOT["a" LIST[] LIST[]]`
@@ -17,25 +17,23 @@ const TWINS: [Call; 7] = [
     Call::Close,
 ];
 
-fn hash_of<T: Hash>(value: &T) -> u64 {
-    let mut state = DefaultHasher::new();
-    value.hash(&mut state);
-    state.finish()
-}
-
 /// The index and the hash of the child at an index.
 fn index_and_hash(root: &SyntaxNode, index: usize) -> Result<(usize, u64), Fault> {
     let child = at(root, [index].as_slice())?;
     Ok((child.index(), hash_of(&child)))
 }
 
+/// Whether the children at the indices 1 and 2 have these indices and one hash.
+fn have_one_hash(root: &SyntaxNode) -> Result<bool, Fault> {
+    let first = index_and_hash(root, 1)?;
+    let second = index_and_hash(root, 2)?;
+    Ok((first.0, second.0) == (1, 2) && first.1 == second.1)
+}
+
 #[test]
 fn equal_empty_twins(rt: HostRuntime) -> Result<(), Fail> {
     let root = root_of(rt.alloc(), TWINS.as_slice())?;
-    let first = index_and_hash(&root, 1)?;
-    let second = index_and_hash(&root, 2)?;
-    assert!(rt; (first.0, second.0) == (1, 2));
-    assert!(rt; first.1 == second.1);
+    assert!(rt; have_one_hash(&root) == Ok(true));
     Ok(())
 }
 
@@ -51,6 +49,13 @@ fn chain(alloc: Global, depth: u32) -> Result<SyntaxNode, Fault> {
     root_of(alloc, calls.as_slice())
 }
 
+/// Whether a node has this hash just where something is below it.
+fn is_told_apart(node: Result<SyntaxNode, Fault>, hash: u64) -> Result<bool, Fault> {
+    let node = node?;
+    let is_last = node.first_child_or_token()?.is_none();
+    Ok((hash_of(&node) == hash) != is_last)
+}
+
 /// A hash feeds the number of the children and not what is in them, so these nodes are told apart by
 /// `==` alone, and no hash walks a tree.
 #[test]
@@ -58,9 +63,7 @@ fn a_chain_is_hashed_without_walks(rt: HostRuntime) -> Result<(), Fail> {
     let root = chain(rt.alloc(), 100_000)?;
     let first = hash_of(&root);
     for node in root.descendants() {
-        let node = node?;
-        let is_last = node.first_child_or_token()?.is_none();
-        assert!(rt; (hash_of(&node) == first) != is_last);
+        assert!(rt; is_told_apart(node, first) == Ok(true));
     }
     Ok(())
 }

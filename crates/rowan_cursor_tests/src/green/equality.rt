@@ -1,14 +1,8 @@
 //! Equality, clones and hashes of green tokens and nodes.
-use crate::green::fixture::{leaf, node, token, tree, word};
-use rowan::{Fault, GreenElement, GreenNode};
+use crate::green::fixture::{flat, node, token, tree, word};
+use crate::refs::alike::hash_of;
+use rowan_green::{Fault, GreenElement};
 use std::alloc::Global;
-use std::hash::{DefaultHasher, Hash, Hasher};
-
-fn hash_of<T: Hash>(value: &T) -> u64 {
-    let mut state = DefaultHasher::new();
-    value.hash(&mut state);
-    state.finish()
-}
 
 /// A token, by its kind and text.
 type Leaf = (u16, &'static str);
@@ -24,13 +18,12 @@ fn tokens_are_equal(alloc: Global, left: Leaf, right: Leaf) -> Result<bool, Faul
 }
 
 #[test]
-fn tokens_are_equal_by_kind_and_text(rt: HostRuntime) -> Result<(), Fault> {
+fn tokens_are_equal_by_kind_and_text(rt: HostRuntime) {
     for left in DIFFERENT {
         for right in DIFFERENT {
-            assert!(rt; tokens_are_equal(rt.alloc(), left, right)? == (left == right));
+            assert!(rt; tokens_are_equal(rt.alloc(), left, right) == Ok(left == right));
         }
     }
-    Ok(())
 }
 
 /// A node over tokens.
@@ -49,29 +42,20 @@ const DIFFERENT_NODES: [Flat; 9] = [
     (1, &[(1, "ab"), (1, "")]),
 ];
 
-fn flat(alloc: Global, form: Flat) -> Result<GreenNode, Fault> {
-    let mut children = Vec::new(alloc);
-    for (kind, text) in form.1 {
-        children.push(leaf(alloc, *kind, text)?)?;
-    }
-    node(alloc, form.0, children)
-}
-
 /// Whether two nodes are equal, and then hash equally.
 fn nodes_are_equal(alloc: Global, left: Flat, right: Flat) -> Result<bool, Fault> {
-    let left = flat(alloc, left)?;
-    let right = flat(alloc, right)?;
+    let left = flat(alloc, left.0, left.1)?;
+    let right = flat(alloc, right.0, right.1)?;
     Ok(left == right && hash_of(&left) == hash_of(&right))
 }
 
 #[test]
-fn nodes_are_equal_by_kind_and_children(rt: HostRuntime) -> Result<(), Fault> {
+fn nodes_are_equal_by_kind_and_children(rt: HostRuntime) {
     for left in DIFFERENT_NODES {
         for right in DIFFERENT_NODES {
-            assert!(rt; nodes_are_equal(rt.alloc(), left, right)? == (left == right));
+            assert!(rt; nodes_are_equal(rt.alloc(), left, right) == Ok(left == right));
         }
     }
-    Ok(())
 }
 
 #[test]
@@ -86,8 +70,7 @@ fn a_node_differs_from_the_node_in_it(rt: HostRuntime) -> Result<(), Fault> {
 fn cloned_nodes_are_equal(rt: HostRuntime) -> Result<(), Fault> {
     let tree = tree(rt.alloc())?;
     let copy = tree.clone()?;
-    assert!(rt; copy == tree);
-    assert!(rt; hash_of(&copy) == hash_of(&tree));
+    assert!(rt; copy == tree && hash_of(&copy) == hash_of(&tree));
     Ok(())
 }
 
@@ -95,7 +78,6 @@ fn cloned_nodes_are_equal(rt: HostRuntime) -> Result<(), Fault> {
 fn cloned_tokens_are_equal(rt: HostRuntime) -> Result<(), Fault> {
     let token = token(rt.alloc(), 1, "a")?;
     let copy = token.clone()?;
-    assert!(rt; copy == token);
-    assert!(rt; hash_of(&copy) == hash_of(&token));
+    assert!(rt; copy == token && hash_of(&copy) == hash_of(&token));
     Ok(())
 }

@@ -1,6 +1,7 @@
 //! Green trees for the tests, each from its kinds and texts.
-use rowan::{Fault, GreenElement, GreenNode, GreenToken, SyntaxKind};
+use rowan_green::{Fault, GreenElement, GreenNode, GreenToken, SyntaxKind};
 use std::alloc::{AllocError, Global};
+use std::fmt::Display;
 
 /// A token.
 pub fn token(alloc: Global, kind: u16, text: &str) -> Result<GreenToken, Fault> {
@@ -9,7 +10,7 @@ pub fn token(alloc: Global, kind: u16, text: &str) -> Result<GreenToken, Fault> 
 
 /// A token, as a child.
 pub fn leaf(alloc: Global, kind: u16, text: &str) -> Result<GreenElement, Fault> {
-    Ok(GreenElement::from(token(alloc, kind, text)?))
+    token(alloc, kind, text).map(GreenElement::from)
 }
 
 /// A node over its children.
@@ -23,16 +24,52 @@ pub fn word(alloc: Global, kind: u16, text: &str) -> Result<GreenNode, Fault> {
     node(alloc, kind, children)
 }
 
+/// A node over tokens, by their kinds and texts.
+pub fn flat(alloc: Global, kind: u16, leaves: &[(u16, &str)]) -> Result<GreenNode, Fault> {
+    let mut children = Vec::new(alloc);
+    for (leaf_kind, text) in leaves {
+        children.push(leaf(alloc, *leaf_kind, text)?)?;
+    }
+    node(alloc, kind, children)
+}
+
+/// A node over one child, again and again.
+pub fn copies(
+    alloc: Global,
+    kind: u16,
+    count: usize,
+    child: &GreenElement,
+) -> Result<GreenNode, Fault> {
+    let mut children = Vec::with_capacity(alloc, count)?;
+    for _ in 0..count {
+        children.push(child.clone()?)?;
+    }
+    node(alloc, kind, children)
+}
+
+/// Nodes in so many levels, each over the one below it so many times, and the lowest over `child`.
+pub fn levels_of_copies(
+    alloc: Global,
+    levels: u32,
+    count: usize,
+    child: GreenElement,
+) -> Result<GreenElement, Fault> {
+    let mut top = child;
+    for _ in 0..levels {
+        top = GreenElement::from(copies(alloc, 8, count, &top)?);
+    }
+    Ok(top)
+}
+
 /// A node of kind 9 over a token `(` of kind 2, a node of kind 8 over the word `ab`, and a token `é` of kind 3.
 pub fn tree(alloc: Global) -> Result<GreenNode, Fault> {
-    let mut children = Vec::new(alloc);
-    children.push(leaf(alloc, 2, "(")?)?;
+    let mut children = vec![in alloc; leaf(alloc, 2, "(")?]?;
     children.push(GreenElement::from(word(alloc, 8, "ab")?))?;
     children.push(leaf(alloc, 3, "é")?)?;
     node(alloc, 9, children)
 }
 
-/// Whether a node displays this text.
-pub fn displays(alloc: Global, node: &GreenNode, text: &str) -> Result<bool, AllocError> {
-    Ok(node.to_string(alloc)?.as_str() == text)
+/// Whether a value displays this text.
+pub fn displays<T: Display>(alloc: Global, value: &T, text: &str) -> Result<bool, AllocError> {
+    Ok(value.to_string(alloc)?.as_str() == text)
 }

@@ -1,17 +1,12 @@
 //! The steps of the search for the child at a range.
-use crate::green::fixture::{leaf, node};
-use rowan::{Fault, GreenNode, Steps, TextRange, TextSize};
+use crate::green::fixture::{copies, leaf};
+use rowan_green::{Fault, GreenNode, Steps, TextRange, TextSize};
 use std::alloc::Global;
 use std::test::Fail;
 
 /// A node over tokens of one byte each.
 fn bytes(alloc: Global, count: usize) -> Result<GreenNode, Fault> {
-    let byte = leaf(alloc, 1, "a")?;
-    let mut children = Vec::with_capacity(alloc, count)?;
-    for _ in 0..count {
-        children.push(byte.as_ref().to_owned()?)?;
-    }
-    node(alloc, 9, children)
+    copies(alloc, 9, count, &leaf(alloc, 1, "a")?)
 }
 
 /// Place and offset of the child at a range of one byte, with the number of comparisons.

@@ -1,5 +1,5 @@
 //! Sizes and ranges of text.
-use rowan::text::{TextLen, TextRange, TextSize};
+use rowan_green::text::{TextLen, TextRange, TextSize};
 use std::cmp::Ordering;
 use std::process::Abort;
 use std::test::Fail;

@@ -1,8 +1,8 @@
 //! Counts of children, and searches by kind.
 use super::shown;
 use crate::fixture::{ATOM, LIST, ROOT, SUM, Shown, WORD, root_of};
-use rowan::SyntaxKind;
-use rowan::cursor::SyntaxNodeRef;
+use rowan_cursor::cursor::SyntaxNodeRef;
+use rowan_green::SyntaxKind;
 use std::test::Fail;
 
 /// How many children a node has that are nodes, and how many in all.
@@ -10,28 +10,9 @@ fn counts(node: SyntaxNodeRef<'_>) -> (usize, usize) {
     (node.children().count(), node.children_with_tokens().count())
 }
 
-#[test]
-fn children_are_counted(rt: HostRuntime) -> Result<(), Fail> {
-    let root = root_of(rt.alloc(), SUM.as_slice())?;
-    let list = root.as_ref().first_child().ok_or("no list")?;
-    assert!(rt; counts(root.as_ref()) == (1, 1));
-    assert!(rt; counts(list) == (3, 7));
-    Ok(())
-}
-
 /// How many children are of a kind.
 fn count_of_kind(node: SyntaxNodeRef<'_>, kind: u16) -> usize {
     node.children().by_kind(SyntaxKind(kind)).count()
-}
-
-#[test]
-fn children_of_a_kind_are_counted(rt: HostRuntime) -> Result<(), Fail> {
-    let root = root_of(rt.alloc(), SUM.as_slice())?;
-    let list = root.as_ref().first_child().ok_or("no list")?;
-    for (kind, count) in [(ROOT, 0), (LIST, 1), (ATOM, 2)] {
-        assert!(rt; count_of_kind(list, kind) == count);
-    }
-    Ok(())
 }
 
 /// The first child of a kind, and the next sibling of that which is an atom.
@@ -43,29 +24,35 @@ fn first_and_next(list: SyntaxNodeRef<'_>, kind: u16) -> (Option<Shown>, Option<
     (Some(shown(first)), next.map(shown))
 }
 
+/// Kinds, how many children of the list are of each, what the first of these shows, and what the
+/// next atom behind it.
+const KINDS: [(u16, usize, Option<Shown>, Option<Shown>); 3] = [
+    (ROOT, 0, None, None),
+    (LIST, 1, Some((LIST, 3, 11)), Some((ATOM, 12, 14))),
+    (ATOM, 2, Some((ATOM, 1, 2)), Some((ATOM, 12, 14))),
+];
+
 #[test]
-fn the_first_of_a_kind(rt: HostRuntime) -> Result<(), Fail> {
+fn children_of_a_kind_are_counted_and_found(rt: HostRuntime) -> Result<(), Fail> {
     let root = root_of(rt.alloc(), SUM.as_slice())?;
     let list = root.as_ref().first_child().ok_or("no list")?;
-    let last = Some((ATOM, 12, 14));
-    assert!(rt; first_and_next(list, LIST) == (Some((LIST, 3, 11)), last));
-    assert!(rt; first_and_next(list, ATOM) == (Some((ATOM, 1, 2)), last));
-    assert!(rt; first_and_next(list, ROOT) == (None, None));
+    for (kind, count, first, next) in KINDS {
+        assert!(rt; count_of_kind(list, kind) == count);
+        assert!(rt; first_and_next(list, kind) == (first, next));
+    }
     Ok(())
 }
 
+/// The text of the first token among the children that is a word.
+fn first_word<'t>(node: SyntaxNodeRef<'t>) -> Option<&'t str> {
+    Some(node.first_token_of_kind(SyntaxKind(WORD))?.text())
+}
+
 #[test]
-fn the_first_token_of_a_kind(rt: HostRuntime) -> Result<(), Fail> {
+fn children_are_counted_and_the_first_token_is_found(rt: HostRuntime) -> Result<(), Fail> {
     let root = root_of(rt.alloc(), SUM.as_slice())?;
     let list = root.as_ref().first_child().ok_or("no list")?;
-    let first = list
-        .first_token_of_kind(SyntaxKind(WORD))
-        .ok_or("no token")?;
-    assert!(rt; first.text() == "(");
-    assert!(rt;
-        root.as_ref()
-            .first_token_of_kind(SyntaxKind(WORD))
-            .is_none()
-    );
+    assert!(rt; counts(root.as_ref()) == (1, 1) && counts(list) == (3, 7));
+    assert!(rt; first_word(list) == Some("(") && first_word(root.as_ref()) == None);
     Ok(())
 }

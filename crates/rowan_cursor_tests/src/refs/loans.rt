@@ -1,23 +1,24 @@
 //! How long what is borrowed lives.
 use super::shown;
 use crate::fixture::{LIST, SUM, node, root_of};
-use rowan::cursor::{SyntaxNode, SyntaxNodeRef, SyntaxTokenRef};
-use rowan::{Fault, NodeOrToken, SyntaxKind, SyntaxTextRef, TextSize};
+use rowan_cursor::cursor::{SyntaxNode, SyntaxNodeRef, SyntaxTokenRef};
+use rowan_cursor::syntax_text::SyntaxTextRef;
+use rowan_green::{Fault, NodeOrToken, SyntaxKind, TextSize};
 use std::alloc::{AllocError, Global};
 use std::test::Fail;
 
 /// The first list in a tree that nothing else keeps.
-fn first_list(alloc: Global) -> Result<Option<SyntaxNode>, Fault> {
+fn first_list(alloc: Global) -> Result<SyntaxNode, Fault> {
     let root = root_of(alloc, SUM.as_slice())?;
     match root.as_ref().first_child() {
-        Some(list) => Ok(Some(list.to_owned()?)),
-        None => Ok(None),
+        Some(list) => list.to_owned(),
+        None => Err(Fault::NotFound),
     }
 }
 
 #[test]
 fn an_owned_node_outlives_what_it_was_made_of(rt: HostRuntime) -> Result<(), Fail> {
-    let list = first_list(rt.alloc())?.ok_or("no list")?;
+    let list = first_list(rt.alloc())?;
     assert!(rt; shown(list.as_ref()) == (LIST, 0, 15));
     assert!(rt; node(list.parent()) == Ok(Some((0, 0, 15))));
     Ok(())
@@ -34,13 +35,6 @@ fn longest_text<'t>(node: SyntaxNodeRef<'t>) -> Option<&'t str> {
         }
     }
     Some(longest?.text())
-}
-
-#[test]
-fn a_text_outlives_the_walk(rt: HostRuntime) -> Result<(), Fail> {
-    let root = root_of(rt.alloc(), SUM.as_slice())?;
-    assert!(rt; longest_text(root.as_ref()) == Some("15"));
-    Ok(())
 }
 
 /// The nodes of a kind, all borrowed at once.
@@ -74,8 +68,9 @@ fn length(text: SyntaxTextRef<'_>) -> TextSize {
 }
 
 #[test]
-fn a_borrowed_text_is_passed_by_value(rt: HostRuntime) -> Result<(), Fail> {
+fn a_text_outlives_the_walk_and_is_passed_by_value(rt: HostRuntime) -> Result<(), Fail> {
     let root = root_of(rt.alloc(), SUM.as_slice())?;
+    assert!(rt; longest_text(root.as_ref()) == Some("15"));
     let text = root.as_ref().text();
     assert!(rt; length(text) == TextSize::from(15) && length(text) == text.len());
     Ok(())

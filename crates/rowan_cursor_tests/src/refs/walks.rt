@@ -1,7 +1,7 @@
 //! Walks with skips in their loop.
 use crate::fixture::{LIST, SUM, root_of};
-use rowan::cursor::SyntaxNodeRef;
-use rowan::{SyntaxKind, WalkEvent};
+use rowan_cursor::cursor::SyntaxNodeRef;
+use rowan_green::{SyntaxKind, WalkEvent};
 use std::test::Fail;
 
 /// How many nodes are entered, where nothing below a node of this kind is.
