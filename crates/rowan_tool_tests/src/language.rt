@@ -2,7 +2,7 @@
 //! both have.
 use crate::parts::Part::{self, Close, Leaf, Open};
 use crate::parts::tree;
-use rowan::{Fault, GreenNode, GreenNodeBuilder, Language, SyntaxKind, SyntaxNode};
+use rowan::{Fault, Language, SyntaxKind, SyntaxNode};
 use std::alloc::Global;
 use std::test::Fail;
 
@@ -50,32 +50,26 @@ impl Language for Groups {
     }
 }
 
-/// A group of leaves and of groups in brackets.
-fn group(alloc: Global, leaves: &[&str]) -> Result<GreenNode, Fault> {
-    let mut builder = GreenNodeBuilder::new(alloc);
-    builder.start_node(SyntaxKind(0))?;
-    for leaf in leaves {
-        if *leaf == "(" {
-            builder.start_node(SyntaxKind(0))?;
-        }
-        builder.token(SyntaxKind(7), leaf)?;
-        if *leaf == ")" {
-            builder.finish_node()?;
-        }
-    }
-    builder.finish_node()?;
-    Ok(builder.finish()?)
-}
-
-fn root_of(alloc: Global, leaves: &[&str]) -> Result<SyntaxNode<Groups>, Fault> {
-    SyntaxNode::new_root(alloc, group(alloc, leaves)?)
-}
-
-/// Whether a group of these leaves prints these lines.
-fn prints(alloc: Global, leaves: &[&str], lines: &str) -> Result<bool, Fault> {
-    let root = root_of(alloc, leaves)?;
+/// Whether a tree of these parts prints these lines.
+fn prints<L: Language>(alloc: Global, parts: &[Part], lines: &str) -> Result<bool, Fault> {
+    let root: SyntaxNode<L> = SyntaxNode::new_root(alloc, tree(alloc, parts)?)?;
     Ok(root.debug_tree(alloc)?.as_str() == lines)
 }
+
+/// A group in a group in a group, each with leaves for its brackets but for the outermost.
+const NESTED_PARTS: [Part; 11] = [
+    Open(0),
+    Open(0),
+    Leaf(7, "("),
+    Open(0),
+    Leaf(7, "("),
+    Leaf(7, "a"),
+    Leaf(7, ")"),
+    Close,
+    Leaf(7, ")"),
+    Close,
+    Close,
+];
 
 const NESTED: &str = r#"GROUP@0..5
   GROUP@0..5
@@ -87,42 +81,54 @@ const NESTED: &str = r#"GROUP@0..5
     LEAF@4..5 ")"
 "#;
 
-#[test]
-fn prints_a_line_for_each_element(rt: HostRuntime) -> Result<(), Fail> {
-    let leaves = ["(", "(", "a", ")", ")"];
-    assert!(rt; prints(rt.alloc(), leaves.as_slice(), NESTED)?);
-    Ok(())
-}
-
-/// A leaf's text, and the lines of a group of it.
-const QUOTED: [(&str, &str); 5] = [
-    ("", "GROUP@0..0\n  LEAF@0..0 \"\"\n"),
-    ("\"\\\n'", "GROUP@0..4\n  LEAF@0..4 \"\\\"\\\\\\n'\"\n"),
+/// A group of one leaf, and its lines.
+const QUOTED: [([Part; 3], &str); 5] = [
     (
-        "aaaaaaaaaaaaaaaaaaaaéaa",
+        [Open(0), Leaf(7, ""), Close],
+        "GROUP@0..0\n  LEAF@0..0 \"\"\n",
+    ),
+    (
+        [Open(0), Leaf(7, "\"\\\n'"), Close],
+        "GROUP@0..4\n  LEAF@0..4 \"\\\"\\\\\\n'\"\n",
+    ),
+    (
+        [Open(0), Leaf(7, "aaaaaaaaaaaaaaaaaaaaéaa"), Close],
         "GROUP@0..24\n  LEAF@0..24 \"aaaaaaaaaaaaaaaaaaaaéaa\"\n",
     ),
     (
-        "aaaaaaaaaaaaaaaaaaaaéaaaaa",
+        [Open(0), Leaf(7, "aaaaaaaaaaaaaaaaaaaaéaaaaa"), Close],
         "GROUP@0..27\n  LEAF@0..27 \"aaaaaaaaaaaaaaaaaaaaé ...\"\n",
     ),
     (
-        "aaaaaaaaaaaaaaaaaaaaaaaaa",
+        [Open(0), Leaf(7, "aaaaaaaaaaaaaaaaaaaaaaaaa"), Close],
         "GROUP@0..25\n  LEAF@0..25 \"aaaaaaaaaaaaaaaaaaaaa ...\"\n",
     ),
 ];
 
 #[test]
 fn quotes_and_cuts(rt: HostRuntime) -> Result<(), Fail> {
-    for (leaf, lines) in QUOTED {
-        assert!(rt; prints(rt.alloc(), [leaf].as_slice(), lines)?);
+    for (parts, lines) in QUOTED {
+        assert!(rt; prints::<Groups>(rt.alloc(), parts.as_slice(), lines)?);
     }
     Ok(())
 }
 
+/// Leaves beside a group in brackets.
+const BESIDE: [Part; 8] = [
+    Open(0),
+    Open(0),
+    Leaf(7, "("),
+    Leaf(7, "a b"),
+    Leaf(7, ")"),
+    Close,
+    Leaf(7, "é"),
+    Close,
+];
+
 #[test]
 fn shows_the_text(rt: HostRuntime) -> Result<(), Fail> {
-    let root = root_of(rt.alloc(), ["(", "a b", ")", "é"].as_slice())?;
+    let green = tree(rt.alloc(), &BESIDE)?;
+    let root: SyntaxNode<Groups> = SyntaxNode::new_root(rt.alloc(), green)?;
     assert!(rt; root.kind() == Kind::Group);
     assert!(rt; root.to_string(rt.alloc())?.as_str() == "(a b)é");
     Ok(())
@@ -193,10 +199,10 @@ const NUMBERED_LINES: &str = r#"EVEN@0..4
     ODD@3..4 "d"
 "#;
 
+/// Each element has its line, and kinds are shown as what their raw kinds mean.
 #[test]
-fn shows_what_even_and_odd_kinds_mean(rt: HostRuntime) -> Result<(), Fail> {
-    let green = tree(rt.alloc(), &NUMBERED)?;
-    let root: SyntaxNode<Numbers> = SyntaxNode::new_root(rt.alloc(), green)?;
-    assert!(rt; root.debug_tree(rt.alloc())?.as_str() == NUMBERED_LINES);
+fn prints_a_line_for_each_element(rt: HostRuntime) -> Result<(), Fail> {
+    assert!(rt; prints::<Groups>(rt.alloc(), &NESTED_PARTS, NESTED)?);
+    assert!(rt; prints::<Numbers>(rt.alloc(), &NUMBERED, NUMBERED_LINES)?);
     Ok(())
 }

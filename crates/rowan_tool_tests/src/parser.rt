@@ -31,8 +31,7 @@ fn open_parens(alloc: Global, count: usize) -> Result<String, Fault> {
 
 #[test]
 fn deep_trees_are_made_and_dropped(rt: HostRuntime) -> Result<(), Fail> {
-    let text = open_parens(rt.alloc(), 100_000)?;
-    let parsed = parse(rt.alloc(), text.as_str())?;
+    let parsed = parse(rt.alloc(), open_parens(rt.alloc(), 100_000)?.as_str())?;
     assert!(rt; u32::from(parsed.green().text_len()) == 100_000);
     assert!(rt; parsed.green().children().len() == 1);
     Ok(())

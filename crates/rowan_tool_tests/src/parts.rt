@@ -1,7 +1,8 @@
-//! Trees for the tests of the typed layer.
+//! Trees for the tests of the typed layer, and what values print.
 use rowan::builder::CacheHome;
 use rowan::{Fault, GreenNode, GreenNodeBuilder, SyntaxKind};
 use std::alloc::Global;
+use std::fmt::Debug;
 
 /// A part of a tree: the beginning of a node of a raw kind, a token of one with its text, or the
 /// end of a node.
@@ -27,4 +28,12 @@ pub fn tree(alloc: Global, parts: &[Part]) -> Result<GreenNode, Fault> {
         make(&mut builder, *part)?;
     }
     Ok(builder.finish()?)
+}
+
+/// Whether a value is shown so.
+pub fn shows<T: Debug>(alloc: Global, value: &T, line: &str) -> bool {
+    match format!(in alloc; "{value:?}") {
+        Ok(shown) => shown.as_str() == line,
+        Err(_) => false,
+    }
 }

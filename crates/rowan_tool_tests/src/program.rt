@@ -5,22 +5,17 @@ use std::alloc::{AllocError, Global};
 use std::io::ErrorKind;
 use std::test::Fail;
 
-/// How a run with one word ended, and what it wrote.
+/// How a run with one word ended.
 fn outcome(
     alloc: Global,
     command: &str,
-    mut input: FailingReader<'_>,
-    mut output: FailingWriter,
-) -> Result<(Result<(), Stop>, Vec<u8>), Fail> {
-    let args = words(alloc, &[command])?;
-    let outcome = run(alloc, args.as_slice(), &mut input, &mut output);
-    let FailingWriter {
-        written,
-        most: _,
-        left: _,
-        kind: _,
-    } = output;
-    Ok((outcome, written))
+    input: &mut FailingReader<'_>,
+    output: &mut FailingWriter,
+) -> Result<(), Stop> {
+    match words(alloc, &[command]) {
+        Ok(args) => run(alloc, args.as_slice(), input, output),
+        Err(_) => Err(Stop::NoMemory),
+    }
 }
 
 const LIST: &str = "(+ 1 2)";
@@ -65,13 +60,13 @@ fn calls(bytes: usize, most: usize) -> usize {
 fn answers(
     alloc: Global,
     command: &str,
-    input: FailingReader<'_>,
+    mut input: FailingReader<'_>,
     expected: Result<(), Stop>,
     text: &str,
-) -> Result<bool, Fail> {
-    let output = FailingWriter::sound(alloc, input.most);
-    let (outcome, written) = outcome(alloc, command, input, output)?;
-    Ok(outcome == expected && written.as_slice() == text.as_bytes())
+) -> bool {
+    let mut output = FailingWriter::sound(alloc, input.most);
+    outcome(alloc, command, &mut input, &mut output) == expected
+        && output.written.as_slice() == text.as_bytes()
 }
 
 /// Whether a command answers as without a failure where any one read is interrupted, and stops
@@ -80,39 +75,38 @@ fn stands_each_read(
     alloc: Global,
     (command, text, shown): (&str, &str, &str),
     most: usize,
-) -> Result<bool, Fail> {
+) -> bool {
+    let bytes = text.as_bytes();
     // the last read finds the end
-    for reads in 0..=calls(text.len(), most) {
-        let input = FailingReader::new(text.as_bytes(), most, reads, ErrorKind::Interrupted);
-        if !answers(alloc, command, input, Ok(()), shown)? {
-            return Ok(false);
-        }
-        let input = FailingReader::new(text.as_bytes(), most, reads, ErrorKind::PermissionDenied);
-        if !answers(alloc, command, input, Err(Stop::CannotRead), "")? {
-            return Ok(false);
+    for reads in 0..=calls(bytes.len(), most) {
+        let interrupted = FailingReader::new(bytes, most, reads, ErrorKind::Interrupted);
+        let failed = FailingReader::new(bytes, most, reads, ErrorKind::PermissionDenied);
+        if !answers(alloc, command, interrupted, Ok(()), shown)
+            || !answers(alloc, command, failed, Err(Stop::CannotRead), "")
+        {
+            return false;
         }
     }
     answers(
         alloc,
         command,
-        FailingReader::sound(text.as_bytes(), most),
+        FailingReader::sound(bytes, most),
         Ok(()),
         shown,
     )
 }
 
 #[test]
-fn reads_again_or_stops_at_each_read(rt: HostRuntime) -> Result<(), Fail> {
+fn reads_again_or_stops_at_each_read(rt: HostRuntime) {
     for answer in ANSWERS {
         for most in SHORT {
             assert!(rt;
-                stands_each_read(rt.alloc(), answer, most)?,
+                stands_each_read(rt.alloc(), answer, most),
                 "{}, {most} bytes",
                 answer.0
             );
         }
     }
-    Ok(())
 }
 
 /// How a command ends whose write or flush fails in this way after so many, and how many bytes of
@@ -123,49 +117,49 @@ fn after_writes(
     most: usize,
     writes: usize,
     kind: ErrorKind,
-) -> Result<Option<(Result<(), Stop>, usize)>, Fail> {
-    let input = FailingReader::sound(text.as_bytes(), 1_000);
-    let output = FailingWriter::new(alloc, most, writes, kind);
-    let (outcome, written) = outcome(alloc, command, input, output)?;
-    if shown.as_bytes().starts_with(written.as_slice()) {
-        Ok(Some((outcome, written.len())))
+) -> Option<(Result<(), Stop>, usize)> {
+    let mut input = FailingReader::sound(text.as_bytes(), 1_000);
+    let mut output = FailingWriter::new(alloc, most, writes, kind);
+    let outcome = outcome(alloc, command, &mut input, &mut output);
+    let written = output.written.as_slice();
+    if shown.as_bytes().starts_with(written) {
+        Some((outcome, written.len()))
     } else {
-        Ok(None)
+        None
     }
 }
 
 /// Whether a command goes on where any one write is interrupted, and stops where any one fails,
 /// with what was written before.
-fn stands_each_write(alloc: Global, answer: (&str, &str, &str), most: usize) -> Result<bool, Fail> {
+fn stands_each_write(alloc: Global, answer: (&str, &str, &str), most: usize) -> bool {
     let len = answer.2.len();
     for writes in 0..calls(len, most) {
-        let interrupted = after_writes(alloc, answer, most, writes, ErrorKind::Interrupted)?;
-        let failed = after_writes(alloc, answer, most, writes, ErrorKind::BrokenPipe)?;
+        let interrupted = after_writes(alloc, answer, most, writes, ErrorKind::Interrupted);
+        let failed = after_writes(alloc, answer, most, writes, ErrorKind::BrokenPipe);
         let before = writes.saturating_mul(most);
         if interrupted != Some((Ok(()), len)) || failed != Some((Err(Stop::CannotWrite), before)) {
-            return Ok(false);
+            return false;
         }
     }
     // the flush
-    let failed = after_writes(alloc, answer, most, calls(len, most), ErrorKind::BrokenPipe)?;
-    Ok(failed == Some((Err(Stop::CannotWrite), len)))
+    let failed = after_writes(alloc, answer, most, calls(len, most), ErrorKind::BrokenPipe);
+    failed == Some((Err(Stop::CannotWrite), len))
 }
 
 #[test]
-fn writes_again_or_stops_at_each_write(rt: HostRuntime) -> Result<(), Fail> {
+fn writes_again_or_stops_at_each_write(rt: HostRuntime) {
     for answer in ANSWERS {
         for most in SHORT {
             assert!(rt;
-                stands_each_write(rt.alloc(), answer, most)?,
+                stands_each_write(rt.alloc(), answer, most),
                 "{}, {most} bytes",
                 answer.0
             );
         }
         // a writer that takes nothing
-        let none = after_writes(rt.alloc(), answer, 0, usize::MAX, ErrorKind::BrokenPipe)?;
+        let none = after_writes(rt.alloc(), answer, 0, usize::MAX, ErrorKind::BrokenPipe);
         assert!(rt; none == Some((Err(Stop::CannotWrite), 0)), "{}", answer.0);
     }
-    Ok(())
 }
 
 /// Bytes that are no text.
@@ -181,16 +175,15 @@ const NO_TEXTS: [&[u8]; 8] = [
 ];
 
 #[test]
-fn refuses_bytes_that_are_no_text(rt: HostRuntime) -> Result<(), Fail> {
+fn refuses_bytes_that_are_no_text(rt: HostRuntime) {
     for bytes in NO_TEXTS {
         for (command, _, _) in ANSWERS {
             for most in SHORT {
                 let input = FailingReader::sound(bytes, most);
-                assert!(rt; answers(rt.alloc(), command, input, Err(Stop::NotUtf8), "")?);
+                assert!(rt; answers(rt.alloc(), command, input, Err(Stop::NotUtf8), ""));
             }
         }
     }
-    Ok(())
 }
 
 /// Arguments that ask for nothing.

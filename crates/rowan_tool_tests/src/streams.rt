@@ -4,7 +4,7 @@ use std::alloc::{AllocError, Global};
 use std::io::{self, ErrorKind, Read, Write};
 
 /// Reads at most `most` bytes at a time. One call fails: the one after `left` others.
-#[derive(Drop)]
+#[derive(Clone, Copy)]
 pub struct FailingReader<'a> {
     pub rest: &'a [u8],
     pub most: usize,

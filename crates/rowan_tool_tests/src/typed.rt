@@ -2,8 +2,8 @@
 //! kind each.
 //!
 //! A call that may be refused is run on the elements of a tree, and its answer is compared with
-//! that of the raw call. The calls are named by the values of small enums, and functions with a
-//! match make them.
+//! that of the raw call. A refused call counts as another answer, so no function here ends early
+//! while it holds a cursor.
 mod changes;
 mod lists;
 mod moves;
@@ -15,7 +15,9 @@ use crate::language::Numbers;
 use crate::parts::Part::{self, Close, Leaf, Open};
 use crate::parts::tree;
 use rowan::{Fault, TypedElementCalls, cursor};
+use rowan_moves::{MOVES, Move};
 use std::alloc::Global;
+use std::test::Fail;
 
 type Node = rowan::SyntaxNode<Numbers>;
 
@@ -52,19 +54,34 @@ fn elements(alloc: Global) -> Result<Vec<cursor::SyntaxElement>, Fault> {
     root_of(alloc)?.descendants_with_tokens().try_collect(alloc)
 }
 
-/// All nodes of the tree.
-fn nodes(alloc: Global) -> Result<Vec<cursor::SyntaxNode>, Fault> {
-    root_of(alloc)?.descendants().try_collect(alloc)
+/// The typed elements of raw ones.
+fn typed_elements(alloc: Global, raw: &[cursor::SyntaxElement]) -> Result<Vec<Element>, Fault> {
+    let mut typed = Vec::new(alloc);
+    for element in raw {
+        typed.push(Element::from_raw(element.clone()?))?;
+    }
+    Ok(typed)
 }
 
 /// Whether a typed node is the raw one.
-fn is_node(typed: Option<Node>, raw: Option<cursor::SyntaxNode>) -> bool {
-    typed.map(cursor::SyntaxNode::from) == raw
+fn is_node(typed: Node, raw: cursor::SyntaxNode) -> bool {
+    cursor::SyntaxNode::from(typed) == raw
 }
 
 /// Whether a typed element is the raw one.
-fn is_element(typed: Option<Element>, raw: Option<cursor::SyntaxElement>) -> bool {
-    typed.map(Element::into_raw) == raw
+fn is_element(typed: Element, raw: cursor::SyntaxElement) -> bool {
+    typed.into_raw() == raw
+}
+
+/// Whether a typed answer is the raw one.
+fn is_found(
+    typed: Result<Option<Element>, Fault>,
+    raw: Result<Option<cursor::SyntaxElement>, Fault>,
+) -> bool {
+    match typed {
+        Ok(typed) => raw == Ok(typed.map(Element::into_raw)),
+        Err(_) => false,
+    }
 }
 
 /// How many typed answers are the raw ones, and how many are not.
@@ -91,4 +108,104 @@ impl Answers {
             self.other = self.other.saturating_add(1);
         }
     }
+}
+
+/// What is asked of a typed and of a raw element.
+#[derive(Clone, Copy)]
+enum Question {
+    /// The kind, the range and the index.
+    Values,
+    /// The green node, the text and a copy of the subtree, or the green token, the text and
+    /// what a raw copy becomes.
+    OwnValues,
+    Move(Move),
+    /// The moves that elements have.
+    MovesOfElement,
+    Searches,
+    ListsOfNodes,
+    /// Lists of elements from a node, and from a token the siblings and the ancestors.
+    ListsOfElements,
+    /// What a copy of a list gives once its first child was taken.
+    RestOfChildren,
+    Ancestors,
+    /// What the borrowed typed element shows, beside the owned one.
+    Borrowed,
+}
+
+/// The questions by name, with the number of answers that each has in all.
+const QUESTIONS: [(&str, Question, usize); 9] = [
+    ("values", Question::Values, 10),
+    ("own values", Question::OwnValues, 5 * 3 + 5 * 3),
+    ("moves of elements", Question::MovesOfElement, 10 * 4),
+    ("searches", Question::Searches, 5 * 6),
+    ("lists of nodes", Question::ListsOfNodes, 5 * 3 + 4 + 10 + 8),
+    (
+        "lists of elements",
+        Question::ListsOfElements,
+        5 * 3 + 9 + 19 + 11 + 5 * 2 + 9 + 9,
+    ),
+    ("rest of children", Question::RestOfChildren, 5 + 5),
+    ("ancestors", Question::Ancestors, 29),
+    ("borrowed", Question::Borrowed, 10 * 3),
+];
+
+/// Adds the answers of an element to one question.
+fn add_answers(
+    alloc: Global,
+    answers: &mut Answers,
+    question: Question,
+    typed: &Element,
+    raw: &cursor::SyntaxElement,
+) {
+    match question {
+        Question::Values => answers.add(values::are_same(typed, raw)),
+        Question::OwnValues => values::add_own(answers, typed, raw),
+        Question::Move(way) => answers.add(moves::is_same(way, typed, raw)),
+        Question::MovesOfElement => moves::add_of_element(answers, typed, raw),
+        Question::Searches => moves::add_searches(answers, typed, raw),
+        Question::ListsOfNodes => lists::add_of_nodes(alloc, answers, typed, raw),
+        Question::ListsOfElements => lists::add_of_elements(alloc, answers, typed, raw),
+        Question::RestOfChildren => lists::add_rest(alloc, answers, typed, raw),
+        Question::Ancestors => lists::add_ancestors(alloc, answers, typed, raw),
+        Question::Borrowed => refs::add_shown(alloc, answers, typed),
+    }
+}
+
+/// The answers of all elements to one question.
+fn answers_of(
+    alloc: Global,
+    question: Question,
+    typed: &[Element],
+    raw: &[cursor::SyntaxElement],
+) -> Answers {
+    let mut answers = Answers::new();
+    for (typed, raw) in typed.iter().zip(raw) {
+        add_answers(alloc, &mut answers, question, typed, raw);
+    }
+    answers
+}
+
+/// Whether a move leads anywhere from one of these elements.
+fn leads(way: Move, from: &[cursor::SyntaxElement]) -> bool {
+    from.iter().any(|element| moves::leads(way, element))
+}
+
+#[test]
+fn typed_answers_are_the_raw_ones(rt: HostRuntime) -> Result<(), Fail> {
+    let raw = elements(rt.alloc())?;
+    let typed = typed_elements(rt.alloc(), raw.as_slice())?;
+    for (name, question, count) in QUESTIONS {
+        let answers = answers_of(rt.alloc(), question, typed.as_slice(), raw.as_slice());
+        assert!(rt; answers.are_all_same(count), "{name}");
+    }
+    for way in MOVES {
+        let question = Question::Move(way);
+        let answers = answers_of(rt.alloc(), question, typed.as_slice(), raw.as_slice());
+        assert!(rt;
+            answers.are_all_same(10) && leads(way, raw.as_slice()),
+            "{}",
+            way.name()
+        );
+    }
+    Ok(())
 }

@@ -38,22 +38,21 @@ where
     Ok(places)
 }
 
+/// What a copy of a list and the list give, where the copy is made behind the first wrapper, and
+/// the list goes one further.
+fn rests(mut all: AstChildren<AnyNode>) -> Result<(usize, usize), Fault> {
+    let _ = all.next();
+    let copy = all.clone()?;
+    let _ = all.next();
+    Ok((places(copy)?, places(all)?))
+}
+
 #[test]
 fn children_that_cast_come_in_order(rt: HostRuntime) -> Result<(), Fail> {
     let root = root_of(rt.alloc(), &TREE)?;
     assert!(rt; places(support::children::<EvenNode>(&root)) == Ok(24));
     assert!(rt; places(support::children::<AnyNode>(&root)) == Ok(124));
-    Ok(())
-}
-
-#[test]
-fn a_clone_keeps_the_rest(rt: HostRuntime) -> Result<(), Fail> {
-    let mut all = support::children::<AnyNode>(&root_of(rt.alloc(), &TREE)?);
-    let _ = all.next();
-    let copy = all.clone()?;
-    let _ = all.next();
-    assert!(rt; places(copy) == Ok(24));
-    assert!(rt; places(all) == Ok(4));
+    assert!(rt; rests(support::children::<AnyNode>(&root)) == Ok((24, 4)));
     Ok(())
 }
 
@@ -80,24 +79,27 @@ fn first_token(root: &Node, kind: Parity) -> Result<Option<usize>, Fault> {
     }
 }
 
+/// Whether the first token of an odd kind below a node has this place.
+fn is_first_odd(parent: Result<Node, Fault>, place: Option<usize>) -> bool {
+    match parent {
+        Ok(parent) => first_token(&parent, Parity::Odd) == Ok(place),
+        Err(_) => false,
+    }
+}
+
 #[test]
 fn the_first_token_of_a_kind_is_found(rt: HostRuntime) -> Result<(), Fail> {
     let root = root_of(rt.alloc(), &TREE)?;
-    let child = child_of(&root)?;
-    for (parent, kind, place) in [
-        (&root, Parity::Even, Some(3)),
-        (&root, Parity::Odd, Some(0)),
-        (&child, Parity::Odd, None),
-    ] {
-        assert!(rt; first_token(parent, kind) == Ok(place));
-    }
+    assert!(rt; first_token(&root, Parity::Even) == Ok(Some(3)));
+    assert!(rt; is_first_odd(child_of(&root), None));
+    assert!(rt; is_first_odd(Ok(root), Some(0)));
     Ok(())
 }
 
 /// Whether a cloned subtree has the same green node, and is a root.
 fn begins_anew(even: &EvenNode) -> Result<bool, Fault> {
     let copy = even.clone_subtree()?;
-    let is_root = copy.syntax().parent()?.is_none();
+    let is_root = copy.syntax().parent() == Ok(None);
     Ok(is_root && copy.syntax().green() == even.syntax().green())
 }
 
@@ -109,21 +111,17 @@ fn a_cloned_subtree_is_a_root(rt: HostRuntime) -> Result<(), Fail> {
     Ok(())
 }
 
-/// The pointer to a node as any node.
-fn to_any(node: Node) -> Result<AstPtr<AnyNode>, Fault> {
-    match AnyNode::cast(node) {
-        Some(any) => Ok(AstPtr::new(&any)),
-        None => Err(Fault::NotFound),
-    }
+/// Whether the pointer to a node as any node casts to one of an even kind.
+fn pointer_casts(node: Result<Node, Fault>) -> Option<bool> {
+    let any = AnyNode::cast(node.ok()?)?;
+    Some(AstPtr::new(&any).cast::<EvenNode>().is_some())
 }
 
 #[test]
 fn pointers_cast_as_their_kinds_do(rt: HostRuntime) -> Result<(), Fail> {
     let root = root_of(rt.alloc(), &TREE)?;
-    let to_odd = to_any(child_of(&root)?)?;
-    let to_even = to_any(root)?;
-    assert!(rt; to_odd.cast::<EvenNode>().is_none());
-    assert!(rt; to_even.cast::<EvenNode>().is_some());
+    assert!(rt; pointer_casts(child_of(&root)) == Some(false));
+    assert!(rt; pointer_casts(Ok(root)) == Some(true));
     Ok(())
 }
 
@@ -132,36 +130,47 @@ fn pointer(root: &Node) -> Result<AstPtr<EvenNode>, Fault> {
     Ok(AstPtr::new(&first_even(root)?))
 }
 
+/// Whether a pointer casts to one to a wrapper.
+fn casts_to(raw: SyntaxNodePtr<Numbers>, typed: &AstPtr<EvenNode>) -> bool {
+    match raw.cast::<EvenNode>() {
+        Some(cast) => cast == *typed,
+        None => false,
+    }
+}
+
 #[test]
 fn pointers_to_wrappers_are_those_to_their_nodes(rt: HostRuntime) -> Result<(), Fail> {
     let typed = pointer(&root_of(rt.alloc(), &TREE)?)?;
     let raw = typed.syntax_node_ptr();
     let range = TextRange::new(TextSize::from(2), TextSize::from(3));
     assert!(rt; (raw.kind(), raw.text_range()) == (Parity::Even, range));
-    assert!(rt; raw.cast::<EvenNode>() == Some(typed.clone()?));
+    assert!(rt; casts_to(raw, &typed));
     assert!(rt; raw.cast::<AnyNode>() == typed.clone()?.cast());
     assert!(rt; SyntaxNodePtr::from(typed) == raw);
     Ok(())
 }
 
-/// The place of the wrapper to which a pointer leads.
-fn index_of_target(pointer: &AstPtr<EvenNode>, root: &Node) -> Result<usize, Fault> {
-    let wrapper = pointer.to_node(root)?;
+/// The place of the wrapper to which the pointer to the first child of an even kind of one node
+/// leads from another one.
+fn index_of_target(parent: &Node, root: &Node) -> Result<usize, Fault> {
+    let wrapper = pointer(parent)?.to_node(root)?;
     Ok(wrapper.syntax().index())
+}
+
+/// Whether that pointer leads nowhere from another child, and from a copy of this.
+fn leads_nowhere_below(root: &Node) -> Result<bool, Fault> {
+    let child = child_of(root)?;
+    let other = child.clone_subtree()?;
+    Ok(
+        index_of_target(root, &child) == Err(Fault::NotFound)
+            && index_of_target(root, &other) == Err(Fault::NotFound),
+    )
 }
 
 #[test]
 fn pointers_lead_to_wrappers(rt: HostRuntime) -> Result<(), Fail> {
     let root = root_of(rt.alloc(), &TREE)?;
-    let child = child_of(&root)?;
-    let other = child.clone_subtree()?;
-    let pointer = pointer(&root)?;
-    for (root, answer) in [
-        (&root, Ok(2)),
-        (&child, Err(Fault::NotFound)),
-        (&other, Err(Fault::NotFound)),
-    ] {
-        assert!(rt; index_of_target(&pointer, root) == answer);
-    }
+    assert!(rt; index_of_target(&root, &root) == Ok(2));
+    assert!(rt; leads_nowhere_below(&root) == Ok(true));
     Ok(())
 }

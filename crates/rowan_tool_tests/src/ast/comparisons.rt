@@ -1,7 +1,9 @@
 //! The visits and comparisons of the search for the node of a pointer.
 use super::Node;
+use crate::parts::Part::{self, Close, Leaf, Open};
+use crate::parts::tree;
 use rowan::ast::SyntaxNodePtr;
-use rowan::{Fault, GreenElement, GreenNode, GreenToken, Language, Steps, SyntaxKind, SyntaxNode};
+use rowan::{Fault, GreenElement, GreenNode, Language, Steps, SyntaxKind, SyntaxNode};
 use rowan_tool::sexp;
 use std::alloc::Global;
 use std::test::Fail;
@@ -10,16 +12,16 @@ use std::test::Fail;
 /// not lead to it.
 fn steps_to<L: Language>(
     root: &SyntaxNode<L>,
-    node: &SyntaxNode<L>,
-) -> Result<Option<(u64, u64)>, Fault> {
+    node: Result<SyntaxNode<L>, Fault>,
+) -> Option<(u64, u64)> {
+    let node = node.ok()?;
+    let pointer = SyntaxNodePtr::new(&node);
     let mut steps = Steps::new();
-    let Some(found) = SyntaxNodePtr::new(node).try_to_node_counted(root, &mut steps)? else {
-        return Ok(None);
-    };
-    if found != *node {
-        return Ok(None);
+    if pointer.try_to_node_counted(root, &mut steps) == Ok(Some(node)) {
+        Some((steps.visits(), steps.comparisons()))
+    } else {
+        None
     }
-    Ok(Some((steps.visits(), steps.comparisons())))
 }
 
 /// The visits and comparisons of each node of `(+ (* 15 2) 62)`, from the root on. A search by
@@ -41,33 +43,37 @@ fn steps_in_a_sum(rt: HostRuntime) -> Result<(), Fail> {
     let root = sexp::parse(rt.alloc(), "(+ (* 15 2) 62)")?.syntax(rt.alloc())?;
     let mut expected = STEPS.into_iter();
     for node in root.descendants() {
-        assert!(rt; steps_to(&root, &node?)? == expected.next());
+        let steps = steps_to(&root, node);
+        assert!(rt; steps.is_some() && steps == expected.next());
     }
     assert!(rt; expected.next().is_none());
     Ok(())
 }
 
+/// A node of one byte.
+const BYTE: [Part; 3] = [Open(2), Leaf(1, "a"), Close];
+
+/// A node so many times.
+fn copies(alloc: Global, node: &GreenNode, count: usize) -> Result<Vec<GreenElement>, Fault> {
+    let mut copies = Vec::with_capacity(alloc, count)?;
+    for _ in 0..count {
+        copies.push(GreenElement::from(node.clone()?))?;
+    }
+    Ok(copies)
+}
+
 /// A root over nodes of one byte each.
 fn bytes(alloc: Global, count: usize) -> Result<Node, Fault> {
-    let token = GreenToken::new(alloc, SyntaxKind(1), "a")?;
-    let byte = GreenNode::new(
-        alloc,
-        SyntaxKind(2),
-        vec![in alloc; GreenElement::from(token)]?,
-    )?;
-    let mut children = Vec::with_capacity(alloc, count)?;
-    for _ in 0..count {
-        children.push(GreenElement::from(byte.clone()?))?;
-    }
+    let children = copies(alloc, &tree(alloc, &BYTE)?, count)?;
     Node::new_root(alloc, GreenNode::new(alloc, SyntaxKind(3), children)?)
 }
 
 /// Whether the pointer to a child of the root leads to it by two visits, with one comparison at
 /// least, and with no more than `most`.
-fn is_found_within(root: &Node, child: &Node, most: u64) -> Result<bool, Fault> {
-    match steps_to(root, child)? {
-        Some((visits, comparisons)) => Ok(visits == 2 && 1 <= comparisons && comparisons <= most),
-        None => Ok(false),
+fn is_found_within(root: &Node, child: Result<Node, Fault>, most: u64) -> bool {
+    match steps_to(root, child) {
+        Some((visits, comparisons)) => visits == 2 && 1 <= comparisons && comparisons <= most,
+        None => false,
     }
 }
 
@@ -82,7 +88,7 @@ fn a_million_nodes_are_searched_by_halves(rt: HostRuntime) -> Result<(), Fail> {
     for (count, distance, digits) in SIZES {
         let root = bytes(rt.alloc(), count)?;
         for child in root.children().step_by(distance) {
-            assert!(rt; is_found_within(&root, &child?, digits)?);
+            assert!(rt; is_found_within(&root, child, digits));
         }
     }
     Ok(())

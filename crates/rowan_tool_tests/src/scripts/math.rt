@@ -1,6 +1,6 @@
 //! A parser of arithmetic by recursive descent, which opens an operation at a checkpoint once it
 //! sees its operator: a port of rowan's example.
-use crate::scripts::word::Symbol::{self, Close, Leaf, Open};
+use crate::parts::Part::{self, Close, Leaf, Open};
 use crate::scripts::word::tree;
 use rowan::builder::CacheHome;
 use rowan::{Fault, GreenNode, GreenNodeBuilder, NodeCache, SyntaxKind};
@@ -139,7 +139,7 @@ const TOKENS: [Token; 13] = [
 ];
 
 /// Their tree.
-pub const MATH: [Symbol; 21] = [
+pub const MATH: [Part; 21] = [
     Open(ROOT),
     Open(OPERATION),
     Open(OPERATION),
@@ -184,8 +184,16 @@ fn parse_with(alloc: Global, cache: &mut NodeCache) -> Result<GreenNode, Fault> 
 #[test]
 fn math_operations_are_parsed(rt: HostRuntime) -> Result<(), Fail> {
     let expected = tree(rt.alloc(), MATH.as_slice())?;
-    assert!(rt; parse(rt.alloc())? == expected);
+    assert!(rt; parse(rt.alloc()) == Ok(expected));
     Ok(())
+}
+
+/// Whether a tree is the one that is expected.
+fn is_tree(found: Result<GreenNode, Fault>, expected: &GreenNode) -> bool {
+    match found {
+        Ok(found) => found == *expected,
+        Err(_) => false,
+    }
 }
 
 #[test]
@@ -193,7 +201,7 @@ fn math_operations_are_parsed_over_a_cache(rt: HostRuntime) -> Result<(), Fail> 
     let expected = tree(rt.alloc(), MATH.as_slice())?;
     let mut cache = NodeCache::new(rt.alloc());
     for _time in 0..2 {
-        assert!(rt; parse_with(rt.alloc(), &mut cache)? == expected);
+        assert!(rt; is_tree(parse_with(rt.alloc(), &mut cache), &expected));
     }
     Ok(())
 }

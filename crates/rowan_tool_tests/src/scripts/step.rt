@@ -1,7 +1,7 @@
 //! The calls of a run, as the tests write them.
 use rowan::script::Call;
 use rowan::{Checkpoint, Fault, GreenNodeBuilder, SyntaxKind};
-use std::alloc::Global;
+use std::alloc::{AllocError, Global};
 
 /// A call of a builder, as a constant can hold it. Marks are numbered from 0.
 #[derive(Clone, Copy)]
@@ -13,44 +13,25 @@ pub enum Step {
     StartAtMark(usize, u16),
 }
 
-/// Checkpoints of another builder, by the number of elements that it holds.
-#[derive(Drop)]
-pub struct Checkpoints {
-    by_count: Vec<Checkpoint>,
+/// The checkpoint of another builder that holds so many elements.
+pub fn checkpoint(alloc: Global, count: usize) -> Result<Checkpoint, Fault> {
+    let mut other = GreenNodeBuilder::new(alloc);
+    for _element in 0..count {
+        other.token(SyntaxKind(0), "")?;
+    }
+    Ok(other.checkpoint())
 }
 
-impl Checkpoints {
-    pub fn new(alloc: Global, greatest: usize) -> Result<Checkpoints, Fault> {
-        let mut other = GreenNodeBuilder::new(alloc);
-        let mut by_count = Vec::new(alloc);
-        by_count.push(other.checkpoint())?;
-        for _element in 0..greatest {
-            other.token(SyntaxKind(0), "")?;
-            by_count.push(other.checkpoint())?;
+/// The call of a builder.
+pub fn call(alloc: Global, step: Step) -> Result<Call, AllocError> {
+    match step {
+        Step::Token(kind, text) => {
+            let text = String::from_str(alloc, text)?;
+            Ok(Call::Token(SyntaxKind(kind), text))
         }
-        Ok(Checkpoints { by_count })
+        Step::Start(kind) => Ok(Call::StartNode(SyntaxKind(kind))),
+        Step::Finish => Ok(Call::FinishNode),
+        Step::Mark => Ok(Call::Mark),
+        Step::StartAtMark(mark, kind) => Ok(Call::StartNodeAt(mark, SyntaxKind(kind))),
     }
-
-    /// The checkpoint that counts so many elements.
-    pub fn at(&self, count: usize) -> Result<Checkpoint, Fault> {
-        self.by_count.get(count).copied().ok_or(Fault::NotFound)
-    }
-}
-
-/// The calls of a script.
-pub fn script(alloc: Global, steps: &[Step]) -> Result<Vec<Call>, Fault> {
-    let mut calls = Vec::new(alloc);
-    for step in steps {
-        let call = match *step {
-            Step::Token(kind, text) => {
-                Call::Token(SyntaxKind(kind), String::from_str(alloc, text)?)
-            }
-            Step::Start(kind) => Call::StartNode(SyntaxKind(kind)),
-            Step::Finish => Call::FinishNode,
-            Step::Mark => Call::Mark,
-            Step::StartAtMark(mark, kind) => Call::StartNodeAt(mark, SyntaxKind(kind)),
-        };
-        calls.push(call)?;
-    }
-    Ok(calls)
 }

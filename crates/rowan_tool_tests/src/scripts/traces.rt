@@ -1,7 +1,7 @@
 //! Traces of steps through the tree of `(+ (* 15 2) 62)`.
+use crate::parts::Part::{self, Close, Leaf, Open};
 use crate::scripts::report::Answer::{self, Moved, Nowhere, Refused, Replaced};
 use crate::scripts::report::are_answered;
-use crate::scripts::word::Symbol::{self, Close, Leaf, Open};
 use crate::scripts::word::tree;
 use rowan::cursor::SyntaxNode;
 use rowan::script::{Report, Step, trace};
@@ -23,7 +23,7 @@ const ATOM: u16 = 6;
 
 const ROOT: u16 = 7;
 
-const SUM: [Symbol; 29] = [
+const SUM: [Part; 29] = [
     Open(ROOT),
     Open(LIST),
     Leaf(L_PAREN, "("),
@@ -59,34 +59,69 @@ fn sum(alloc: Global) -> Result<SyntaxNode, Fault> {
     SyntaxNode::new_root(alloc, tree(alloc, SUM.as_slice())?)
 }
 
-fn put(alloc: Global, kind: u16, text: &str) -> Result<Step, Fault> {
-    let token = GreenToken::new(alloc, SyntaxKind(kind), text)?;
-    Ok(Step::ReplaceToken(token))
+/// A step, as a constant can hold it. A token that is put has a kind and a text.
+#[derive(Clone, Copy)]
+enum Way {
+    FirstToken,
+    NextToken,
+    PrevToken,
+    Parent,
+    NextSibling,
+    LeftTokenAt(u32),
+    RightTokenAt(u32),
+    Put(u16, &'static str),
 }
 
-fn at(offset: u32) -> Step {
-    Step::RightTokenAt(TextSize::from(offset))
+use Way::{FirstToken, LeftTokenAt, NextSibling, NextToken, Parent, PrevToken, Put, RightTokenAt};
+
+fn step(alloc: Global, way: Way) -> Result<Step, Fault> {
+    match way {
+        FirstToken => Ok(Step::FirstToken),
+        NextToken => Ok(Step::NextToken),
+        PrevToken => Ok(Step::PrevToken),
+        Parent => Ok(Step::Parent),
+        NextSibling => Ok(Step::NextSibling),
+        LeftTokenAt(offset) => Ok(Step::LeftTokenAt(TextSize::from(offset))),
+        RightTokenAt(offset) => Ok(Step::RightTokenAt(TextSize::from(offset))),
+        Put(kind, text) => {
+            GreenToken::new(alloc, SyntaxKind(kind), text).map(Step::ReplaceToken)
+        }
+    }
+}
+
+fn steps(alloc: Global, ways: &[Way]) -> Result<Vec<Step>, Fault> {
+    let mut steps = Vec::new(alloc);
+    for way in ways {
+        steps.push(step(alloc, *way)?)?;
+    }
+    Ok(steps)
+}
+
+/// The reports of the steps from the root of the sum.
+fn reports(alloc: Global, ways: &[Way]) -> Result<Vec<Report>, Fault> {
+    let steps = steps(alloc, ways)?;
+    trace(alloc, &sum(alloc)?, steps.as_slice())
 }
 
 /// Whether the steps from the root of the sum are reported so.
-fn is_reported(alloc: Global, steps: &[Step], answers: &[Answer]) -> Result<bool, Fault> {
-    let reports = trace(alloc, &sum(alloc)?, steps)?;
+fn is_reported(alloc: Global, ways: &[Way], answers: &[Answer]) -> Result<bool, Fault> {
+    let reports = reports(alloc, ways)?;
     Ok(are_answered(reports.as_slice(), answers))
 }
 
 #[test]
 fn trace_of_sum(rt: HostRuntime) -> Result<(), Fail> {
-    let steps = vec![in rt.alloc();
-        Step::FirstToken,
-        Step::NextToken,
-        Step::NextToken,
-        Step::Parent,
-        Step::NextSibling,
-        at(6),
-        put(rt.alloc(), WORD, "7")?,
-        put(rt.alloc(), WORD, "7")?,
-        Step::LeftTokenAt(TextSize::from(20)),
-    ]?;
+    let ways = [
+        FirstToken,
+        NextToken,
+        NextToken,
+        Parent,
+        NextSibling,
+        RightTokenAt(6),
+        Put(WORD, "7"),
+        Put(WORD, "7"),
+        LeftTokenAt(20),
+    ];
     let answers = [
         Moved(L_PAREN, 0, 1),
         Moved(WORD, 1, 2),
@@ -98,25 +133,25 @@ fn trace_of_sum(rt: HostRuntime) -> Result<(), Fail> {
         Nowhere,
         Nowhere,
     ];
-    assert!(rt; is_reported(rt.alloc(), steps.as_slice(), answers.as_slice())?);
+    assert!(rt; is_reported(rt.alloc(), ways.as_slice(), answers.as_slice())?);
     Ok(())
 }
 
 #[test]
 fn another_kind_is_refused(rt: HostRuntime) -> Result<(), Fail> {
-    let steps = vec![in rt.alloc(); at(6), put(rt.alloc(), ATOM, "7")?, Step::PrevToken]?;
+    let ways = [RightTokenAt(6), Put(ATOM, "7"), PrevToken];
     let answers = [
         Moved(WORD, 6, 8),
         Refused(Fault::OtherKind),
         Moved(SPACE, 5, 6),
     ];
-    assert!(rt; is_reported(rt.alloc(), steps.as_slice(), answers.as_slice())?);
+    assert!(rt; is_reported(rt.alloc(), ways.as_slice(), answers.as_slice())?);
     Ok(())
 }
 
 /// The green root after the latest replacement of a trace from the root of the sum.
-fn last_root(alloc: Global, steps: &[Step]) -> Result<GreenNode, Fault> {
-    let reports = trace(alloc, &sum(alloc)?, steps)?;
+fn last_root(alloc: Global, ways: &[Way]) -> Result<GreenNode, Fault> {
+    let reports = reports(alloc, ways)?;
     match reports.last() {
         Some(Report::Replaced(root)) => Ok(root.green().clone()?),
         _ => Err(Fault::NotFound),
@@ -125,21 +160,20 @@ fn last_root(alloc: Global, steps: &[Step]) -> Result<GreenNode, Fault> {
 
 #[test]
 fn separate_replacements(rt: HostRuntime) -> Result<(), Fail> {
-    let steps = vec![in rt.alloc();
-        at(6),
-        put(rt.alloc(), WORD, "7")?,
-        at(11),
-        put(rt.alloc(), WORD, "100")?,
-    ]?;
-    let in_order = last_root(rt.alloc(), steps.as_slice())?;
-    let steps = vec![in rt.alloc();
-        at(12),
-        put(rt.alloc(), WORD, "100")?,
-        at(6),
-        put(rt.alloc(), WORD, "7")?,
-    ]?;
-    let in_reverse = last_root(rt.alloc(), steps.as_slice())?;
-    assert!(rt; in_order == in_reverse);
+    let ways = [
+        RightTokenAt(6),
+        Put(WORD, "7"),
+        RightTokenAt(11),
+        Put(WORD, "100"),
+    ];
+    let in_order = last_root(rt.alloc(), ways.as_slice())?;
     assert!(rt; in_order.to_string(rt.alloc())?.as_str() == "(+ (* 7 2) 100)");
+    let ways = [
+        RightTokenAt(12),
+        Put(WORD, "100"),
+        RightTokenAt(6),
+        Put(WORD, "7"),
+    ];
+    assert!(rt; last_root(rt.alloc(), ways.as_slice()) == Ok(in_order));
     Ok(())
 }

@@ -1,14 +1,7 @@
-//! The symbols of a tree, and the tree that symbols spell.
+//! The tree that parts spell, without a builder.
+use crate::parts::Part;
 use rowan::{Fault, GreenElement, GreenNode, GreenToken, NodeOrToken, SyntaxKind};
-use std::alloc::Global;
-
-/// An opening, a token or a closing.
-#[derive(Clone, Copy)]
-pub enum Symbol {
-    Open(u16),
-    Leaf(u16, &'static str),
-    Close,
-}
+use std::alloc::{AllocError, Global};
 
 /// A node whose closing is still to come.
 #[derive(Drop)]
@@ -17,40 +10,58 @@ struct Frame {
     children: Vec<GreenElement>,
 }
 
-/// The first element that the symbols spell, by `GreenNode::new` and `GreenToken::new`.
-fn spell(alloc: Global, symbols: &[Symbol]) -> Result<Option<GreenElement>, Fault> {
-    let mut frames: Vec<Frame> = Vec::new(alloc);
-    for symbol in symbols {
-        let element = match *symbol {
-            Symbol::Open(kind) => {
-                let children = Vec::new(alloc);
-                frames.push(Frame { kind, children })?;
-                continue;
-            }
-            Symbol::Leaf(kind, text) => {
-                GreenElement::from(GreenToken::new(alloc, SyntaxKind(kind), text)?)
-            }
-            Symbol::Close => {
-                let Some(frame) = frames.pop() else {
-                    return Ok(None);
-                };
-                let Frame { kind, children } = frame;
-                GreenElement::from(GreenNode::new(alloc, SyntaxKind(kind), children)?)
-            }
-        };
-        match frames.last_mut() {
-            Some(frame) => frame.children.push(element)?,
-            None => return Ok(Some(element)),
+/// Puts an element below the innermost node that is open, or gives it where none is.
+fn put(frames: &mut Vec<Frame>, element: GreenElement) -> Result<Option<GreenElement>, AllocError> {
+    match frames.last_mut() {
+        Some(frame) => {
+            frame.children.push(element)?;
+            Ok(None)
         }
+        None => Ok(Some(element)),
     }
-    Ok(None)
 }
 
-/// The tree that the symbols spell.
-pub fn tree(alloc: Global, symbols: &[Symbol]) -> Result<GreenNode, Fault> {
-    match spell(alloc, symbols)? {
-        Some(NodeOrToken::Node(node)) => Ok(node),
-        Some(NodeOrToken::Token(_)) => Err(Fault::NotANode),
-        None => Err(Fault::NotOneElement),
+/// Spells one part, by `GreenNode::new` and `GreenToken::new`, and gives the element that is whole
+/// then and stands in no other.
+fn spell(
+    alloc: Global,
+    frames: &mut Vec<Frame>,
+    part: Part,
+) -> Result<Option<GreenElement>, Fault> {
+    let element = match part {
+        Part::Open(kind) => {
+            let children = Vec::new(alloc);
+            frames.push(Frame { kind, children })?;
+            return Ok(None);
+        }
+        Part::Leaf(kind, text) => {
+            GreenElement::from(GreenToken::new(alloc, SyntaxKind(kind), text)?)
+        }
+        Part::Close => {
+            let Some(frame) = frames.pop() else {
+                return Err(Fault::NotOneElement);
+            };
+            let Frame { kind, children } = frame;
+            GreenElement::from(GreenNode::new(alloc, SyntaxKind(kind), children)?)
+        }
+    };
+    Ok(put(frames, element)?)
+}
+
+/// The first element that the parts spell, if it is a node.
+fn first_node(alloc: Global, frames: &mut Vec<Frame>, parts: &[Part]) -> Result<GreenNode, Fault> {
+    for part in parts {
+        match spell(alloc, frames, *part)? {
+            Some(NodeOrToken::Node(node)) => return Ok(node),
+            Some(NodeOrToken::Token(_)) => return Err(Fault::NotANode),
+            None => {}
+        }
     }
+    Err(Fault::NotOneElement)
+}
+
+/// The tree that the parts spell.
+pub fn tree(alloc: Global, parts: &[Part]) -> Result<GreenNode, Fault> {
+    let mut frames = Vec::new(alloc);
+    first_node(alloc, &mut frames, parts)
 }

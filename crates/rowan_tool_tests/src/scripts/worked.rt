@@ -1,13 +1,13 @@
 //! Worked runs, with the answer to each call beside it.
+use crate::parts::Part::{self, Close, Open};
 use crate::scripts::math::{ADD, MATH, MUL, NUMBER, OPERATION, ROOT, WHITESPACE};
 use crate::scripts::run::{Run, with_cache, with_own_cache};
 use crate::scripts::step::Step::{Finish, Mark, Start, StartAtMark, Token};
-use crate::scripts::step::{Checkpoints, Step, script};
-use crate::scripts::word::Symbol::{self, Close, Open};
+use crate::scripts::step::{Step, call, checkpoint};
 use crate::scripts::word::tree;
 use rowan::script::{Call, Outcome};
 use rowan::{Fault, NodeCache};
-use std::alloc::Global;
+use std::alloc::{AllocError, Global};
 use std::test::Fail;
 
 /// The answer to a call.
@@ -58,52 +58,70 @@ const UNTAKEN_MARK: [(Step, Answer); 5] = [
 ];
 
 /// The calls that are answered.
-pub fn calls(alloc: Global, answered: &[(Step, Answer)]) -> Result<Vec<Call>, Fault> {
-    let mut steps = Vec::new(alloc);
+pub fn calls(alloc: Global, answered: &[(Step, Answer)]) -> Result<Vec<Call>, AllocError> {
+    let mut calls = Vec::new(alloc);
     for (step, _) in answered {
-        steps.push(*step)?;
+        calls.push(call(alloc, *step)?)?;
     }
-    script(alloc, steps.as_slice())
+    Ok(calls)
 }
 
-fn outcome(answer: Answer, checkpoints: &Checkpoints) -> Result<Outcome, Fault> {
+fn outcome(alloc: Global, answer: Answer) -> Result<Outcome, Fault> {
     match answer {
         Accepted => Ok(Outcome::Accepted),
-        Marked(count) => Ok(Outcome::Marked(checkpoints.at(count)?)),
+        Marked(count) => checkpoint(alloc, count).map(Outcome::Marked),
         Refused(fault) => Ok(Outcome::Refused(fault)),
     }
+}
+
+fn outcomes(alloc: Global, answered: &[(Step, Answer)]) -> Result<Vec<Outcome>, Fault> {
+    let mut outcomes = Vec::new(alloc);
+    for (_, answer) in answered {
+        outcomes.push(outcome(alloc, *answer)?)?;
+    }
+    Ok(outcomes)
 }
 
 /// What a run of the calls has to answer.
 pub fn expected_run(
     alloc: Global,
     answered: &[(Step, Answer)],
-    symbols: &[Symbol],
+    symbols: &[Part],
 ) -> Result<Run, Fault> {
-    let checkpoints = Checkpoints::new(alloc, 3)?;
-    let mut outcomes = Vec::new(alloc);
-    for (_, answer) in answered {
-        outcomes.push(outcome(*answer, &checkpoints)?)?;
+    let tree = tree(alloc, symbols)?;
+    let outcomes = outcomes(alloc, answered)?;
+    Ok(Run {
+        outcomes,
+        finished: Ok(tree),
+    })
+}
+
+/// Whether a run answered as expected.
+fn is_run(run: Result<Run, Fault>, expected: &Run) -> bool {
+    match run {
+        Ok(run) => run == *expected,
+        Err(_) => false,
     }
-    let finished = Ok(tree(alloc, symbols)?);
-    Ok(Run { outcomes, finished })
 }
 
 /// Whether the calls are answered so, with an own cache, and twice with a cache that both runs
 /// share.
+fn are_runs(alloc: Global, calls: &[Call], expected: &Run) -> bool {
+    let mut cache = NodeCache::new(alloc);
+    is_run(with_own_cache(alloc, calls), expected)
+        && is_run(with_cache(alloc, calls, &mut cache), expected)
+        && is_run(with_cache(alloc, calls, &mut cache), expected)
+}
+
+/// Whether all runs of the calls have these answers, and this tree.
 fn is_answered(
     alloc: Global,
     answered: &[(Step, Answer)],
-    symbols: &[Symbol],
+    symbols: &[Part],
 ) -> Result<bool, Fault> {
     let calls = calls(alloc, answered)?;
     let expected = expected_run(alloc, answered, symbols)?;
-    let mut cache = NodeCache::new(alloc);
-    Ok(
-        with_own_cache(alloc, calls.as_slice())? == expected
-            && with_cache(alloc, calls.as_slice(), &mut cache)? == expected
-            && with_cache(alloc, calls.as_slice(), &mut cache)? == expected,
-    )
+    Ok(are_runs(alloc, calls.as_slice(), &expected))
 }
 
 #[test]

@@ -1,7 +1,7 @@
 //! Replacements, and what typed cursors print.
 use super::{Element, Node, Token};
 use crate::parts::Part::{self, Close, Leaf, Open};
-use crate::parts::tree;
+use crate::parts::{shows, tree};
 use rowan::{Fault, GreenElement, GreenNode, GreenToken, SyntaxKind};
 use std::alloc::Global;
 use std::test::Fail;
@@ -67,7 +67,7 @@ fn typed_cursors_are_compared(rt: HostRuntime) -> Result<(), Fail> {
 fn typed_cursors_are_shown(rt: HostRuntime) -> Result<(), Fail> {
     let token = token(rt.alloc())?;
     assert!(rt; token.to_string(rt.alloc())?.as_str() == "a");
-    let shown = format!(in rt.alloc(); "{token:?}")?;
-    assert!(rt; shown.as_str() == "SyntaxToken { kind: Odd, text_range: 0..1 }");
+    let line = "SyntaxToken { kind: Odd, text_range: 0..1 }";
+    assert!(rt; shows(rt.alloc(), &token, line));
     Ok(())
 }

@@ -1,8 +1,7 @@
 //! Moves and searches.
-use super::{Answers, Element, Node, elements, is_element, nodes};
-use rowan::{Fault, NodeOrToken, TextRange, TypedElementCalls, cursor};
-use rowan_moves::{MOVES, Move, raw, typed};
-use std::test::Fail;
+use super::{Answers, Element, Node, is_found};
+use rowan::{Fault, NodeOrToken, TextRange, cursor};
+use rowan_moves::{Move, raw, typed};
 
 /// The moves that elements have.
 const OF_ELEMENTS: [Move; 4] = [
@@ -12,47 +11,25 @@ const OF_ELEMENTS: [Move; 4] = [
     Move::PrevSiblingOrToken,
 ];
 
-/// Compares where a move leads, and says whether it leads anywhere.
-fn add_move(answers: &mut Answers, way: Move, from: &cursor::SyntaxElement) -> Result<bool, Fault> {
-    let typed = Element::from_raw(from.clone()?);
-    let target = typed::target(way, &typed)?;
-    let leads = target.is_some();
-    answers.add(is_element(target, raw::target(way, from)?));
-    Ok(leads)
+/// Whether a move leads from a typed element where it does from the raw one.
+pub fn is_same(way: Move, typed: &Element, raw: &cursor::SyntaxElement) -> bool {
+    is_found(typed::target(way, typed), raw::target(way, raw))
+}
+
+/// Whether a move leads anywhere.
+pub fn leads(way: Move, from: &cursor::SyntaxElement) -> bool {
+    match raw::target(way, from) {
+        Ok(target) => target.is_some(),
+        Err(_) => false,
+    }
 }
 
 /// Compares where the moves of elements lead.
-fn add_moves_of_element(answers: &mut Answers, from: &cursor::SyntaxElement) -> Result<(), Fault> {
-    let typed = Element::from_raw(from.clone()?);
+pub fn add_of_element(answers: &mut Answers, typed: &Element, raw: &cursor::SyntaxElement) {
     for way in OF_ELEMENTS {
-        let target = typed::target_of_element(way, &typed)?;
-        answers.add(is_element(target, raw::target_of_element(way, from)?));
+        let target = typed::target_of_element(way, typed);
+        answers.add(is_found(target, raw::target_of_element(way, raw)));
     }
-    Ok(())
-}
-
-#[test]
-fn moves_lead_where_the_raw_ones_do(rt: HostRuntime) -> Result<(), Fail> {
-    let elements = elements(rt.alloc())?;
-    for way in MOVES {
-        let mut answers = Answers::new();
-        let mut leads = false;
-        for from in elements.iter() {
-            leads |= add_move(&mut answers, way, from)?;
-        }
-        assert!(rt; leads && answers.are_all_same(10));
-    }
-    Ok(())
-}
-
-#[test]
-fn moves_of_elements_lead_where_the_raw_ones_do(rt: HostRuntime) -> Result<(), Fail> {
-    let mut answers = Answers::new();
-    for from in elements(rt.alloc())? {
-        add_moves_of_element(&mut answers, &from)?;
-    }
-    assert!(rt; answers.are_all_same(10 * 4));
-    Ok(())
 }
 
 /// A search from a node.
@@ -86,7 +63,7 @@ fn typed_found(from: &Node, search: Search) -> Result<Option<Element>, Fault> {
         Search::Second => from.child_or_token_at_index(1),
         Search::AtRange => from.child_or_token_at_range(range),
         Search::AtStart => from.child_or_token_at_range(start_of(range)),
-        Search::Covering => Ok(Some(from.covering_element(range)?)),
+        Search::Covering => from.covering_element(range).map(Some),
         Search::RightOfStart => {
             let tokens = from.token_at_offset(range.start())?;
             Ok(tokens.right_biased().map(NodeOrToken::Token))
@@ -107,7 +84,7 @@ fn raw_found(
         Search::Second => from.child_or_token_at_index(1),
         Search::AtRange => from.child_or_token_at_range(range),
         Search::AtStart => from.child_or_token_at_range(start_of(range)),
-        Search::Covering => Ok(Some(from.covering_element(range)?)),
+        Search::Covering => from.covering_element(range).map(Some),
         Search::RightOfStart => {
             let tokens = from.token_at_offset(range.start())?;
             Ok(tokens.right_biased().map(NodeOrToken::Token))
@@ -119,20 +96,14 @@ fn raw_found(
     }
 }
 
-fn add_searches(answers: &mut Answers, from: &cursor::SyntaxNode) -> Result<(), Fault> {
-    let typed = Node::from(from.clone()?);
-    for search in SEARCHES {
-        answers.add(is_element(typed_found(&typed, search)?, raw_found(from, search)?));
+/// Compares what the searches from a node find.
+pub fn add_searches(answers: &mut Answers, typed: &Element, raw: &cursor::SyntaxElement) {
+    match (typed, raw) {
+        (NodeOrToken::Node(typed), NodeOrToken::Node(raw)) => {
+            for search in SEARCHES {
+                answers.add(is_found(typed_found(typed, search), raw_found(raw, search)));
+            }
+        }
+        (_, _) => {}
     }
-    Ok(())
-}
-
-#[test]
-fn searches_find_what_the_raw_ones_do(rt: HostRuntime) -> Result<(), Fail> {
-    let mut answers = Answers::new();
-    for from in nodes(rt.alloc())? {
-        add_searches(&mut answers, &from)?;
-    }
-    assert!(rt; answers.are_all_same(5 * 6));
-    Ok(())
 }

@@ -1,6 +1,7 @@
 //! Elements that are borrowed from their tree.
-use super::{Answers, Element, Node, elements, root_of};
+use super::{Answers, Element, Node, root_of};
 use crate::language::{Numbers, Parity};
+use crate::parts::shows;
 use rowan::api::PreorderRef;
 use rowan::ast::SyntaxNodePtr;
 use rowan::{
@@ -24,25 +25,18 @@ fn hash_of<T: Hash>(value: &T) -> u64 {
     state.finish()
 }
 
+/// Whether a borrowed element prints as the owned one does.
+fn prints_alike(alloc: Global, owned: &Element) -> Result<bool, AllocError> {
+    let line = format!(in alloc; "{owned:?}")?;
+    Ok(shows(alloc, &borrowed(owned), line.as_str()))
+}
+
 /// Compares what a borrowed element shows with what the owned one does.
-fn add_shown(alloc: Global, answers: &mut Answers, owned: &Element) -> Result<(), AllocError> {
+pub fn add_shown(alloc: Global, answers: &mut Answers, owned: &Element) {
     let borrowed = borrowed(owned);
     answers.add(borrowed.kind() == owned.kind());
     answers.add(hash_of(&borrowed) == hash_of(owned));
-    let line = format!(in alloc; "{borrowed:?}")?;
-    let shown = format!(in alloc; "{owned:?}")?;
-    answers.add(line == shown);
-    Ok(())
-}
-
-#[test]
-fn borrowed_elements_show_what_owned_ones_do(rt: HostRuntime) -> Result<(), Fail> {
-    let mut answers = Answers::new();
-    for raw in elements(rt.alloc())? {
-        add_shown(rt.alloc(), &mut answers, &Element::from_raw(raw))?;
-    }
-    assert!(rt; answers.are_all_same(10 * 3));
-    Ok(())
+    answers.add(prints_alike(alloc, owned) == Ok(true));
 }
 
 /// How many children are of each kind.
@@ -51,16 +45,12 @@ fn counts(node: SyntaxNodeRef<'_, Numbers>) -> (usize, usize) {
     (even, node.children().by_kind(Parity::Odd).count())
 }
 
-#[test]
-fn children_of_a_kind(rt: HostRuntime) -> Result<(), Fail> {
-    let root = Node::from(root_of(rt.alloc())?);
-    assert!(rt; counts(root.as_ref()) == (2, 1));
-    let token = root
-        .as_ref()
-        .first_token_of_kind(Parity::Odd)
-        .ok_or("no token")?;
-    assert!(rt; token.text() == "e");
-    Ok(())
+/// Whether the first token of a kind has this text.
+fn is_first_odd_token(root: SyntaxNodeRef<'_, Numbers>, text: &str) -> bool {
+    match root.first_token_of_kind(Parity::Odd) {
+        Some(token) => token.text() == text,
+        None => false,
+    }
 }
 
 /// The raw kinds of the first child of a kind and of the next sibling of the other one.
@@ -68,13 +58,6 @@ fn first_and_next(root: SyntaxNodeRef<'_, Numbers>) -> Option<(u16, u16)> {
     let first = root.first_child_by_kind(Parity::Odd)?;
     let next = first.next_sibling_by_kind(Parity::Even)?;
     Some((first.green().kind().0, next.green().kind().0))
-}
-
-#[test]
-fn the_first_child_of_a_kind(rt: HostRuntime) -> Result<(), Fail> {
-    let root = Node::from(root_of(rt.alloc())?);
-    assert!(rt; first_and_next(root.as_ref()) == Some((5, 6)));
-    Ok(())
 }
 
 /// How many events of a walk are left behind the first four, and behind a skip there.
@@ -96,13 +79,6 @@ fn events_left(walk: PreorderRef<'_, Numbers>) -> usize {
     count
 }
 
-#[test]
-fn a_skip_leaves_less(rt: HostRuntime) -> Result<(), Fail> {
-    let root = Node::from(root_of(rt.alloc())?);
-    assert!(rt; left_behind_four(root.as_ref()) == (6, 4));
-    Ok(())
-}
-
 /// Whether the pointer to the first odd child leads back to it.
 fn leads_back(root: SyntaxNodeRef<'_, Numbers>) -> bool {
     match root.first_child_by_kind(Parity::Odd) {
@@ -112,8 +88,12 @@ fn leads_back(root: SyntaxNodeRef<'_, Numbers>) -> bool {
 }
 
 #[test]
-fn a_pointer_leads_back(rt: HostRuntime) -> Result<(), Fail> {
+fn borrowed_cursors_find_kinds_skip_and_lead_back(rt: HostRuntime) -> Result<(), Fail> {
     let root = Node::from(root_of(rt.alloc())?);
+    assert!(rt; counts(root.as_ref()) == (2, 1));
+    assert!(rt; is_first_odd_token(root.as_ref(), "e"));
+    assert!(rt; first_and_next(root.as_ref()) == Some((5, 6)));
+    assert!(rt; left_behind_four(root.as_ref()) == (6, 4));
     assert!(rt; leads_back(root.as_ref()));
     Ok(())
 }

@@ -1,8 +1,7 @@
 //! What typed cursors show of themselves.
-use super::{Answers, Element, Node, Token, elements, is_node, nodes};
+use super::{Answers, Element, Node, Token};
 use crate::language::Parity;
-use rowan::{ElementCalls, Fault, NodeOrToken, SyntaxKind, TextRange, TypedElementCalls, cursor};
-use std::test::Fail;
+use rowan::{ElementCalls, Fault, NodeOrToken, SyntaxKind, TypedElementCalls, cursor};
 
 /// The kind that a raw kind means.
 fn parity_of(raw: SyntaxKind) -> Parity {
@@ -12,67 +11,43 @@ fn parity_of(raw: SyntaxKind) -> Parity {
     }
 }
 
-fn typed_value(of: &Element) -> (Parity, TextRange, usize) {
-    (of.kind(), of.text_range(), of.index())
+/// Whether the kinds, the ranges and the indices are the same.
+pub fn are_same(typed: &Element, raw: &cursor::SyntaxElement) -> bool {
+    typed.kind() == parity_of(raw.kind())
+        && typed.text_range() == raw.text_range()
+        && typed.index() == raw.index()
 }
 
-fn raw_value(of: &cursor::SyntaxElement) -> (Parity, TextRange, usize) {
-    (parity_of(of.kind()), of.text_range(), of.index())
-}
-
-#[test]
-fn kinds_ranges_and_indices_are_the_raw_ones(rt: HostRuntime) -> Result<(), Fail> {
-    let mut answers = Answers::new();
-    for raw in elements(rt.alloc())? {
-        let typed = Element::from_raw(raw.clone()?);
-        answers.add(typed_value(&typed) == raw_value(&raw));
+/// Whether a typed copy of a subtree is the raw one.
+fn is_copy(typed: Result<Node, Fault>, raw: Result<cursor::SyntaxNode, Fault>) -> bool {
+    match typed {
+        Ok(typed) => raw == Ok(cursor::SyntaxNode::from(typed)),
+        Err(_) => false,
     }
-    assert!(rt; answers.are_all_same(10));
-    Ok(())
 }
 
-fn is_text_the_same(typed: &Node, raw: &cursor::SyntaxNode) -> Result<bool, Fault> {
-    Ok(typed.text()? == raw.text()?)
-}
-
-fn is_subtree_the_same(typed: &Node, raw: &cursor::SyntaxNode) -> Result<bool, Fault> {
-    let copy = Some(typed.clone_subtree()?);
-    Ok(is_node(copy, Some(raw.clone_subtree()?)))
-}
-
-fn add_values_of_node(answers: &mut Answers, raw: &cursor::SyntaxNode) -> Result<(), Fault> {
-    let typed = Node::from(raw.clone()?);
+fn add_own_of_node(answers: &mut Answers, typed: &Node, raw: &cursor::SyntaxNode) {
     answers.add(typed.green() == raw.green());
-    answers.add(is_text_the_same(&typed, raw)?);
-    answers.add(is_subtree_the_same(&typed, raw)?);
-    Ok(())
+    answers.add(typed.text() == raw.text() && raw.text().is_ok());
+    answers.add(is_copy(typed.clone_subtree(), raw.clone_subtree()));
 }
 
-#[test]
-fn values_of_nodes_are_the_raw_ones(rt: HostRuntime) -> Result<(), Fail> {
-    let mut answers = Answers::new();
-    for raw in nodes(rt.alloc())? {
-        add_values_of_node(&mut answers, &raw)?;
-    }
-    assert!(rt; answers.are_all_same(5 * 3));
-    Ok(())
-}
-
-fn add_values_of_token(answers: &mut Answers, raw: &cursor::SyntaxToken) -> Result<(), Fault> {
-    let typed = Token::from(raw.clone()?);
+fn add_own_of_token(answers: &mut Answers, typed: &Token, raw: &cursor::SyntaxToken) {
     answers.add(typed.green() == raw.green());
     answers.add(typed.text() == raw.text());
-    Ok(())
+    match raw.clone() {
+        Ok(copy) => answers.add(Token::from(copy) == *typed),
+        Err(_) => answers.add(false),
+    }
 }
 
-#[test]
-fn values_of_tokens_are_the_raw_ones(rt: HostRuntime) -> Result<(), Fail> {
-    let mut answers = Answers::new();
-    for raw in elements(rt.alloc())? {
-        if let NodeOrToken::Token(raw) = raw {
-            add_values_of_token(&mut answers, &raw)?;
+/// Compares what nodes and tokens have of their own.
+pub fn add_own(answers: &mut Answers, typed: &Element, raw: &cursor::SyntaxElement) {
+    match (typed, raw) {
+        (NodeOrToken::Node(typed), NodeOrToken::Node(raw)) => add_own_of_node(answers, typed, raw),
+        (NodeOrToken::Token(typed), NodeOrToken::Token(raw)) => {
+            add_own_of_token(answers, typed, raw)
         }
+        (_, _) => answers.add(false),
     }
-    assert!(rt; answers.are_all_same(5 * 2));
-    Ok(())
 }

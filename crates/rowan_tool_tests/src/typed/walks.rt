@@ -6,33 +6,42 @@ use rowan::{Fault, WalkEvent, cursor};
 use std::test::Fail;
 
 /// Whether an event is the raw one.
-fn is_node_event(typed: WalkEvent<Node>, raw: WalkEvent<cursor::SyntaxNode>) -> bool {
+fn is_node_event(
+    typed: Result<WalkEvent<Node>, Fault>,
+    raw: Result<WalkEvent<cursor::SyntaxNode>, Fault>,
+) -> bool {
     match (typed, raw) {
-        (WalkEvent::Enter(typed), WalkEvent::Enter(raw)) => is_node(Some(typed), Some(raw)),
-        (WalkEvent::Leave(typed), WalkEvent::Leave(raw)) => is_node(Some(typed), Some(raw)),
+        (Ok(typed), Ok(raw)) => match (typed, raw) {
+            (WalkEvent::Enter(typed), WalkEvent::Enter(raw)) => is_node(typed, raw),
+            (WalkEvent::Leave(typed), WalkEvent::Leave(raw)) => is_node(typed, raw),
+            (_, _) => false,
+        },
         (_, _) => false,
     }
 }
 
 /// Whether an event is the raw one.
-fn is_event(typed: WalkEvent<Element>, raw: WalkEvent<cursor::SyntaxElement>) -> bool {
+fn is_event(
+    typed: Result<WalkEvent<Element>, Fault>,
+    raw: Result<WalkEvent<cursor::SyntaxElement>, Fault>,
+) -> bool {
     match (typed, raw) {
-        (WalkEvent::Enter(typed), WalkEvent::Enter(raw)) => is_element(Some(typed), Some(raw)),
-        (WalkEvent::Leave(typed), WalkEvent::Leave(raw)) => is_element(Some(typed), Some(raw)),
+        (Ok(typed), Ok(raw)) => match (typed, raw) {
+            (WalkEvent::Enter(typed), WalkEvent::Enter(raw)) => is_element(typed, raw),
+            (WalkEvent::Leave(typed), WalkEvent::Leave(raw)) => is_element(typed, raw),
+            (_, _) => false,
+        },
         (_, _) => false,
     }
 }
 
-#[test]
-fn walks_are_the_raw_ones(rt: HostRuntime) -> Result<(), Fail> {
+/// Compares a walk over the nodes.
+fn walk_answers(typed: &Node, raw: &cursor::SyntaxNode) -> Answers {
     let mut answers = Answers::new();
-    let raw = root_of(rt.alloc())?;
-    let typed = Node::from(raw.clone()?);
     for (typed, raw) in typed.preorder().zip(raw.preorder()) {
-        answers.add(is_node_event(typed?, raw?));
+        answers.add(is_node_event(typed, raw));
     }
-    assert!(rt; answers.are_all_same(10));
-    Ok(())
+    answers
 }
 
 /// What is left of a walk once the subtree of its second event is skipped.
@@ -53,14 +62,20 @@ fn raw_walk_with_skip(root: &cursor::SyntaxNode) -> cursor::PreorderWithTokens {
     walk
 }
 
-#[test]
-fn skips_are_the_raw_ones(rt: HostRuntime) -> Result<(), Fail> {
+/// Compares what is left of walks.
+fn skip_answers(typed: &Node, raw: &cursor::SyntaxNode) -> Result<Answers, Fault> {
     let mut answers = Answers::new();
+    for (typed, raw) in walk_with_skip(typed)?.zip(raw_walk_with_skip(raw)) {
+        answers.add(is_event(typed, raw));
+    }
+    Ok(answers)
+}
+
+#[test]
+fn walks_and_skips_are_the_raw_ones(rt: HostRuntime) -> Result<(), Fail> {
     let raw = root_of(rt.alloc())?;
     let typed = Node::from(raw.clone()?);
-    for (typed, raw) in walk_with_skip(&typed)?.zip(raw_walk_with_skip(&raw)) {
-        answers.add(is_event(typed?, raw?));
-    }
-    assert!(rt; answers.are_all_same(16));
+    assert!(rt; walk_answers(&typed, &raw).are_all_same(10));
+    assert!(rt; skip_answers(&typed, &raw)?.are_all_same(16));
     Ok(())
 }
