@@ -1,143 +1,227 @@
-//! Other orders of children beside edits, in JSON texts.
-use crate::json::{Node, root_of};
+//! Edits of JSON texts by typed cursors, and other orders of children beside them.
+use crate::fixture::{has_text, old_pieces};
+use crate::json::{Answer, Editor, Node, root_of};
 use json_syntax::{Json, Kind};
-use rowan::{GreenNode, SyntaxNode};
-use rowan_edit::{EditError, Piece, Position, Refusal, SyntaxEditor};
-use std::alloc::{AllocError, Global};
+use rowan::{NodeOrToken, SyntaxNode};
+use rowan_edit::{EditError, Edited, Piece, Position, Refusal, SyntaxEditor};
+use std::alloc::Global;
 use std::test::Fail;
 
-type Editor = SyntaxEditor<Json>;
-
-type Answer = Result<(), EditError>;
-
 /// The node of a kind at an index among all of that kind, or else the root.
-fn nth<'tree>(root: &'tree SyntaxNode<Json>, kind: Kind, index: usize) -> Node<'tree> {
-    let mut found = root.as_ref().descendants().by_kind(kind);
-    found.nth(index).unwrap_or(root.as_ref())
-}
+#[derive(Clone, Copy)]
+pub struct At(pub Kind, pub usize);
 
-/// Gives a node the children at these indexes.
-fn arrange(editor: &mut Editor, node: Node<'_>, indexes: &[usize]) -> Answer {
-    let mut pieces = Vec::new(editor.allocator());
-    for index in indexes {
-        pieces.push(Piece::Old(*index))?;
+impl At {
+    pub fn node<'tree>(self, root: &'tree SyntaxNode<Json>) -> Node<'tree> {
+        let mut found = root.as_ref().descendants().by_kind(self.0);
+        found.nth(self.1).unwrap_or(root.as_ref())
     }
-    editor.replace_children(node, pieces)
 }
 
-fn has_text(alloc: Global, tree: &GreenNode, text: &str) -> Result<bool, AllocError> {
-    Ok(tree.to_string(alloc)?.as_str() == text)
+/// A position at a node.
+#[derive(Clone, Copy)]
+pub enum Place {
+    Before,
+    After,
+    FirstChild,
+    LastChild,
+}
+
+impl Place {
+    fn of(self, node: Node<'_>) -> Position<'_, Json> {
+        match self {
+            Place::Before => Position::before(node),
+            Place::After => Position::after(NodeOrToken::Node(node)),
+            Place::FirstChild => Position::first_child_of(node),
+            Place::LastChild => Position::last_child_of(node),
+        }
+    }
+}
+
+#[derive(Clone, Copy)]
+pub enum Edit {
+    /// Gives a node the children at these indexes.
+    Arrange(At, &'static [usize]),
+    /// Gives a node its children 3 and 1, a new semicolon and the child 1 once more.
+    Mix(At),
+    Delete(At),
+    DeleteRoot,
+    /// Takes children away, from one index to another.
+    Cut(At, usize, usize),
+    /// Puts nothing in place of a node.
+    ReplaceByNothing(At),
+    /// Puts another node in place of the first one, too.
+    ReplaceByOther(At, At),
+    InsertNothing(Place, At),
+    InsertZero(Place, At),
+}
+
+impl Edit {
+    /// Makes the edit in the tree with this root.
+    fn make(self, editor: &mut Editor, root: &SyntaxNode<Json>) -> Answer {
+        match self {
+            Edit::Arrange(at, indexes) => {
+                let pieces = old_pieces(editor.allocator(), indexes)?;
+                editor.replace_children(at.node(root), pieces)
+            }
+            Edit::Mix(at) => mix(editor, at.node(root)),
+            Edit::Delete(at) => editor.delete(at.node(root)),
+            Edit::DeleteRoot => editor.delete(root),
+            Edit::Cut(at, start, end) => editor.splice(at.node(root), start..end, ()),
+            Edit::ReplaceByNothing(at) => editor.replace(at.node(root), ()),
+            Edit::ReplaceByOther(at, other) => editor.replace(at.node(root), other.node(root)),
+            Edit::InsertNothing(place, at) => editor.insert(place.of(at.node(root)), ()),
+            Edit::InsertZero(place, at) => {
+                let zero = editor.token(Kind::Number, "0")?;
+                editor.insert(place.of(at.node(root)), zero)
+            }
+        }
+    }
 }
 
 /// Another order with a new child, one child twice, and two that are taken away.
-fn reordered(alloc: Global, root: &SyntaxNode<Json>) -> Result<GreenNode, EditError> {
-    let mut editor: Editor = SyntaxEditor::new(alloc, root.as_ref())?;
-    let new = editor.token(Kind::Comma, ";")?;
-    let pieces = vec![in alloc;
-        Piece::Old(3),
-        Piece::Old(1),
-        Piece::New(new),
-        Piece::Old(1),
-    ]?;
-    editor.replace_children(nth(root, Kind::Array, 0), pieces)?;
-    Ok(editor.finish()?.green)
+fn mix(editor: &mut Editor, node: Node<'_>) -> Answer {
+    let mut pieces = old_pieces(editor.allocator(), &[3, 1])?;
+    pieces.push(Piece::New(editor.token(Kind::Comma, ";")?))?;
+    pieces.push(Piece::Old(1))?;
+    editor.replace_children(node, pieces)
 }
 
+/// An edit, and what the editor answers.
+pub type Row = (Edit, Answer);
+
+/// Whether an editor answers so to edits in the tree with this root.
+fn answers(editor: &mut Editor, root: &SyntaxNode<Json>, rows: &[Row]) -> bool {
+    for (edit, answer) in rows {
+        if edit.make(editor, root) != *answer {
+            return false;
+        }
+    }
+    true
+}
+
+/// What edits make of a text, after edits in the tree of another text. Refused where the editor
+/// answers otherwise than it should.
+pub fn made(
+    alloc: Global,
+    text: &str,
+    in_other: &[Row],
+    rows: &[Row],
+) -> Result<Edited, EditError> {
+    let root = root_of(alloc, text)?;
+    let other = root_of(alloc, "[2]")?;
+    let mut editor: Editor = SyntaxEditor::new(alloc, root.as_ref())?;
+    if answers(&mut editor, &other, in_other) && answers(&mut editor, &root, rows) {
+        editor.finish()
+    } else {
+        Err(EditError::NoSuchNode)
+    }
+}
+
+/// Whether all answers are as they should be, and edits make this text of another one.
+pub fn makes(alloc: Global, text: &str, rows: &[Row], new: &str) -> bool {
+    match made(alloc, text, &[], rows) {
+        Ok(edited) => has_text(alloc, &edited.green, new),
+        Err(_) => false,
+    }
+}
+
+const CONFLICT: Answer = Err(EditError::Refused(Refusal::Conflict));
+
+const ROOT: At = At(Kind::Root, 0);
+
+const ARRAY: At = At(Kind::Array, 0);
+
+const INNER: At = At(Kind::Array, 1);
+
+const MIX: [Row; 1] = [(Edit::Mix(ARRAY), Ok(()))];
+
 #[test]
-fn replaces_children(rt: HostRuntime) -> Result<(), Fail> {
-    let alloc = rt.alloc();
-    let root = root_of(alloc, "[1,2]")?;
-    assert!(rt; has_text(alloc, &reordered(alloc, &root)?, "21;1")?);
-    Ok(())
+fn replaces_children(rt: HostRuntime) {
+    assert!(rt; makes(rt.alloc(), "[1,2]", &MIX, "21;1"));
 }
 
 /// The arrays in reverse order, the inner ones too, and an edit in the innermost one: that edit and
-/// the arrangements in the order of their nodes, or the other way round.
-fn nested(alloc: Global, root: &SyntaxNode<Json>, back: bool) -> Result<GreenNode, EditError> {
-    let mut editor: Editor = SyntaxEditor::new(alloc, root.as_ref())?;
-    let mut indexes = [3, 0, 1, 2];
-    if back {
-        indexes.reverse();
-    }
-    for index in indexes {
-        match index {
-            3 => edit_innermost(&mut editor, root)?,
-            2 => arrange(&mut editor, nth(root, Kind::Array, 2), &[2, 1, 0])?,
-            _ => arrange(&mut editor, nth(root, Kind::Array, index), &[4, 3, 2, 1, 0])?,
-        }
-    }
-    Ok(editor.finish()?.green)
-}
+/// the arrangements in the order of their nodes, and the other way round.
+const NESTED: [Row; 4] = [
+    (
+        Edit::InsertZero(Place::FirstChild, At(Kind::Literal, 2)),
+        Ok(()),
+    ),
+    (Edit::Arrange(ARRAY, &[4, 3, 2, 1, 0]), Ok(())),
+    (Edit::Arrange(INNER, &[4, 3, 2, 1, 0]), Ok(())),
+    (Edit::Arrange(At(Kind::Array, 2), &[2, 1, 0]), Ok(())),
+];
 
-fn edit_innermost(editor: &mut Editor, root: &SyntaxNode<Json>) -> Answer {
-    let literal = nth(root, Kind::Literal, 2);
-    let zero = editor.token(Kind::Number, "0")?;
-    editor.insert(Position::first_child_of(literal), zero)
-}
+const NESTED_BACK: [Row; 4] = [
+    (Edit::Arrange(At(Kind::Array, 2), &[2, 1, 0]), Ok(())),
+    (Edit::Arrange(INNER, &[4, 3, 2, 1, 0]), Ok(())),
+    (Edit::Arrange(ARRAY, &[4, 3, 2, 1, 0]), Ok(())),
+    (
+        Edit::InsertZero(Place::FirstChild, At(Kind::Literal, 2)),
+        Ok(()),
+    ),
+];
 
 #[test]
-fn replaces_children_in_children(rt: HostRuntime) -> Result<(), Fail> {
-    let alloc = rt.alloc();
-    let root = root_of(alloc, "[1,[2,[3]]]")?;
-    assert!(rt; has_text(alloc, &nested(alloc, &root, false)?, "]]]03[,2[,1[")?);
-    assert!(rt; has_text(alloc, &nested(alloc, &root, true)?, "]]]03[,2[,1[")?);
-    Ok(())
+fn replaces_children_in_children(rt: HostRuntime) {
+    assert!(rt; makes(rt.alloc(), "[1,[2,[3]]]", &NESTED, "]]]03[,2[,1["));
+    assert!(rt; makes(rt.alloc(), "[1,[2,[3]]]", &NESTED_BACK, "]]]03[,2[,1["));
 }
+
+const TAKEN: [Row; 2] = [
+    (Edit::Delete(At(Kind::Literal, 1)), Ok(())),
+    (Edit::Arrange(ROOT, &[]), Ok(())),
+];
 
 /// The children of the root are taken away with the edits in them; a change is that of all.
 #[test]
 fn takes_edits_away(rt: HostRuntime) -> Result<(), Fail> {
     let alloc = rt.alloc();
-    let root = root_of(alloc, "[1,2]")?;
-    let mut editor: Editor = SyntaxEditor::new(alloc, root.as_ref())?;
-    editor.delete(nth(&root, Kind::Literal, 1))?;
-    arrange(&mut editor, root.as_ref(), &[])?;
-    let edited = editor.finish()?;
-    assert!(rt; has_text(alloc, &edited.green, "")?);
+    let edited = made(alloc, "[1,2]", &[], &TAKEN)?;
+    assert!(rt; has_text(alloc, &edited.green, ""));
     assert!(rt; edited.changes.as_slice().len() == 1);
     assert!(rt; edited.moved_path(alloc, &[0])?.is_none());
     Ok(())
 }
 
-fn is_conflict(answer: Answer) -> bool {
-    answer == Err(EditError::Refused(Refusal::Conflict))
-}
+const IN_OTHER: [Row; 1] = [(
+    Edit::Arrange(ARRAY, &[9]),
+    Err(EditError::Refused(Refusal::OtherTree)),
+)];
+
+const REFUSED: [Row; 7] = [
+    (
+        Edit::Arrange(ARRAY, &[0, 5]),
+        Err(EditError::Refused(Refusal::NotFound)),
+    ),
+    (Edit::InsertNothing(Place::LastChild, ARRAY), Ok(())),
+    (Edit::Arrange(ARRAY, &[0]), CONFLICT),
+    (Edit::Delete(INNER), Ok(())),
+    (Edit::Arrange(INNER, &[0]), CONFLICT),
+    (Edit::Arrange(ROOT, &[0]), Ok(())),
+    (Edit::Arrange(ROOT, &[0]), CONFLICT),
+];
 
 #[test]
 fn refuses_arrangements(rt: HostRuntime) -> Result<(), Fail> {
     let alloc = rt.alloc();
-    let root = root_of(alloc, "[1,[2]]")?;
-    let other = root_of(alloc, "[2]")?;
-    let array = nth(&root, Kind::Array, 0);
-    let inner = nth(&root, Kind::Array, 1);
-    let mut editor: Editor = SyntaxEditor::new(alloc, root.as_ref())?;
-    let refused = arrange(&mut editor, nth(&other, Kind::Array, 0), &[9]);
-    assert!(rt; refused == Err(EditError::Refused(Refusal::OtherTree)));
-    let refused = arrange(&mut editor, array, &[0, 5]);
-    assert!(rt; refused == Err(EditError::Refused(Refusal::NotFound)));
-    editor.insert(Position::last_child_of(array), ())?;
-    assert!(rt; is_conflict(arrange(&mut editor, array, &[0])));
-    editor.delete(inner)?;
-    assert!(rt; is_conflict(arrange(&mut editor, inner, &[0])));
-    arrange(&mut editor, root.as_ref(), &[0])?;
-    assert!(rt; is_conflict(arrange(&mut editor, root.as_ref(), &[0])));
+    let edited = made(alloc, "[1,[2]]", &IN_OTHER, &REFUSED)?;
+    assert!(rt; has_text(alloc, &edited.green, "[1,]"));
     Ok(())
 }
 
+const AROUND_ARRANGED: [Row; 7] = [
+    (Edit::Arrange(INNER, &[2, 1, 0]), Ok(())),
+    (Edit::InsertNothing(Place::FirstChild, INNER), CONFLICT),
+    (Edit::Delete(At(Kind::Literal, 1)), CONFLICT),
+    (Edit::Delete(INNER), CONFLICT),
+    (Edit::ReplaceByNothing(ARRAY), CONFLICT),
+    (Edit::InsertNothing(Place::Before, INNER), Ok(())),
+    (Edit::Delete(At(Kind::Literal, 2)), Ok(())),
+];
+
 #[test]
-fn refuses_edits_of_arranged_nodes(rt: HostRuntime) -> Result<(), Fail> {
-    let alloc = rt.alloc();
-    let root = root_of(alloc, "[1,[2],3]")?;
-    let array = nth(&root, Kind::Array, 0);
-    let inner = nth(&root, Kind::Array, 1);
-    let mut editor: Editor = SyntaxEditor::new(alloc, root.as_ref())?;
-    arrange(&mut editor, inner, &[2, 1, 0])?;
-    assert!(rt; is_conflict(editor.insert(Position::first_child_of(inner), ())));
-    assert!(rt; is_conflict(editor.delete(nth(&root, Kind::Literal, 1))));
-    assert!(rt; is_conflict(editor.delete(inner)));
-    assert!(rt; is_conflict(editor.replace(array, ())));
-    editor.insert(Position::before(inner), ())?;
-    editor.delete(nth(&root, Kind::Literal, 2))?;
-    assert!(rt; has_text(alloc, &editor.finish()?.green, "[1,]2[,]")?);
-    Ok(())
+fn refuses_edits_of_arranged_nodes(rt: HostRuntime) {
+    assert!(rt; makes(rt.alloc(), "[1,[2],3]", &AROUND_ARRANGED, "[1,]2[,]"));
 }

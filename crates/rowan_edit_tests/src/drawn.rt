@@ -1,9 +1,9 @@
 //! Drawn lists of edits: each new tree and its text beside plain models. That of the text has the
 //! old text and the ranges of the accepted edits, found by hand.
-use crate::fixture::{LIST, WORD, tree};
+use crate::fixture::{LIST, new_word, range, tree, words};
 use crate::plain::Plain;
-use rowan::{Fault, GreenElement, GreenNode, GreenToken, NodeOrToken, TextRange, TextSize};
-use rowan_edit::{Change, Changes, Edited, GreenEditor, Refusal};
+use rowan::{Fault, GreenNode, NodeOrToken};
+use rowan_edit::{Change, Changes, Edited, GreenEditor, Refusal, TextEdit};
 use std::alloc::Global;
 use std::test::Fail;
 
@@ -11,22 +11,34 @@ const TEXT: &str = "abcdefgabcde";
 
 const TEXT_LEN: u32 = 12;
 
-/// The nodes of the tree.
-pub const PATHS: [&[usize]; 7] = [&[], &[0], &[0, 1], &[0, 1, 1], &[2], &[2, 1], &[2, 1, 1]];
+/// The path of a node of the tree, and the offsets of the borders between its children and of both
+/// its ends.
+type Borders = (&'static [usize], &'static [u32]);
 
-/// The offsets of the borders between the children of each node, and of both its ends.
-pub const BORDERS: [&[u32]; 7] = [
-    &[0, 5, 7, 12],
-    &[0, 1, 4, 4, 5],
-    &[1, 2, 2, 4],
-    &[2],
-    &[7, 8, 11, 11, 12],
-    &[8, 9, 9, 11],
-    &[9],
+const NODES: [Borders; 7] = [
+    (&[], &[0, 5, 7, 12]),
+    (&[0], &[0, 1, 4, 4, 5]),
+    (&[0, 1], &[1, 2, 2, 4]),
+    (&[0, 1, 1], &[2]),
+    (&[2], &[7, 8, 11, 11, 12]),
+    (&[2, 1], &[8, 9, 9, 11]),
+    (&[2, 1, 1], &[9]),
 ];
 
 /// What comes in place of children.
 const WORDS: [&[&str]; 6] = [&[], &[""], &["x"], &["", "yz"], &["v", "w"], &["123"]];
+
+/// Indexes of children. No node has a child at the last one.
+const ORDERS: [&[usize]; 8] = [
+    &[],
+    &[0],
+    &[1, 0],
+    &[2, 1, 0],
+    &[0, 0],
+    &[2, 0, 1],
+    &[3, 2, 1, 0],
+    &[0, 4],
+];
 
 /// Numbers that look random, the same ones in each run.
 #[derive(Drop)]
@@ -46,38 +58,55 @@ impl Draws {
     }
 }
 
-/// An edit that was accepted: which children of a node give way, where it stands among others, its
-/// range in the old text, and the words that come there.
+/// What a step puts in place of children of a node: words, or those of its children that stand at
+/// these indexes.
 #[derive(Clone, Copy)]
-pub struct Accepted {
+pub enum Instead {
+    Words(&'static [&'static str]),
+    Order(&'static [usize]),
+}
+
+impl Instead {
+    fn texts(self) -> &'static [&'static str] {
+        match self {
+            Instead::Words(texts) => texts,
+            Instead::Order(_) => &[],
+        }
+    }
+}
+
+/// A step: which children of a node give way, where it stands among others, its range in the old
+/// text, and what comes there.
+#[derive(Clone, Copy)]
+pub struct Step {
     pub path: &'static [usize],
     pub first: usize,
     pub last: usize,
-    pub place: usize,
+    place: usize,
     start: u32,
     end: u32,
-    pub words: &'static [&'static str],
+    pub instead: Instead,
 }
+
+/// A word, or else a tree.
+const CHILDREN: [Option<&str>; 3] = [None, Some("fg"), None];
 
 /// `LIST[tree "fg" tree]`
 pub fn list(alloc: Global) -> Result<GreenNode, Fault> {
-    let middle = NodeOrToken::Token(GreenToken::new(alloc, WORD, "fg")?);
-    let first = NodeOrToken::Node(tree(alloc)?);
-    let last = NodeOrToken::Node(tree(alloc)?);
-    GreenNode::new(alloc, LIST, vec![in alloc; first, middle, last]?)
-}
-
-pub fn tokens(alloc: Global, texts: &[&str]) -> Result<Vec<GreenElement>, Fault> {
-    let mut all = Vec::new(alloc);
-    for text in texts {
-        all.push(NodeOrToken::Token(GreenToken::new(alloc, WORD, text)?))?;
+    let mut children = Vec::new(alloc);
+    for text in CHILDREN {
+        let child = match text {
+            Some(text) => new_word(alloc, text),
+            None => tree(alloc).map(NodeOrToken::Node),
+        };
+        children.push(child?)?;
     }
-    Ok(all)
+    GreenNode::new(alloc, LIST, children)
 }
 
-/// The indexes on the way to an edit, where it starts and where it ends, as the digits of a number:
-/// edits in the order of these numbers are in that of their places.
-pub fn place(path: &[usize], start: usize, end: usize) -> usize {
+/// The indexes on the way to a step, where it starts and where it ends, as the digits of a number:
+/// steps in the order of these numbers are in that of their places.
+fn place(path: &[usize], start: usize, end: usize) -> usize {
     let mut number: usize = 0;
     for depth in 0..5 {
         let digit = match path.get(depth) {
@@ -90,35 +119,53 @@ pub fn place(path: &[usize], start: usize, end: usize) -> usize {
     number.wrapping_mul(8).wrapping_add(end)
 }
 
-/// Draws an edit of the children of a node.
-pub fn draw_edit(draws: &mut Draws) -> Option<Accepted> {
-    let node = draws.below(PATHS.len());
-    let Some(path) = PATHS.get(node) else {
+fn step_at(node: Borders, first: usize, last: usize, instead: Instead) -> Option<Step> {
+    let (path, borders) = node;
+    match (borders.get(first), borders.get(last)) {
+        (Some(start), Some(end)) => Some(Step {
+            path,
+            first,
+            last,
+            place: place(path, first, last),
+            start: *start,
+            end: *end,
+            instead,
+        }),
+        _ => None,
+    }
+}
+
+/// Draws words in place of children of a node.
+pub fn draw_words(draws: &mut Draws) -> Option<Step> {
+    let Some(node) = NODES.get(draws.below(NODES.len())) else {
         return None;
     };
-    let Some(borders) = BORDERS.get(node) else {
+    let count = node.1.len();
+    let first = draws.below(count);
+    let last = first.wrapping_add(draws.below(count.wrapping_sub(first)));
+    match WORDS.get(draws.below(WORDS.len())) {
+        Some(words) => step_at(*node, first, last, Instead::Words(*words)),
+        None => None,
+    }
+}
+
+/// Draws another order of the children of a node.
+pub fn draw_order(draws: &mut Draws) -> Option<Step> {
+    let Some(node) = NODES.get(draws.below(NODES.len())) else {
         return None;
     };
-    let first = draws.below(borders.len());
-    let last = first.wrapping_add(draws.below(borders.len().wrapping_sub(first)));
-    let Some(start) = borders.get(first) else {
-        return None;
-    };
-    let Some(end) = borders.get(last) else {
-        return None;
-    };
-    let Some(words) = WORDS.get(draws.below(WORDS.len())) else {
-        return None;
-    };
-    Some(Accepted {
-        path: *path,
-        first,
-        last,
-        place: place(path, first, last),
-        start: *start,
-        end: *end,
-        words: *words,
-    })
+    let count = node.1.len().saturating_sub(1);
+    match ORDERS.get(draws.below(ORDERS.len())) {
+        Some(indexes) => step_at(*node, 0, count, Instead::Order(*indexes)),
+        None => None,
+    }
+}
+
+/// Puts a step among others in the order of their places, behind those in the same place.
+pub fn keep(kept: &mut Vec<Step>, step: Step) -> Result<(), Fault> {
+    let index = kept.partition_point(|other| other.place <= step.place);
+    kept.insert(index, step)?;
+    Ok(())
 }
 
 /// Draws an edit, and keeps it where the editor takes it.
@@ -126,50 +173,51 @@ fn draw(
     alloc: Global,
     draws: &mut Draws,
     editor: &mut GreenEditor,
-    kept: &mut Vec<Accepted>,
+    kept: &mut Vec<Step>,
 ) -> Result<(), Fault> {
-    let Some(edit) = draw_edit(draws) else {
+    let Some(edit) = draw_words(draws) else {
         return Ok(());
     };
-    match editor.splice(edit.path, edit.first..edit.last, tokens(alloc, edit.words)?) {
+    let new = words(alloc, edit.instead.texts())?;
+    match editor.splice(edit.path, edit.first..edit.last, new) {
         Ok(()) => keep(kept, edit),
         Err(Refusal::Conflict) => Ok(()),
         Err(_) => Err(Fault::NotFound),
     }
 }
 
-/// Puts an edit among others in the order of their places, behind those in the same place.
-fn keep(kept: &mut Vec<Accepted>, accepted: Accepted) -> Result<(), Fault> {
-    let index = kept.partition_point(|other| other.place <= accepted.place);
-    kept.insert(index, accepted)?;
-    Ok(())
+/// What a drawn list of edits makes of the tree.
+fn draw_all(alloc: Global, draws: &mut Draws, kept: &mut Vec<Step>) -> Result<Edited, Fault> {
+    let mut editor = GreenEditor::new(alloc, &list(alloc)?)?;
+    for _ in 0..draws.below(7) {
+        draw(alloc, draws, &mut editor, kept)?;
+    }
+    editor.finish()
 }
 
-/// The bytes of a new text, and for each the offset in the old text that it came from, if any; and
-/// where the edits start, which may put no bytes.
+/// The bytes of a new text, and for each the offset in the old text that it came from, if any.
 #[derive(Drop)]
 struct Model {
-    bytes: Vec<u8>,
-    origins: Vec<Option<u32>>,
-    starts: Vec<u32>,
+    bytes: Vec<(u8, Option<u32>)>,
 }
 
 impl Model {
-    fn of(alloc: Global, kept: &[Accepted]) -> Result<Model, Fault> {
+    fn of(alloc: Global, kept: &[Step]) -> Result<Model, Fault> {
         let mut model = Model {
             bytes: Vec::new(alloc),
-            origins: Vec::new(alloc),
-            starts: Vec::new(alloc),
         };
+        model.push_all(kept)?;
+        Ok(model)
+    }
+
+    fn push_all(&mut self, kept: &[Step]) -> Result<(), Fault> {
         let mut at = 0;
         for edit in kept {
-            model.push_old(at, edit.start)?;
-            model.push_words(edit.words)?;
-            model.starts.push(edit.start)?;
+            self.push_old(at, edit.start)?;
+            self.push_words(edit.instead.texts())?;
             at = edit.end;
         }
-        model.push_old(at, TEXT_LEN)?;
-        Ok(model)
+        self.push_old(at, TEXT_LEN)
     }
 
     fn push_old(&mut self, start: u32, end: u32) -> Result<(), Fault> {
@@ -177,8 +225,7 @@ impl Model {
             let Some(byte) = TEXT.as_bytes().get(offset as usize) else {
                 return Ok(());
             };
-            self.bytes.push(*byte)?;
-            self.origins.push(Some(offset))?;
+            self.bytes.push((*byte, Some(offset)))?;
         }
         Ok(())
     }
@@ -186,44 +233,56 @@ impl Model {
     fn push_words(&mut self, words: &[&str]) -> Result<(), Fault> {
         for word in words {
             for byte in word.as_bytes() {
-                self.bytes.push(*byte)?;
-                self.origins.push(None)?;
+                self.bytes.push((*byte, None))?;
             }
         }
         Ok(())
     }
 
-    /// Where the bytes from one offset of the old text to another stand side by side, and no edit
-    /// was made between them.
-    fn found(&self, start: u32, end: u32) -> Option<usize> {
-        if self.starts.iter().any(|edit| start < *edit && *edit < end) {
-            return None;
+    fn is_text(&self, text: &[u8]) -> bool {
+        for (new, byte) in self.bytes.iter().zip(text) {
+            if new.0 != *byte {
+                return false;
+            }
         }
-        let first = self
-            .origins
-            .iter()
-            .position(|origin| *origin == Some(start))?;
-        let mut at = first;
-        for offset in start..end {
-            if self.origins.get(at).copied() != Some(Some(offset)) {
+        self.bytes.len() == text.len()
+    }
+
+    /// Where the bytes from one offset of the old text to another stand side by side, and no edit
+    /// was made between them; an edit may put no bytes.
+    fn found(&self, kept: &[Step], start: u32, end: u32) -> Option<usize> {
+        for edit in kept {
+            if start < edit.start && edit.start < end {
                 return None;
             }
-            at = at.wrapping_add(1);
         }
-        Some(first)
+        let mut first = 0;
+        let mut next = start;
+        for (at, new) in self.bytes.iter().enumerate() {
+            if next < end && new.1 == Some(next) {
+                if next == start {
+                    first = at;
+                }
+                next = next.wrapping_add(1);
+            } else if start < next && next < end {
+                return None;
+            }
+        }
+        if next == end { Some(first) } else { None }
     }
 
     /// Whether each range with bytes is moved to where its bytes are.
-    fn agrees(&self, changes: &Changes) -> bool {
+    fn agrees(&self, kept: &[Step], changes: &Changes) -> bool {
         for start in 0..TEXT_LEN {
             for end in start + 1..TEXT_LEN + 1 {
-                let range = TextRange::new(TextSize::from(start), TextSize::from(end));
-                let moved = changes.moved(range);
-                let same = match self.found(start, end) {
-                    Some(at) => moved.is_some_and(|moved| {
-                        u32::from(moved.start()) as usize == at && moved.len() == range.len()
-                    }),
-                    None => moved.is_none(),
+                let moved = changes.moved(range(start, end));
+                let same = match (self.found(kept, start, end), moved) {
+                    (Some(at), Some(moved)) => {
+                        u32::from(moved.start()) as usize == at
+                            && u32::from(moved.len()) == end.wrapping_sub(start)
+                    }
+                    (None, None) => true,
+                    _ => false,
                 };
                 if !same {
                     return false;
@@ -234,69 +293,78 @@ impl Model {
     }
 }
 
-/// Whether a change is that of an edit.
-fn is_of(change: Change, edit: Accepted) -> bool {
-    let mut len: usize = 0;
-    for word in edit.words {
-        len = len.wrapping_add(word.len());
+/// Whether a text is that of words side by side.
+fn is_joined(text: &str, words: &[&str]) -> bool {
+    let mut rest = text;
+    for word in words {
+        match rest.strip_prefix(*word) {
+            Some(after) => rest = after,
+            None => return false,
+        }
     }
-    u32::from(change.range.start()) == edit.start
+    rest.is_empty()
+}
+
+/// Whether a change and an edit of the text are those of an edit.
+fn is_of(change: Change, text_edit: &TextEdit, edit: Step) -> bool {
+    change.range == text_edit.range
+        && u32::from(change.range.start()) == edit.start
         && u32::from(change.range.end()) == edit.end
-        && u32::from(change.new_len) as usize == len
+        && u32::from(change.new_len) as usize == text_edit.text.len()
+        && is_joined(text_edit.text.as_str(), edit.instead.texts())
 }
 
-/// Whether each edit of the text is that of an edit.
-fn edits_agree(alloc: Global, edited: &Edited, kept: &[Accepted]) -> Result<bool, Fault> {
-    let edits = edited.text_edits(alloc)?;
-    for (text_edit, edit) in edits.iter().zip(kept) {
-        let mut text = String::new(alloc);
-        for word in edit.words {
-            text.push_str(word)?;
-        }
-        let range = text_edit.range;
-        let same = u32::from(range.start()) == edit.start && u32::from(range.end()) == edit.end;
-        if !same || text_edit.text.as_str() != text.as_str() {
-            return Ok(false);
-        }
-    }
-    Ok(edits.len() == kept.len())
-}
-
-fn are_of(changes: &[Change], kept: &[Accepted]) -> bool {
-    for (change, edit) in changes.iter().zip(kept) {
-        if !is_of(*change, *edit) {
+fn are_of(changes: &[Change], text_edits: &[TextEdit], kept: &[Step]) -> bool {
+    for (index, edit) in kept.iter().enumerate() {
+        let same = match (changes.get(index), text_edits.get(index)) {
+            (Some(change), Some(text_edit)) => is_of(*change, text_edit, *edit),
+            _ => false,
+        };
+        if !same {
             return false;
         }
     }
-    changes.len() == kept.len()
+    changes.len() == kept.len() && text_edits.len() == kept.len()
 }
 
-/// Whether a drawn list of edits does what the model does.
-fn agrees(alloc: Global, draws: &mut Draws) -> Result<bool, Fault> {
-    let mut editor = GreenEditor::new(alloc, &list(alloc)?)?;
-    let mut kept = Vec::new(alloc);
-    for _ in 0..draws.below(7) {
-        draw(alloc, draws, &mut editor, &mut kept)?;
+/// Whether each change, and each edit of the text, is that of an edit.
+fn changes_agree(alloc: Global, edited: &Edited, kept: &[Step]) -> bool {
+    match edited.text_edits(alloc) {
+        Ok(text_edits) => are_of(edited.changes.as_slice(), text_edits.as_slice(), kept),
+        Err(_) => false,
     }
-    let edited = editor.finish()?;
-    let model = Model::of(alloc, &kept)?;
-    if !are_of(edited.changes.as_slice(), &kept) || !model.agrees(&edited.changes) {
+}
+
+/// Whether the new text is that of the model, and each range is where the model has it.
+fn text_agrees(alloc: Global, edited: &Edited, kept: &[Step]) -> Result<bool, Fault> {
+    let model = Model::of(alloc, kept)?;
+    if !model.agrees(kept, &edited.changes) {
         return Ok(false);
     }
-    if edited.green.to_string(alloc)?.as_bytes() != model.bytes.as_slice() {
-        return Ok(false);
+    match edited.green.to_string(alloc) {
+        Ok(text) => Ok(model.is_text(text.as_bytes())),
+        Err(_) => Ok(false),
     }
-    tree_agrees(alloc, &edited, &kept)
 }
 
 /// Whether the new tree is that of the model, and each element is where the model has it.
-fn tree_agrees(alloc: Global, edited: &Edited, kept: &[Accepted]) -> Result<bool, Fault> {
-    let plain = Plain::edited(alloc, kept)?;
+fn tree_agrees(alloc: Global, edited: &Edited, kept: &[Step]) -> Result<bool, Fault> {
+    let plain = Plain::made(alloc, kept)?;
     Ok(
-        plain.is_shape_of(alloc, &edited.green)?
-            && plain.has_moved(alloc, edited)?
-            && plain.has_placed(alloc, edited, kept.len())?
-            && edits_agree(alloc, edited, kept)?,
+        plain.is_shape_of(alloc, &edited.green)
+            && plain.has_moved(alloc, edited)
+            && plain.has_placed(edited, kept.len()),
+    )
+}
+
+/// Whether a drawn list of edits does what the models do.
+fn agrees(alloc: Global, draws: &mut Draws) -> Result<bool, Fault> {
+    let mut kept = Vec::new(alloc);
+    let edited = draw_all(alloc, draws, &mut kept)?;
+    Ok(
+        changes_agree(alloc, &edited, &kept)
+            && text_agrees(alloc, &edited, &kept) == Ok(true)
+            && tree_agrees(alloc, &edited, &kept) == Ok(true),
     )
 }
 

@@ -1,22 +1,56 @@
 //! Elements before tokens: formatted trees are those that their texts parse to.
-ghost use Rattle.std.specs.Prelude.{◌≤◌};
-
 use crate::calling::spaced;
-use crate::fixture::{LIST, ROOT, WORD, nested, tree};
+use crate::fixture::Call::{Close, Open, Word};
+use crate::fixture::{Call, LIST, NESTED, ROOT, TREE, are_changes, built, has_text, moves, tree};
+use crate::rewriting::{Way, led, rewritten};
 use arithmetic_syntax::Kind as Arithmetic;
 use json_syntax::Kind as Json;
-use rowan::{
-    Fault, GreenElement, GreenNode, GreenNodeBuilder, GreenToken, SyntaxKind, TextRange, TextSize,
-};
-use rowan_edit::{Rewrite, TokenAt, rewrite_tokens};
+use rowan::{Fault, GreenNode, GreenToken, SyntaxKind};
+use rowan_edit::rewrite_tokens;
 use std::alloc::Global;
 use std::test::Fail;
 
-fn space(alloc: Global, kind: u16, text: &str) -> Result<GreenToken, Fault> {
-    GreenToken::new(alloc, SyntaxKind(kind), text)
+#[derive(Clone, Copy)]
+enum Syntax {
+    Json,
+    Sums,
 }
 
-/// JSON texts with a line end before each token.
+impl Syntax {
+    fn parse(self, alloc: Global, text: &str) -> Result<GreenNode, Fault> {
+        let parsed = match self {
+            Syntax::Json => json_syntax::parse(alloc, text),
+            Syntax::Sums => arithmetic_syntax::parse(alloc, text),
+        };
+        Ok(parsed?.green)
+    }
+
+    /// The white space that comes before each token: a line end, or a blank.
+    fn space(self, alloc: Global) -> Result<GreenToken, Fault> {
+        match self {
+            Syntax::Json => GreenToken::new(alloc, SyntaxKind(Json::Whitespace as u16), "\n"),
+            Syntax::Sums => GreenToken::new(alloc, SyntaxKind(Arithmetic::Space as u16), " "),
+        }
+    }
+
+    /// The tree of a text with white space before each token.
+    fn formatted(self, alloc: Global, text: &str) -> Result<GreenNode, Fault> {
+        let old = self.parse(alloc, text)?;
+        let space = self.space(alloc)?;
+        spaced(alloc, &old, &space)
+    }
+
+    /// Whether that is the tree that its text is parsed to.
+    fn is_as_parsed(self, alloc: Global, text: &str) -> Result<bool, Fault> {
+        let new = self.formatted(alloc, text)?;
+        let printed = new.to_string(alloc)?;
+        match self.parse(alloc, printed.as_str()) {
+            Ok(parsed) => Ok(new == parsed),
+            Err(_) => Ok(false),
+        }
+    }
+}
+
 const JSON: [&str; 7] = [
     "[[[1]]]",
     "{\"a\": [1, {\"b\": null}], \"c\": {}}",
@@ -28,110 +62,92 @@ const JSON: [&str; 7] = [
 ];
 
 #[test]
-fn json_as_parsed(rt: HostRuntime) -> Result<(), Fail> {
-    let alloc = rt.alloc();
-    let line_end = space(alloc, Json::Whitespace as u16, "\n")?;
+fn json_as_parsed(rt: HostRuntime) {
     for text in JSON {
-        let old = json_syntax::parse(alloc, text)?.green;
-        let new = spaced(alloc, &old, &line_end)?;
-        let printed = new.to_string(alloc)?;
-        assert!(rt; new == json_syntax::parse(alloc, printed.as_str())?.green);
+        assert!(rt; Syntax::Json.is_as_parsed(rt.alloc(), text) == Ok(true));
     }
-    Ok(())
 }
 
+const SUMS: [&str; 5] = ["1*2+3", "((1 * 2+3)+4 )* 5", "(1+(2*3", "1 2", "1+2+3+4"];
+
 #[test]
-fn sums_as_parsed(rt: HostRuntime) -> Result<(), Fail> {
-    let alloc = rt.alloc();
-    let blank = space(alloc, Arithmetic::Space as u16, " ")?;
-    for text in ["1*2+3", "((1 * 2+3)+4 )* 5", "(1+(2*3", "1 2", "1+2+3+4"] {
-        let old = arithmetic_syntax::parse(alloc, text)?.green;
-        let new = spaced(alloc, &old, &blank)?;
-        let printed = new.to_string(alloc)?;
-        assert!(rt; new == arithmetic_syntax::parse(alloc, printed.as_str())?.green);
+fn sums_as_parsed(rt: HostRuntime) {
+    for text in SUMS {
+        assert!(rt; Syntax::Sums.is_as_parsed(rt.alloc(), text) == Ok(true));
     }
-    Ok(())
 }
 
 #[test]
 fn json_text(rt: HostRuntime) -> Result<(), Fail> {
     let alloc = rt.alloc();
-    let line_end = space(alloc, Json::Whitespace as u16, "\n")?;
-    let old = json_syntax::parse(alloc, "{\"a\":  [1]}")?.green;
-    let new = spaced(alloc, &old, &line_end)?;
-    assert!(rt; new.to_string(alloc)?.as_str() == "\n{\n\"a\"\n:\n[\n1\n]\n}");
+    let new = Syntax::Json.formatted(alloc, "{\"a\":  [1]}")?;
+    assert!(rt; has_text(alloc, &new, "\n{\n\"a\"\n:\n[\n1\n]\n}"));
     Ok(())
 }
 
-fn word(alloc: Global, text: &str) -> Result<GreenElement, Fault> {
-    Ok(GreenElement::from(GreenToken::new(alloc, WORD, text)?))
-}
-
-/// Puts a list and a word before `b`, and none before `e`.
-fn led(alloc: Global, at: TokenAt<'_>) -> Result<Rewrite, Fault> {
-    match at.text() {
-        "a" => Ok(Rewrite::KeepBehind(vec![in alloc; word(alloc, "-")?]?)),
-        "b" | "bcd" => {
-            let list = GreenElement::from(GreenNode::new(alloc, LIST, Vec::new(alloc))?);
-            Ok(Rewrite::KeepBehind(vec![in alloc; list, word(alloc, "xy")?]?))
-        }
-        "cd" => Ok(Rewrite::KeepBehind(vec![in alloc; word(alloc, "z")?]?)),
-        _ => Ok(Rewrite::KeepBehind(Vec::new(alloc))),
+/// Whether a tree with elements before its words is this one.
+fn is_led(alloc: Global, old: &[Call], new: &[Call]) -> Result<bool, Fault> {
+    let expected = built(alloc, new)?;
+    match rewritten(alloc, &built(alloc, old)?, Way::Lead) {
+        Ok(new) => Ok(new.green == expected),
+        Err(_) => Ok(false),
     }
 }
 
-/// A root over words, and over lists between brackets.
-fn node(alloc: Global, words: &[&str]) -> Result<GreenNode, Fault> {
-    let mut builder = GreenNodeBuilder::new(alloc);
-    builder.start_node(ROOT)?;
-    for word in words {
-        match *word {
-            "[" => builder.start_node(LIST)?,
-            "]" => builder.finish_node()?,
-            word => builder.token(WORD, word)?,
-        }
-    }
-    builder.finish_node()?;
-    Ok(builder.finish()?)
-}
+const LED_TREE: [Call; 16] = [
+    Open(ROOT),
+    Word("-"),
+    Word("a"),
+    Open(LIST),
+    Close,
+    Word("xy"),
+    Open(LIST),
+    Word("b"),
+    Open(LIST),
+    Close,
+    Word("z"),
+    Word("cd"),
+    Close,
+    Word(""),
+    Word("e"),
+    Close,
+];
 
 #[test]
-fn before_words(rt: HostRuntime) -> Result<(), Fail> {
-    let alloc = rt.alloc();
-    let new = rewrite_tokens(alloc, &tree(alloc)?, &mut |at| led(alloc, at))?;
-    let words = [
-        "-", "a", "[", "]", "xy", "[", "b", "[", "]", "z", "cd", "]", "", "e",
-    ];
-    assert!(rt; new.green == node(alloc, &words)?);
-    Ok(())
+fn before_words(rt: HostRuntime) {
+    assert!(rt; is_led(rt.alloc(), &TREE, &LED_TREE) == Ok(true));
 }
 
-fn range(start: u32, end: u32) -> TextRange
-    requires { start ≤ end }
-{
-    TextRange::new(TextSize::from(start), TextSize::from(end))
+const LED_CHAIN: [Call; 13] = [
+    Open(ROOT),
+    Word("-"),
+    Word("a"),
+    Open(LIST),
+    Close,
+    Word("xy"),
+    Open(LIST),
+    Open(LIST),
+    Word("bcd"),
+    Close,
+    Close,
+    Word("e"),
+    Close,
+];
+
+#[test]
+fn before_a_chain(rt: HostRuntime) {
+    assert!(rt; is_led(rt.alloc(), &NESTED, &LED_CHAIN) == Ok(true));
 }
+
+const INSERTIONS: [(u32, u32, u32); 3] = [(0, 0, 1), (1, 1, 2), (2, 2, 1)];
 
 #[test]
 fn insertions(rt: HostRuntime) -> Result<(), Fail> {
     let alloc = rt.alloc();
-    let new = rewrite_tokens(alloc, &tree(alloc)?, &mut |at| led(alloc, at))?;
-    let changes = new.changes.as_slice();
-    assert!(rt; changes.len() == 3);
-    assert!(rt; changes[0].range == range(0, 0) && changes[0].new_len == TextSize::from(1));
-    assert!(rt; changes[1].range == range(1, 1) && changes[1].new_len == TextSize::from(2));
-    assert!(rt; changes[2].range == range(2, 2) && changes[2].new_len == TextSize::from(1));
-    assert!(rt; new.changes.moved(range(2, 4)) == Some(range(6, 8)));
-    assert!(rt; new.changes.moved(range(1, 4)).is_none());
-    Ok(())
-}
-
-#[test]
-fn before_a_chain(rt: HostRuntime) -> Result<(), Fail> {
-    let alloc = rt.alloc();
-    let new = rewrite_tokens(alloc, &nested(alloc)?, &mut |at| led(alloc, at))?;
-    let words = ["-", "a", "[", "]", "xy", "[", "[", "bcd", "]", "]", "e"];
-    assert!(rt; new.green == node(alloc, &words)?);
+    let new = rewritten(alloc, &tree(alloc)?, Way::Lead)?;
+    assert!(rt; are_changes(&new.changes, &INSERTIONS));
+    assert!(rt; moves(&new.changes, ((2, 4), Some((6, 8)))));
+    assert!(rt; moves(&new.changes, ((1, 4), None)));
     Ok(())
 }
 

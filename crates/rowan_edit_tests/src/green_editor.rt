@@ -1,5 +1,5 @@
 //! Edits of a small tree by paths.
-use crate::fixture::{Splice, spliced, tree};
+use crate::fixture::{Splice, has_text, spliced, tree};
 use rowan_edit::{GreenEditor, Refusal};
 use std::test::Fail;
 
@@ -18,25 +18,28 @@ const TOGETHER: [Splice; 7] = [
 fn edits_go_together(rt: HostRuntime) -> Result<(), Fail> {
     let alloc = rt.alloc();
     let green = tree(alloc)?;
-    let new = spliced(alloc, &green, &TOGETHER)?.green;
-    assert!(rt; new.to_string(alloc)?.as_str() == "a-xyincd12!");
-    assert!(rt; green.to_string(alloc)?.as_str() == "abcde");
+    let new = spliced(alloc, &green, &TOGETHER)?;
+    assert!(rt; has_text(alloc, &new.green, "a-xyincd12!"));
+    assert!(rt; has_text(alloc, &green, "abcde"));
     Ok(())
 }
+
+/// Children of a node that are taken away, one after the other, and what the editor answers.
+const TAKEN: [(&[usize], usize, usize, Result<(), Refusal>); 5] = [
+    (&[1], 0, 1, Ok(())),
+    (&[1], 0, 1, Err(Refusal::Conflict)),
+    (&[], 0, 2, Err(Refusal::Conflict)),
+    (&[0], 0, 0, Err(Refusal::NotFound)),
+    (&[], 3, 5, Err(Refusal::NotFound)),
+];
 
 #[test]
 fn refusals_leave_the_editor(rt: HostRuntime) -> Result<(), Fail> {
     let alloc = rt.alloc();
-    let green = tree(alloc)?;
-    let mut editor = GreenEditor::new(alloc, &green)?;
-    let splice = |editor: &mut GreenEditor, parent: &[usize], start: usize, end: usize| {
-        editor.splice(parent, start..end, Vec::new(alloc))
-    };
-    assert!(rt; splice(&mut editor, &[1], 0, 1) == Ok(()));
-    assert!(rt; splice(&mut editor, &[1], 0, 1) == Err(Refusal::Conflict));
-    assert!(rt; splice(&mut editor, &[], 0, 2) == Err(Refusal::Conflict));
-    assert!(rt; splice(&mut editor, &[0], 0, 0) == Err(Refusal::NotFound));
-    assert!(rt; splice(&mut editor, &[], 3, 5) == Err(Refusal::NotFound));
-    assert!(rt; editor.finish()?.green.to_string(alloc)?.as_str() == "acde");
+    let mut editor = GreenEditor::new(alloc, &tree(alloc)?)?;
+    for (parent, start, end, answer) in TAKEN {
+        assert!(rt; editor.splice(parent, start..end, Vec::new(alloc)) == answer);
+    }
+    assert!(rt; has_text(alloc, &editor.finish()?.green, "acde"));
     Ok(())
 }

@@ -1,13 +1,14 @@
 //! A plain model of an edited tree: its elements in the order of the tree, each with its depth.
-use crate::drawn::Accepted;
+use crate::drawn::{Instead, Step};
 use crate::fixture::{LIST, ROOT, WORD};
 use rowan::{Fault, GreenNode, NodeOrToken, SyntaxKind};
-use rowan_edit::{Edited, TreeCursor};
+use rowan_edit::{Edited, Placed, TreeCursor};
 use std::alloc::Global;
+use std::mem;
 
 /// Where an element comes from: which element of the old tree it is, or which edit put it in, or
 /// that it was put into another order or is in something that was.
-#[derive(Clone, Copy, PartialEq, Eq)]
+#[derive(Clone, Copy, PartialEq)]
 enum Origin {
     Old(usize),
     New(usize),
@@ -23,102 +24,107 @@ struct Item {
     origin: Origin,
 }
 
-/// The elements of the tree that is edited: `LIST[tree "fg" tree]`.
-const OLD: [(usize, SyntaxKind, &str); 18] = [
-    (0, LIST, ""),
-    (1, ROOT, ""),
-    (2, WORD, "a"),
-    (2, LIST, ""),
-    (3, WORD, "b"),
-    (3, LIST, ""),
-    (3, WORD, "cd"),
-    (2, WORD, ""),
-    (2, WORD, "e"),
-    (1, WORD, "fg"),
-    (1, ROOT, ""),
-    (2, WORD, "a"),
-    (2, LIST, ""),
-    (3, WORD, "b"),
-    (3, LIST, ""),
-    (3, WORD, "cd"),
-    (2, WORD, ""),
-    (2, WORD, "e"),
+/// The elements of the tree that is edited, `LIST[tree "fg" tree]`, with their paths.
+const OLD: [(&[usize], SyntaxKind, &str); 18] = [
+    (&[], LIST, ""),
+    (&[0], ROOT, ""),
+    (&[0, 0], WORD, "a"),
+    (&[0, 1], LIST, ""),
+    (&[0, 1, 0], WORD, "b"),
+    (&[0, 1, 1], LIST, ""),
+    (&[0, 1, 2], WORD, "cd"),
+    (&[0, 2], WORD, ""),
+    (&[0, 3], WORD, "e"),
+    (&[1], WORD, "fg"),
+    (&[2], ROOT, ""),
+    (&[2, 0], WORD, "a"),
+    (&[2, 1], LIST, ""),
+    (&[2, 1, 0], WORD, "b"),
+    (&[2, 1, 1], LIST, ""),
+    (&[2, 1, 2], WORD, "cd"),
+    (&[2, 2], WORD, ""),
+    (&[2, 3], WORD, "e"),
 ];
 
+/// The elements, and room for those that a step makes of them.
 #[derive(Drop)]
 pub struct Plain {
     items: Vec<Item>,
+    next: Vec<Item>,
 }
 
 impl Plain {
-    pub fn old(alloc: Global) -> Result<Plain, Fault> {
-        let mut items = Vec::new(alloc);
-        for (number, (depth, kind, text)) in OLD.into_iter().enumerate() {
-            items.push(Item {
-                depth,
+    /// The tree with steps made, which stand in the order of their places.
+    pub fn made(alloc: Global, steps: &[Step]) -> Result<Plain, Fault> {
+        let mut plain = Plain {
+            items: Vec::new(alloc),
+            next: Vec::new(alloc),
+        };
+        plain.make_all(steps)?;
+        Ok(plain)
+    }
+
+    /// Makes steps in the old tree, from the last place to the first.
+    fn make_all(&mut self, steps: &[Step]) -> Result<(), Fault> {
+        for (number, (path, kind, text)) in OLD.into_iter().enumerate() {
+            self.items.push(Item {
+                depth: path.len(),
                 kind,
                 text,
                 origin: Origin::Old(number),
             })?;
         }
-        Ok(Plain { items })
+        for (number, step) in steps.iter().enumerate().rev() {
+            self.make(*step, number)?;
+        }
+        Ok(())
     }
 
-    /// The tree with edits made, which stand in the order of their places.
-    pub fn edited(alloc: Global, edits: &[Accepted]) -> Result<Plain, Fault> {
-        let mut plain = Plain::old(alloc)?;
-        for (number, edit) in edits.iter().enumerate().rev() {
-            plain = plain.spliced(alloc, *edit, number)?;
-        }
-        Ok(plain)
+    fn make(&mut self, step: Step, number: usize) -> Result<(), Fault> {
+        let node = self.find(step.path);
+        let from = self.child(node, step.first);
+        let to = self.child(node, step.last);
+        self.next.clear();
+        push_range(&mut self.next, &self.items, 0, from, false)?;
+        let pushed = match step.instead {
+            Instead::Words(words) => self.push_words(step.path.len(), words, number),
+            Instead::Order(indexes) => self.push_order(node, indexes),
+        };
+        pushed?;
+        push_range(&mut self.next, &self.items, to, self.items.len(), false)?;
+        mem::swap(&mut self.items, &mut self.next);
+        Ok(())
     }
 
-    /// The tree with the children of a node that stand at these indexes, in this order.
-    pub fn arranged(
-        self,
-        alloc: Global,
-        path: &[usize],
-        indexes: &[usize],
-    ) -> Result<Plain, Fault> {
-        let node = self.find(path);
-        let mut items = Vec::new(alloc);
-        for item in self.items.iter().take(node.wrapping_add(1)) {
-            items.push(*item)?;
-        }
+    /// Puts the children of a node that stand at these indexes there, in this order.
+    fn push_order(&mut self, node: usize, indexes: &[usize]) -> Result<(), Fault> {
         for index in indexes {
             let from = self.child(node, *index);
             let to = self.child(node, index.wrapping_add(1));
-            for item in self.items.iter().take(to).skip(from) {
-                let origin = Origin::Moved;
-                items.push(Item { origin, ..*item })?;
-            }
+            push_range(&mut self.next, &self.items, from, to, true)?;
         }
-        for item in self.items.iter().skip(self.child(node, OLD.len())) {
-            items.push(*item)?;
-        }
-        Ok(Plain { items })
+        Ok(())
     }
 
-    pub fn spliced(self, alloc: Global, edit: Accepted, number: usize) -> Result<Plain, Fault> {
-        let node = self.find(edit.path);
-        let from = self.child(node, edit.first);
-        let to = self.child(node, edit.last);
-        let mut items = Vec::new(alloc);
-        for (at, item) in self.items.iter().enumerate() {
-            if at == from {
-                push_words(&mut items, edit, number)?;
-            }
-            if at < from || to <= at {
-                items.push(*item)?;
-            }
+    /// Puts the words of an edit there, below a node of this depth.
+    fn push_words(
+        &mut self,
+        depth: usize,
+        words: &[&'static str],
+        number: usize,
+    ) -> Result<(), Fault> {
+        for word in words {
+            self.next.push(Item {
+                depth: depth.wrapping_add(1),
+                kind: WORD,
+                text: *word,
+                origin: Origin::New(number),
+            })?;
         }
-        if from >= self.items.len() {
-            push_words(&mut items, edit, number)?;
-        }
-        Ok(Plain { items })
+        Ok(())
     }
 
-    /// The index of the element at a path, which is there.
+    /// The index of the element at a path; if none is there, of one that stands less deep.
     fn find(&self, path: &[usize]) -> usize {
         let mut at = 0;
         for index in path {
@@ -148,91 +154,96 @@ impl Plain {
         self.items.len()
     }
 
-    /// The path of the element at an index.
-    fn path(&self, alloc: Global, index: usize) -> Result<Vec<usize>, Fault> {
-        let mut path: Vec<usize> = Vec::new(alloc);
-        for (at, item) in self.items.iter().enumerate() {
-            if at > index {
-                return Ok(path);
-            }
-            path.truncate(item.depth);
-            if path.len() < item.depth {
-                path.push(0)?;
-            } else if let Some(last) = path.pop() {
-                path.push(last.wrapping_add(1))?;
-            }
+    /// Whether the element at a path comes from there.
+    fn stands_at(&self, path: &[usize], origin: Origin) -> bool {
+        match self.items.get(self.find(path)) {
+            Some(item) => item.origin == origin && item.depth == path.len(),
+            None => false,
         }
-        Ok(path)
     }
 
-    fn position(&self, origin: Origin) -> Option<usize> {
-        self.items.iter().position(|item| item.origin == origin)
+    fn has(&self, origin: Origin) -> bool {
+        for item in &self.items {
+            if item.origin == origin {
+                return true;
+            }
+        }
+        false
     }
 
     /// Whether a tree has these elements.
-    pub fn is_shape_of(&self, alloc: Global, green: &GreenNode) -> Result<bool, Fault> {
+    pub fn is_shape_of(&self, alloc: Global, green: &GreenNode) -> bool {
         let mut cursor = TreeCursor::new(alloc, green);
-        let mut more = true;
+        let mut same = true;
+        let mut moved = Ok(true);
         for item in &self.items {
-            if !more || !is_at(*item, &cursor) {
-                return Ok(false);
-            }
-            more = advance(&mut cursor)?;
+            same = same && moved == Ok(true) && is_at(*item, &cursor);
+            moved = advance(&mut cursor);
         }
-        Ok(!more)
+        same && moved == Ok(false)
     }
 
     /// Whether each element of the old tree is where the model has it.
-    pub fn has_moved(&self, alloc: Global, edited: &Edited) -> Result<bool, Fault> {
-        let old = Plain::old(alloc)?;
-        for number in 0..OLD.len() {
-            let path = old.path(alloc, number)?;
-            let moved = edited.moved_path(alloc, &path)?;
-            let same = match (moved, self.position(Origin::Old(number))) {
-                (Some(moved), Some(at)) => moved == self.path(alloc, at)?,
-                (None, None) => true,
-                _ => false,
+    pub fn has_moved(&self, alloc: Global, edited: &Edited) -> bool {
+        for (number, (path, _, _)) in OLD.into_iter().enumerate() {
+            let origin = Origin::Old(number);
+            let Ok(moved) = edited.moved_path(alloc, path) else {
+                return false;
+            };
+            let same = match moved {
+                Some(moved) => self.stands_at(moved.as_slice(), origin),
+                None => !self.has(origin),
             };
             if !same {
-                return Ok(false);
+                return false;
             }
         }
-        Ok(true)
+        true
     }
 
     /// Whether the elements of each edit are where the model has them.
-    pub fn has_placed(&self, alloc: Global, edited: &Edited, count: usize) -> Result<bool, Fault> {
+    pub fn has_placed(&self, edited: &Edited, count: usize) -> bool {
         for number in 0..count {
-            let Some(placed) = edited.placed(number) else {
-                return Ok(false);
+            let same = match edited.placed(number) {
+                Some(placed) => self.has_new(number, &placed),
+                None => false,
             };
-            let mut next = placed.children.start;
-            for (at, item) in self.items.iter().enumerate() {
-                if item.origin == Origin::New(number) {
-                    let mut path = Vec::from_slice(alloc, placed.parent)?;
-                    path.push(next)?;
-                    if path != self.path(alloc, at)? {
-                        return Ok(false);
-                    }
-                    next = next.wrapping_add(1);
-                }
-            }
-            if next != placed.children.end {
-                return Ok(false);
+            if !same {
+                return false;
             }
         }
-        Ok(edited.placed(count).is_none())
+        edited.placed(count).is_none()
+    }
+
+    /// Whether the elements of an edit, and no others, stand in a place.
+    fn has_new(&self, number: usize, placed: &Placed<'_>) -> bool {
+        let parent = self.find(placed.parent);
+        let depth = placed.parent.len().wrapping_add(1);
+        let mut next = placed.children.start;
+        for (at, item) in self.items.iter().enumerate() {
+            if item.origin == Origin::New(number) {
+                if item.depth != depth || self.child(parent, next) != at {
+                    return false;
+                }
+                next = next.wrapping_add(1);
+            }
+        }
+        next == placed.children.end
     }
 }
 
-fn push_words(items: &mut Vec<Item>, edit: Accepted, number: usize) -> Result<(), Fault> {
-    for word in edit.words {
-        items.push(Item {
-            depth: edit.path.len().wrapping_add(1),
-            kind: WORD,
-            text: *word,
-            origin: Origin::New(number),
-        })?;
+/// Puts the elements from one index to another behind others. They may stand in another order there
+/// than in the old tree.
+fn push_range(
+    next: &mut Vec<Item>,
+    items: &[Item],
+    from: usize,
+    to: usize,
+    moved: bool,
+) -> Result<(), Fault> {
+    for item in items.iter().take(to).skip(from) {
+        let origin = if moved { Origin::Moved } else { item.origin };
+        next.push(Item { origin, ..*item })?;
     }
     Ok(())
 }
@@ -246,7 +257,7 @@ fn is_at(item: Item, cursor: &TreeCursor<'_>) -> bool {
 }
 
 /// Goes to the next element in the order of the tree, and from the last one to the root.
-fn advance(cursor: &mut TreeCursor<'_>) -> Result<bool, Fault> {
+pub fn advance(cursor: &mut TreeCursor<'_>) -> Result<bool, Fault> {
     if cursor.goto_first_child()? {
         return Ok(true);
     }

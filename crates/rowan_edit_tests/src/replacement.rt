@@ -1,24 +1,27 @@
 //! A replacement, from a place below the root.
-use crate::fixture::{WORD, tree};
-use rowan::{Fault, GreenNode, GreenToken, NodeOrToken};
+use crate::fixture::{has_text, new_word, tree};
+use rowan::{Fault, GreenNode};
 use rowan_edit::TreeCursor;
 use std::alloc::Global;
 use std::test::Fail;
 
 /// The root with a word in place of the last child of the second child.
 fn with_word(alloc: Global, green: &GreenNode, text: &str) -> Result<GreenNode, Fault> {
+    let new = new_word(alloc, text)?;
     let mut cursor = TreeCursor::new(alloc, green);
-    if !cursor.goto_child_at_index(1)? || !cursor.goto_last_child()? {
-        return Err(Fault::NotFound);
+    if cursor.goto_child_at_index(1) == Ok(true) && cursor.goto_last_child() == Ok(true) {
+        cursor.replace(new)
+    } else {
+        Err(Fault::NotFound)
     }
-    cursor.replace(NodeOrToken::Token(GreenToken::new(alloc, WORD, text)?))
 }
 
 #[test]
 fn word_in_a_list(rt: HostRuntime) -> Result<(), Fail> {
-    let green = tree(rt.alloc())?;
-    let new = with_word(rt.alloc(), &green, "new")?;
-    assert!(rt; new.to_string(rt.alloc())?.as_str() == "abnewe");
-    assert!(rt; green.to_string(rt.alloc())?.as_str() == "abcde");
+    let alloc = rt.alloc();
+    let green = tree(alloc)?;
+    let new = with_word(alloc, &green, "new")?;
+    assert!(rt; has_text(alloc, &new, "abnewe"));
+    assert!(rt; has_text(alloc, &green, "abcde"));
     Ok(())
 }
