@@ -1,10 +1,9 @@
 //! The calls of a wrapper as source text.
 use crate::pieces::Pieces;
-use crate::writer::{ARGUMENTS, Imports, Scope, WIDTH, fill};
+use crate::writer::{ARGUMENTS, Imports, KindList, Scope, Text, WIDTH, fill};
 use rowan_grammar_calls::calls::{Alike, Call, Gives};
 use rowan_grammar_model::forms::Form;
 use rowan_grammar_model::grammar::Sort;
-use std::alloc::AllocError;
 use std::collections::HashMap;
 
 /// What a constant has around its name and its kinds.
@@ -124,69 +123,49 @@ $head
 ";
 
 /// The constants with the kinds of the parts of a node that are alike.
-pub fn add_kinds(out: &mut String, scope: &Scope<'_>, index: usize) -> Result<(), AllocError> {
+pub fn add_kinds(out: &mut Text, scope: &Scope<'_>, index: usize) {
     for alike in scope.alike(index).iter() {
-        add_alike(out, scope, alike)?;
+        add_alike(out, scope, alike);
     }
-    Ok(())
 }
 
 /// The calls of the wrapper of a node.
-pub fn add_calls(
-    out: &mut String,
-    scope: &Scope<'_>,
-    form: Form,
-    index: usize,
-) -> Result<(), AllocError> {
+pub fn add_calls(out: &mut Text, scope: &Scope<'_>, form: Form, index: usize) {
     for call in scope.calls(index).iter() {
         if scope.has_call(form, call) {
-            add_call(out, scope, form, index, call)?;
+            add_call(out, scope, form, index, call);
         }
     }
-    Ok(())
 }
 
 /// The constant that has the kinds of parts that are alike.
-fn add_alike(out: &mut String, scope: &Scope<'_>, alike: &Alike) -> Result<(), AllocError> {
-    let mut line = String::new(scope.alloc);
-    let mut lines = String::new(scope.alloc);
+fn add_alike(out: &mut Text, scope: &Scope<'_>, alike: &Alike) {
+    let mut kinds = KindList::new(scope.alloc);
     for kind in alike.kinds.iter() {
-        let comma = if line.is_empty() { "" } else { ", " };
-        let name = scope.grammar.name(*kind);
-        write!(line, "{comma}Kind::{name}")?;
-        write!(lines, "\n    Kind::{name},")?;
+        kinds.add(scope.grammar.name(*kind));
     }
     let name = alike.name.as_str();
     let len = ALIKE_HEAD
         .len()
         .saturating_add(name.len())
-        .saturating_add(line.len());
-    let template = match line.len() {
-        0..=ARGUMENTS if len <= WIDTH => "$name: &[Kind] = &[$line];\n",
-        0..=ARGUMENTS => "$name: &[Kind] =\n    &[$line];\n",
-        _ => "$name: &[Kind] = &[$lines\n];\n",
+        .saturating_add(kinds.len());
+    let head = match kinds.len() {
+        0..=ARGUMENTS if len > WIDTH => "$name: &[Kind] =\n    &[",
+        _ => "$name: &[Kind] = &[",
     };
-    out.push_str("\n/// The kinds of parts that are alike.\npub const ")?;
-    fill(
-        out,
-        template,
-        &["name", name, "line", line.as_str(), "lines", lines.as_str()],
-    )
+    out.add("\n/// The kinds of parts that are alike.\npub const ");
+    fill(out, head, &["name", name]);
+    kinds.add_to(out);
+    out.add("];\n");
 }
 
-fn add_call(
-    out: &mut String,
-    scope: &Scope<'_>,
-    form: Form,
-    index: usize,
-    call: &Call,
-) -> Result<(), AllocError> {
+fn add_call(out: &mut Text, scope: &Scope<'_>, form: Form, index: usize, call: &Call) {
     let mut pieces = Pieces::new(scope.alloc);
-    pieces.read(scope, form, "    pub fn ", call)?;
-    pieces.read_kinds(scope, index, call)?;
-    pieces.read_arguments(scope, form.parent(), call)?;
-    pieces.read_node(scope, form, index)?;
-    pieces.fill(out, template_of(form, call.gives))
+    pieces.read(scope, form, "    pub fn ", call);
+    pieces.read_kinds(scope, index, call);
+    pieces.read_arguments(scope, form.parent(), call);
+    pieces.read_node(scope, form, index);
+    pieces.fill(out, template_of(form, call.gives));
 }
 
 fn template_of(form: Form, gives: Gives) -> &'static str {
@@ -261,33 +240,23 @@ impl Uses {
 }
 
 /// What the contracts of the calls of a node name.
-pub fn add_call_imports(
-    out: &mut String,
-    scope: &Scope<'_>,
-    form: Form,
-    index: usize,
-) -> Result<(), AllocError> {
-    add_clause_words(out, scope, form, index)?;
+pub fn add_call_imports(out: &mut Text, scope: &Scope<'_>, form: Form, index: usize) {
+    add_clause_words(out, scope, form, index);
     let itself = match form {
         Form::Owned => None,
-        Form::Borrowed => Some(scope.node_of(form, index)?),
+        Form::Borrowed => Some(index),
     };
-    add_nodes_in(out, scope, form, itself, scope.calls(index))
+    add_nodes_in(out, scope, form, itself, scope.calls(index));
 }
 
 /// What the contracts of the calls of a node or a trait name, but for the nodes in wrappers.
-pub fn add_clause_words(
-    out: &mut String,
-    scope: &Scope<'_>,
-    form: Form,
-    index: usize,
-) -> Result<(), AllocError> {
+pub fn add_clause_words(out: &mut Text, scope: &Scope<'_>, form: Form, index: usize) {
     let calls = scope.calls(index);
     let uses = Uses::of(scope, form, calls);
     add_words(
         out,
         scope,
-        "Rattle.std.specs.Prelude",
+        "    ghost use Rattle.std.specs.Prelude.{",
         &[
             (true, "◌≡◌"),
             (uses.has_nth() || uses.has_many_casts(), "filter"),
@@ -295,53 +264,56 @@ pub fn add_clause_words(
             (form == Form::Owned, "IfOk"),
             (form == Form::Owned, "IfErr"),
         ],
-    )?;
+    );
     let has_first = uses.token || uses.child;
-    add_words(out, scope, "Rattle.std.specs.List", &[(has_first, "find")])?;
     add_words(
         out,
         scope,
-        "Rattle.std.specs.Option",
+        "    ghost use Rattle.std.specs.List.{",
+        &[(has_first, "find")],
+    );
+    add_words(
+        out,
+        scope,
+        "    ghost use Rattle.std.specs.Option.{",
         &[
             (has_first || uses.has_nth(), "option_map"),
             (uses.nth_child, "option_and_then"),
         ],
-    )?;
-    add_tree_words(out, scope, uses)?;
+    );
+    add_tree_words(out, scope, uses);
     if uses.has_token() || uses.nth_child {
-        let module = format!(in scope.alloc;
-            "Rattle.{}.specs.contracts.{}.Kind",
-            scope.crate_name, scope.module
-        )?;
-        add_words(out, scope, module.as_str(), &[(true, "the_type")])?;
-        add_words(out, scope, "denote.Enum.Bare", &[(true, "sameb")])?;
+        let module = "    ghost use Rattle.$crate.specs.contracts.$module.Kind.{";
+        add_words(out, scope, module, &[(true, "the_type")]);
+        let module = "    ghost use denote.Enum.Bare.{";
+        add_words(out, scope, module, &[(true, "sameb")]);
     }
-    let kinds = format!(in scope.alloc; "Rattle.{}.specs.Kinds", scope.crate_name)?;
-    add_words(out, scope, kinds.as_str(), &[(uses.has_kinds(), "kind_of")])?;
-    add_casts(out, scope, form, calls)
+    let kinds = "    ghost use Rattle.$crate.specs.Kinds.{";
+    add_words(out, scope, kinds, &[(uses.has_kinds(), "kind_of")]);
+    add_casts(out, scope, form, calls);
 }
 
 /// The words for trees and wrappers that the contracts name.
-fn add_tree_words(out: &mut String, scope: &Scope<'_>, uses: Uses) -> Result<(), AllocError> {
+fn add_tree_words(out: &mut Text, scope: &Scope<'_>, uses: Uses) {
     add_words(
         out,
         scope,
-        "Rattle.rowan.specs.Types.NodeOrToken.TheVariants",
+        "    ghost use Rattle.rowan.specs.Types.NodeOrToken.TheVariants.{",
         &[(uses.has_token(), "Token")],
-    )?;
+    );
     add_words(
         out,
         scope,
-        "Rattle.rowan.specs.Moves",
+        "    ghost use Rattle.rowan.specs.Moves.{",
         &[
             (uses.has_child(), "children"),
             (uses.has_token(), "children_with_tokens"),
         ],
-    )?;
+    );
     add_words(
         out,
         scope,
-        "Rattle.rowan.specs.Ast",
+        "    ghost use Rattle.rowan.specs.Ast.{",
         &[
             (
                 uses.child || uses.nth_child || uses.has_many_casts(),
@@ -353,94 +325,104 @@ fn add_tree_words(out: &mut String, scope: &Scope<'_>, uses: Uses) -> Result<(),
             (uses.nth_token, "means_one_of"),
             (uses.has_many_casts(), "rest_that_casts"),
         ],
-    )?;
+    );
     let has_places = uses.form == Form::Borrowed && uses.has_token();
     add_words(
         out,
         scope,
-        "Rattle.rowan.specs.Refs",
+        "    ghost use Rattle.rowan.specs.Refs.{",
         &[(has_places, "token_place")],
-    )?;
+    );
     add_words(
         out,
         scope,
-        "Rattle.rowan.specs.Pointer",
+        "    ghost use Rattle.rowan.specs.Pointer.{",
         &[(uses.token, "means_kind")],
-    )
+    );
 }
 
-/// A line that imports the words that are wanted, if one is.
-fn add_words(
-    out: &mut String,
-    scope: &Scope<'_>,
-    module: &str,
-    words: &[(bool, &str)],
-) -> Result<(), AllocError> {
-    let head = format!(in scope.alloc; "    ghost use {module}.{{")?;
-    let mut imports = Imports::new(scope.alloc, head.as_str(), ";")?;
+/// A line with this head that imports the words that are wanted, if one is.
+fn add_words(out: &mut Text, scope: &Scope<'_>, head: &str, words: &[(bool, &str)]) {
+    let mut imports = Imports::new(scope, head, ";");
     for (is_wanted, word) in words.iter() {
         if *is_wanted {
-            imports.add(word)?;
+            imports.add(word);
         }
     }
-    out.push_str(imports.finish()?)
+    imports.finish(out);
 }
 
 /// What casts to the wrappers of the children that the calls give.
-fn add_casts(
-    out: &mut String,
-    scope: &Scope<'_>,
-    form: Form,
-    calls: &[Call],
-) -> Result<(), AllocError> {
-    let head = format!(in scope.alloc; "    ghost use Rattle.{}.specs.Casts.{{", scope.crate_name)?;
-    let mut imports = Imports::new(scope.alloc, head.as_str(), ";")?;
+fn add_casts(out: &mut Text, scope: &Scope<'_>, form: Form, calls: &[Call]) {
+    let mut imports = Imports::new(scope, "    ghost use Rattle.$crate.specs.Casts.{", ";");
     let mut named: HashMap<usize, bool> = HashMap::new(scope.alloc);
     for call in calls.iter().filter(|call| scope.has_call(form, call)) {
         let item = match call.gives {
-            Gives::Child(item) | Gives::NthChild(item, _) => item,
-            Gives::Children(item) if form == Form::Borrowed => item,
-            _ => continue,
+            Gives::Child(item) | Gives::NthChild(item, _) => Some(item),
+            Gives::Children(item) if form == Form::Borrowed => Some(item),
+            _ => None,
         };
-        if named.insert(item, true)?.is_none() {
-            let name = format!(in scope.alloc; "is_{}", scope.grammar.snake(item))?;
-            imports.add(name.as_str())?;
+        if let Some(item) = item {
+            match named.insert(item, true) {
+                Ok(None) => imports.add_word("is_", scope.grammar.snake(item)),
+                Ok(Some(_)) => {}
+                Err(_) => out.fail(),
+            }
         }
     }
-    out.push_str(imports.finish()?)
+    imports.finish(out);
 }
 
 /// The nodes in the wrappers of the children that the calls give, behind the word for that of the
 /// wrapper itself, if there is one.
 pub fn add_nodes_in(
-    out: &mut String,
+    out: &mut Text,
     scope: &Scope<'_>,
     form: Form,
-    itself: Option<String>,
+    itself: Option<usize>,
     calls: &[Call],
-) -> Result<(), AllocError> {
-    let head = format!(in scope.alloc;
-        "    ghost use Rattle.{}.specs.NodeIn.{{",
-        scope.crate_name
-    )?;
-    let mut imports = Imports::new(scope.alloc, head.as_str(), ";")?;
-    let mut named: HashMap<String, bool> = HashMap::new(scope.alloc);
+) {
+    let mut nodes = NodesIn {
+        form,
+        imports: Imports::new(scope, "    ghost use Rattle.$crate.specs.NodeIn.{", ";"),
+        named: HashMap::new(scope.alloc),
+    };
     if let Some(itself) = itself {
-        imports.add(itself.as_str())?;
-        named.insert(itself, true)?;
+        nodes.add(out, scope, itself);
     }
     for call in calls.iter().filter(|call| scope.has_call(form, call)) {
-        let (Gives::Child(item) | Gives::NthChild(item, _)) = call.gives else {
-            continue;
-        };
-        let has_word = form == Form::Borrowed || scope.grammar.sort(item) == Sort::Choice;
-        if has_word {
-            let name = scope.node_of(form, item)?;
-            if !named.contains_key(name.as_str()) {
-                imports.add(name.as_str())?;
-                named.insert(name, true)?;
-            }
+        match call.gives {
+            Gives::Child(item) | Gives::NthChild(item, _) => nodes.add(out, scope, item),
+            _ => {}
         }
     }
-    out.push_str(imports.finish()?)
+    nodes.imports.finish(out);
+}
+
+/// The words for nodes in wrappers, each once.
+#[derive(Drop)]
+struct NodesIn {
+    form: Form,
+    imports: Imports,
+    /// The choices that are named. All nodes have one word, by the largest number.
+    named: HashMap<usize, bool>,
+}
+
+impl NodesIn {
+    /// Names the node in the wrapper of an item, if clauses have a word for it.
+    fn add(&mut self, out: &mut Text, scope: &Scope<'_>, item: usize) {
+        let is_choice = scope.grammar.sort(item) == Sort::Choice;
+        if self.form == Form::Owned && !is_choice {
+            return;
+        }
+        let key = if is_choice { item } else { usize::MAX };
+        match self.named.insert(key, true) {
+            Ok(None) => {
+                let name = scope.node_of(self.form, item);
+                self.imports.add(out.read(&name));
+            }
+            Ok(Some(_)) => {}
+            Err(_) => out.fail(),
+        }
+    }
 }

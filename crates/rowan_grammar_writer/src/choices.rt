@@ -1,10 +1,10 @@
 //! The wrappers of choices as source text.
 use crate::structs::add_wrapper_docs;
-use crate::writer::{Scope, WIDTH, add_cast_head, add_docs, add_signature, fill};
+use crate::writer::{Scope, Text, WIDTH, add_cast_head, add_docs, add_signature, fill};
 use rowan_grammar_calls::reach::{Reach, Step, steps_from};
 use rowan_grammar_model::forms::Form;
 use rowan_grammar_model::grammar::{Item, Sort};
-use std::alloc::{AllocError, Global};
+use std::alloc::Global;
 
 /// How long a kind and what is made of its node are together at most on one line.
 const MAX_ARM: usize = 70;
@@ -126,144 +126,117 @@ impl<'tree> $borrowed<'tree> {
 ";
 
 /// The wrappers of a choice: enums of the wrappers of its alternatives.
-pub fn add_choice(
-    out: &mut String,
-    scope: &Scope<'_>,
-    item: &Item,
-    index: usize,
-) -> Result<(), AllocError> {
+pub fn add_choice(out: &mut Text, scope: &Scope<'_>, item: &Item, index: usize) {
     let forms = [Form::Owned, Form::Borrowed];
     for form in forms {
         if item.forms.has(form) {
-            add_wrapper_docs(out, form, item)?;
-            out.push_str(match form {
+            add_wrapper_docs(out, form, item);
+            out.add(match form {
                 Form::Owned => "#[derive(Clone, PartialEq, Eq, Hash, Debug, Drop)]\n",
                 Form::Borrowed => "#[derive(Clone, Copy, PartialEq, Eq, Hash, Debug)]\n",
-            })?;
-            add_form(out, scope, form, item, index)?;
+            });
+            add_form(out, scope, form, item, index);
         }
     }
     for used in item.alternatives.iter() {
         for form in forms {
             if item.forms.has(form) {
-                add_from(out, scope, form, index, used.item)?;
+                add_from(out, scope, form, index, used.item);
             }
         }
     }
-    Ok(())
 }
 
 /// What makes a choice of one of its alternatives.
-fn add_from(
-    out: &mut String,
-    scope: &Scope<'_>,
-    form: Form,
-    whole: usize,
-    one: usize,
-) -> Result<(), AllocError> {
-    let from = wrapper_type(scope, form, one)?;
-    let into = wrapper_type(scope, form, whole)?;
-    out.push('\n')?;
-    add_impl_line(out, scope, form, from.as_str(), into.as_str())?;
-    add_from_words(out, scope, form, whole, one)?;
-    add_from_head(out, scope, from.as_str(), into.as_str())?;
-    add_from_body(out, scope, form, whole, one)?;
-    out.push_str("    }\n}\n")
+fn add_from(out: &mut Text, scope: &Scope<'_>, form: Form, whole: usize, one: usize) {
+    let one_type = wrapper_type(scope, form, one);
+    let whole_type = wrapper_type(scope, form, whole);
+    let from = out.read(&one_type);
+    let into = out.read(&whole_type);
+    out.add("\n");
+    add_impl_line(out, scope, form, from, into);
+    add_from_words(out, scope, form, whole, one);
+    add_from_head(out, scope, from, into);
+    add_from_body(out, scope, form, whole, one);
+    out.add("    }\n}\n");
 }
 
 /// The contract of what makes a choice: the node stays.
-fn add_from_words(
-    out: &mut String,
-    scope: &Scope<'_>,
-    form: Form,
-    whole: usize,
-    one: usize,
-) -> Result<(), AllocError> {
+fn add_from_words(out: &mut Text, scope: &Scope<'_>, form: Form, whole: usize, one: usize) {
     let has_word = has_word(scope, form, one);
-    out.push_str("    ghost use Rattle.std.specs.Prelude.{◌≡◌};\n")?;
-    write!(
-        out,
-        "    ghost use Rattle.{}.specs.NodeIn.{{",
-        scope.crate_name
-    )?;
-    scope.add_node_of(out, form, whole)?;
+    fill(out, FROM_WORDS, &["crate", scope.crate_name]);
+    scope.add_node_of(out, form, whole);
     if has_word {
-        out.push_str(", ")?;
-        scope.add_node_of(out, form, one)?;
+        out.add(", ");
+        scope.add_node_of(out, form, one);
     }
-    out.push_str("};\n\n    ghost from_gives = { λ node whole. ")?;
-    scope.add_node_of(out, form, whole)?;
-    out.push_str(" whole ≡ ")?;
+    out.add("};\n\n    ghost from_gives = { λ node whole. ");
+    scope.add_node_of(out, form, whole);
+    out.add(" whole ≡ ");
     if has_word {
-        scope.add_node_of(out, form, one)?;
-        out.push(' ')?;
+        scope.add_node_of(out, form, one);
+        out.add(" ");
     }
-    out.push_str("node };\n\n")
+    out.add("node };\n\n");
 }
 
-fn add_from_head(
-    out: &mut String,
-    scope: &Scope<'_>,
-    from: &str,
-    into: &str,
-) -> Result<(), AllocError> {
-    let parameter = format!(in scope.alloc; "node: {from}")?;
-    let end = format!(in scope.alloc; "{into} {{")?;
-    add_signature(out, "    fn ", "from", parameter.as_str(), end.as_str())?;
-    out.push('\n')
+const FROM_WORDS: &str = "    ghost use Rattle.std.specs.Prelude.{◌≡◌};
+    ghost use Rattle.$crate.specs.NodeIn.{";
+
+fn add_from_head(out: &mut Text, scope: &Scope<'_>, from: &str, into: &str) {
+    let parameter = scope.filled("node: $from", &["from", from]);
+    let end = scope.filled("$into {", &["into", into]);
+    let parameter = out.read(&parameter);
+    let end = out.read(&end);
+    add_signature(out, "    fn ", "from", parameter, end);
+    out.add("\n");
 }
 
 /// The type of the wrapper of an item.
-fn wrapper_type(scope: &Scope<'_>, form: Form, index: usize) -> Result<String, AllocError> {
-    let name = scope.grammar.wrapper(form, index);
-    format!(in scope.alloc; "{name}{}", form.lifetime())
+fn wrapper_type(scope: &Scope<'_>, form: Form, index: usize) -> Text {
+    let mut out = Text::new(scope.alloc);
+    out.add(scope.grammar.wrapper(form, index));
+    out.add(form.lifetime());
+    out
 }
 
 /// The first line of an impl of `From`, or the first two where it is long.
-fn add_impl_line(
-    out: &mut String,
-    scope: &Scope<'_>,
-    form: Form,
-    from: &str,
-    into: &str,
-) -> Result<(), AllocError> {
-    let generics = match form {
-        Form::Owned => " ",
-        Form::Borrowed => "<'tree> ",
-    };
-    let name = scope.outside("From");
-    let line = format!(in scope.alloc; "impl{generics}{name}<{from}> for {into} {{")?;
-    match line.len() > WIDTH {
-        true => writeln!(out, "impl{generics}{name}<{from}>\n    for {into} {{"),
-        false => writeln!(out, "{line}"),
-    }
+fn add_impl_line(out: &mut Text, scope: &Scope<'_>, form: Form, from: &str, into: &str) {
+    let mut start = Text::new(scope.alloc);
+    start.add(match form {
+        Form::Owned => "impl ",
+        Form::Borrowed => "impl<'tree> ",
+    });
+    start.add(scope.outside("From"));
+    start.add("<");
+    start.add(from);
+    start.add(">");
+    let len = start.len().saturating_add(into.len());
+    let is_long = len.saturating_add(" for  {".len()) > WIDTH;
+    out.add_text(&start);
+    out.add(if is_long { "\n    for " } else { " for " });
+    out.add(into);
+    out.add(" {\n");
 }
 
 /// A node in its variant.
-fn add_from_body(
-    out: &mut String,
-    scope: &Scope<'_>,
-    form: Form,
-    whole: usize,
-    one: usize,
-) -> Result<(), AllocError> {
-    let variant = variant_of(scope, form, whole, one)?;
-    match variant.len() {
-        0..=86 => writeln!(out, "        {variant}(node)"),
-        _ => writeln!(out, "        {variant}(\n            node,\n        )"),
-    }
+fn add_from_body(out: &mut Text, scope: &Scope<'_>, form: Form, whole: usize, one: usize) {
+    let variant = variant_of(scope, form, whole, one);
+    let template = match variant.len() {
+        0..=86 => "        $variant(node)\n",
+        _ => "        $variant(\n            node,\n        )\n",
+    };
+    let variant = ["variant", out.read(&variant)];
+    fill(out, template, &variant);
 }
 
 /// The variant of an alternative.
-fn variant_of(
-    scope: &Scope<'_>,
-    form: Form,
-    whole: usize,
-    one: usize,
-) -> Result<String, AllocError> {
-    let wrapper = scope.grammar.wrapper(form, whole);
-    let name = scope.grammar.name(one);
-    format!(in scope.alloc; "{wrapper}::{name}")
+fn variant_of(scope: &Scope<'_>, form: Form, whole: usize, one: usize) -> Text {
+    let mut out = Text::new(scope.alloc);
+    out.add(scope.grammar.wrapper(form, whole));
+    out.add("::");
+    out.add(scope.grammar.name(one));
+    out
 }
 
 /// Whether clauses name the node in the wrapper of an item by a word.
@@ -274,73 +247,62 @@ fn has_word(scope: &Scope<'_>, form: Form, item: usize) -> bool {
 /// What the templates of a choice have of its alternatives.
 #[derive(Drop)]
 struct Parts {
-    test: String,
-    cast: String,
-    casts: String,
-    lemmas: String,
-    arms: String,
+    test: Text,
+    cast: Text,
+    casts: Text,
+    lemmas: Text,
+    arms: Text,
 }
 
 impl Parts {
     fn new(alloc: Global) -> Parts {
         Parts {
-            test: String::new(alloc),
-            cast: String::new(alloc),
-            casts: String::new(alloc),
-            lemmas: String::new(alloc),
-            arms: String::new(alloc),
+            test: Text::new(alloc),
+            cast: Text::new(alloc),
+            casts: Text::new(alloc),
+            lemmas: Text::new(alloc),
+            arms: Text::new(alloc),
         }
     }
 
     /// Which kinds cast to it, and how.
-    fn read_kinds(
-        &mut self,
-        scope: &Scope<'_>,
-        form: Form,
-        item: &Item,
-        index: usize,
-    ) -> Result<(), AllocError> {
-        let reached = steps_from(scope.alloc, scope.grammar, index)?;
-        add_casts(&mut self.casts, scope, form, &reached)?;
-        if form == Form::Borrowed && item.forms.owned {
-            return writeln!(self.test, "        {}::can_cast(kind)", item.name);
+    fn read_kinds(&mut self, scope: &Scope<'_>, form: Form, item: &Item, index: usize) {
+        match steps_from(scope.alloc, scope.grammar, index) {
+            Ok(reached) => {
+                add_casts(&mut self.casts, scope, form, &reached);
+                if form == Form::Borrowed && item.forms.owned {
+                    let name = ["name", item.name.as_str()];
+                    fill(&mut self.test, "        $name::can_cast(kind)\n", &name);
+                } else {
+                    add_test(&mut self.test, scope, &reached);
+                }
+            }
+            Err(_) => self.test.fail(),
         }
-        add_test(&mut self.test, scope, &reached)
     }
 
     /// The head of `cast`.
-    fn read_cast(&mut self, scope: &Scope<'_>, form: Form, index: usize) -> Result<(), AllocError> {
-        let wrapper = wrapper_type(scope, form, index)?;
+    fn read_cast(&mut self, scope: &Scope<'_>, form: Form, index: usize) {
+        let wrapper = wrapper_type(scope, form, index);
         let from = node_type(form);
-        add_cast_head(&mut self.cast, scope, from, form, wrapper.as_str())
+        let wrapper = self.cast.read(&wrapper);
+        add_cast_head(&mut self.cast, scope, from, form, wrapper);
     }
 }
 
 /// One form of the wrapper of a choice, from the line of its enum on.
-fn add_form(
-    out: &mut String,
-    scope: &Scope<'_>,
-    form: Form,
-    item: &Item,
-    index: usize,
-) -> Result<(), AllocError> {
-    add_variants(out, scope, form, item, index)?;
+fn add_form(out: &mut Text, scope: &Scope<'_>, form: Form, item: &Item, index: usize) {
+    add_variants(out, scope, form, item, index);
     let mut parts = Parts::new(scope.alloc);
-    parts.read_kinds(scope, form, item, index)?;
-    parts.read_cast(scope, form, index)?;
-    add_lemmas(&mut parts.lemmas, scope, form, item)?;
-    add_arms(&mut parts.arms, scope, form, item, index)?;
-    add_impls(out, scope, form, item, &parts)
+    parts.read_kinds(scope, form, item, index);
+    parts.read_cast(scope, form, index);
+    add_lemmas(&mut parts.lemmas, scope, form, item);
+    add_arms(&mut parts.arms, scope, form, item, index);
+    add_impls(out, scope, form, item, &parts);
 }
 
 /// What the wrapper of a choice implements.
-fn add_impls(
-    out: &mut String,
-    scope: &Scope<'_>,
-    form: Form,
-    item: &Item,
-    parts: &Parts,
-) -> Result<(), AllocError> {
+fn add_impls(out: &mut Text, scope: &Scope<'_>, form: Form, item: &Item, parts: &Parts) {
     let values = [
         "name",
         item.name.as_str(),
@@ -351,15 +313,15 @@ fn add_impls(
         "language",
         scope.language,
         "test",
-        parts.test.as_str(),
+        out.read(&parts.test),
         "cast",
-        parts.cast.as_str(),
+        out.read(&parts.cast),
         "casts",
-        parts.casts.as_str(),
+        out.read(&parts.casts),
         "lemmas",
-        parts.lemmas.as_str(),
+        out.read(&parts.lemmas),
         "arms",
-        parts.arms.as_str(),
+        out.read(&parts.arms),
         "borrowed",
         item.borrowed.as_str(),
     ];
@@ -367,10 +329,9 @@ fn add_impls(
         Form::Owned => (CHOICE, OWNED),
         Form::Borrowed => (CHOICE_REF, BORROWED),
     };
-    scope.fill(out, template, &values)?;
-    match item.forms.is_both() {
-        true => scope.fill(out, other, &values),
-        false => Ok(()),
+    scope.fill(out, template, &values);
+    if item.forms.is_both() {
+        scope.fill(out, other, &values);
     }
 }
 
@@ -391,143 +352,114 @@ fn wrapped(form: Form) -> &'static str {
 }
 
 /// The enum of a choice up to its closing brace.
-fn add_variants(
-    out: &mut String,
-    scope: &Scope<'_>,
-    form: Form,
-    item: &Item,
-    index: usize,
-) -> Result<(), AllocError> {
-    let whole = wrapper_type(scope, form, index)?;
-    fill(out, "pub enum $name {\n", &["name", whole.as_str()])?;
+fn add_variants(out: &mut Text, scope: &Scope<'_>, form: Form, item: &Item, index: usize) {
+    out.add("pub enum ");
+    out.add_text(&wrapper_type(scope, form, index));
+    out.add(" {\n");
     for used in item.alternatives.iter() {
-        add_docs(out, "    ", scope.grammar.docs(used.item), "")?;
-        let name = scope.grammar.name(used.item);
-        let one = wrapper_type(scope, form, used.item)?;
-        let line = format!(in scope.alloc; "    {name}({one}),")?;
-        let template = match line.len() > WIDTH {
-            true => "    $name(\n        $inner,\n    ),\n",
-            false => "    $name($inner),\n",
-        };
-        fill(out, template, &["name", name, "inner", one.as_str()])?;
+        add_docs(out, "    ", scope.grammar.docs(used.item), "");
+        add_variant(out, scope, form, used.item);
     }
-    Ok(())
+}
+
+/// The variant of one alternative.
+fn add_variant(out: &mut Text, scope: &Scope<'_>, form: Form, one: usize) {
+    let name = scope.grammar.name(one);
+    let inner = wrapper_type(scope, form, one);
+    let len = name.len().saturating_add(inner.len());
+    let template = match len.saturating_add("    (),".len()) > WIDTH {
+        true => "    $name(\n        $inner,\n    ),\n",
+        false => "    $name($inner),\n",
+    };
+    let values = ["name", name, "inner", out.read(&inner)];
+    fill(out, template, &values);
 }
 
 /// Whether a kind casts to a choice.
-fn add_test(out: &mut String, scope: &Scope<'_>, reached: &Reach) -> Result<(), AllocError> {
-    out.push_str("        match kind {\n")?;
+fn add_test(out: &mut Text, scope: &Scope<'_>, reached: &Reach) {
+    out.add("        match kind {\n");
     for step in reached.steps.iter() {
         if scope.grammar.sort(step.item) == Sort::Node {
             let name = scope.grammar.name(step.item);
-            writeln!(out, "            Kind::{name} => true,")?;
+            fill(out, "            Kind::$name => true,\n", &["name", name]);
         }
     }
-    out.push_str("            _ => false,\n        }\n")
+    out.add("            _ => false,\n        }\n");
 }
 
 /// The arms that make the choice of nodes.
-fn add_casts(
-    out: &mut String,
-    scope: &Scope<'_>,
-    form: Form,
-    reached: &Reach,
-) -> Result<(), AllocError> {
-    for (number, step) in reached.steps.iter().enumerate() {
+fn add_casts(out: &mut Text, scope: &Scope<'_>, form: Form, reached: &Reach) {
+    for step in reached.steps.iter() {
         if scope.grammar.sort(step.item) == Sort::Node {
-            add_cast_arm(out, scope, form, reached, number)?;
+            add_cast_arm(out, scope, form, reached, *step);
         }
     }
-    Ok(())
 }
 
 /// The arms that give the node in an alternative.
-fn add_arms(
-    out: &mut String,
-    scope: &Scope<'_>,
-    form: Form,
-    item: &Item,
-    index: usize,
-) -> Result<(), AllocError> {
+fn add_arms(out: &mut Text, scope: &Scope<'_>, form: Form, item: &Item, index: usize) {
     for used in item.alternatives.iter() {
-        let variant = variant_of(scope, form, index, used.item)?;
+        let variant = variant_of(scope, form, index, used.item);
         let template = match variant.len() {
             0..=64 => "            $variant(node) => node.syntax(),\n",
             65..=79 => "            $variant(node) =>\n                node.syntax(),\n",
             _ => "            $variant(\n                node,\n            ) => node.syntax(),\n",
         };
-        fill(out, template, &["variant", variant.as_str()])?;
+        let variant = ["variant", out.read(&variant)];
+        fill(out, template, &variant);
     }
-    Ok(())
 }
 
-/// The arm that wraps a node of the kind that was reached by the step with this number.
-fn add_cast_arm(
-    out: &mut String,
-    scope: &Scope<'_>,
-    form: Form,
-    reached: &Reach,
-    number: usize,
-) -> Result<(), AllocError> {
-    let Some(step) = reached.steps.get(number) else {
-        return Ok(());
-    };
+/// The arm that wraps a node of the kind that was reached by this step.
+fn add_cast_arm(out: &mut Text, scope: &Scope<'_>, form: Form, reached: &Reach, step: Step) {
     let kind = scope.grammar.name(step.item);
-    match made_of(scope, form, reached, *step)? {
-        None => add_long_arm(out, scope, form, reached, *step),
-        Some(made) if kind.len().saturating_add(made.len()) <= MAX_ARM => {
-            writeln!(out, "            Kind::{kind} => Some({made}),")
-        }
-        Some(made) => {
-            let start = "            Kind::";
-            writeln!(
-                out,
-                "{start}{kind} => {{\n                Some({made})\n            }}"
-            )
-        }
+    let made = made_of(scope, form, reached, step);
+    if made.len() > MAX_MADE {
+        add_long_arm(out, scope, form, reached, step);
+    } else {
+        let template = match kind.len().saturating_add(made.len()) <= MAX_ARM {
+            true => "            Kind::$kind => Some($made),\n",
+            false => "            Kind::$kind => {\n                Some($made)\n            }\n",
+        };
+        let values = ["kind", kind, "made", out.read(&made)];
+        fill(out, template, &values);
     }
 }
 
-/// A node in its variants in one expression, if that is short.
-fn made_of(
-    scope: &Scope<'_>,
-    form: Form,
-    reached: &Reach,
-    step: Step,
-) -> Result<Option<String>, AllocError> {
-    let mut made = format!(in scope.alloc; "{} {{ syntax }}", wrapped(form))?;
+/// A node in its variants in one expression, or the beginning of it where it is too long.
+fn made_of(scope: &Scope<'_>, form: Form, reached: &Reach, step: Step) -> Text {
+    let mut made = scope.filled("$wrapper { syntax }", &["wrapper", wrapped(form)]);
     let mut at = step;
     for _ in 0..reached.steps.len() {
         let Some(before) = reached.steps.get(at.from) else {
             break;
         };
-        if before.item == at.item {
+        if before.item == at.item || made.len() > MAX_MADE {
             break;
         }
-        let variant = variant_of(scope, form, before.item, at.item)?;
-        made = format!(in scope.alloc; "{variant}({made})")?;
-        if made.len() > MAX_MADE {
-            return Ok(None);
-        }
+        made = wrapped_once(scope, form, before.item, at.item, &made);
         at = *before;
     }
-    Ok(Some(made))
+    made
+}
+
+/// What was made of a node, in the variant of an alternative.
+fn wrapped_once(scope: &Scope<'_>, form: Form, whole: usize, one: usize, made: &Text) -> Text {
+    let mut out = variant_of(scope, form, whole, one);
+    out.add("(");
+    out.add_text(made);
+    out.add(")");
+    out
 }
 
 /// An arm that makes the alternative by which a node was reached, and then puts it into its variant.
-fn add_long_arm(
-    out: &mut String,
-    scope: &Scope<'_>,
-    form: Form,
-    reached: &Reach,
-    step: Step,
-) -> Result<(), AllocError> {
+fn add_long_arm(out: &mut Text, scope: &Scope<'_>, form: Form, reached: &Reach, step: Step) {
     let kind = scope.grammar.name(step.item);
     let whole = match reached.steps.first() {
         Some(first) => first.item,
         None => step.top,
     };
-    fill(out, "            Kind::$kind => {\n", &["kind", kind])?;
+    fill(out, "            Kind::$kind => {\n", &["kind", kind]);
     let template = match step.top == step.item {
         true => "                let node = $wrapper { syntax };\n",
         false => "                let node = $wrapper::cast(syntax)?;\n",
@@ -536,14 +468,15 @@ fn add_long_arm(
         true => wrapped(form),
         false => scope.grammar.wrapper(form, step.top),
     };
-    fill(out, template, &["wrapper", wrapper])?;
-    let variant = variant_of(scope, form, whole, step.top)?;
-    add_wrap(out, variant.as_str())?;
-    out.push_str("                Some(node)\n            }\n")
+    fill(out, template, &["wrapper", wrapper]);
+    let variant = variant_of(scope, form, whole, step.top);
+    let variant = out.read(&variant);
+    add_wrap(out, variant);
+    out.add("                Some(node)\n            }\n");
 }
 
 /// Adds a statement that puts a node into a variant, on as many lines as `rt fmt` takes.
-fn add_wrap(out: &mut String, variant: &str) -> Result<(), AllocError> {
+fn add_wrap(out: &mut Text, variant: &str) {
     let template = match variant.len() {
         0..=66 => "                let node = $variant(node);\n",
         67..=72 =>
@@ -551,7 +484,7 @@ fn add_wrap(out: &mut String, variant: &str) -> Result<(), AllocError> {
         73 => "                let node =\n                    $variant(node);\n",
         _ => LONG_WRAP,
     };
-    fill(out, template, &["variant", variant])
+    fill(out, template, &["variant", variant]);
 }
 
 const LONG_WRAP: &str = "                let node =
@@ -561,22 +494,14 @@ const LONG_WRAP: &str = "                let node =
 ";
 
 /// The lemmas that what casts to an alternative casts to the whole.
-fn add_lemmas(
-    out: &mut String,
-    scope: &Scope<'_>,
-    form: Form,
-    item: &Item,
-) -> Result<(), AllocError> {
+fn add_lemmas(out: &mut Text, scope: &Scope<'_>, form: Form, item: &Item) {
     let template = match form {
         Form::Owned => "crate::proofs::CastLemmas::$one_is_$whole",
         Form::Borrowed => "crate::proofs::CastLemmas::$one_is_$whole_raw",
     };
-    let mut comma = "";
-    for used in item.alternatives.iter() {
+    for (number, used) in item.alternatives.iter().enumerate() {
         let one = scope.grammar.snake(used.item);
-        out.push_str(comma)?;
-        fill(out, template, &["one", one, "whole", item.snake.as_str()])?;
-        comma = ", ";
+        out.add(if number == 0 { "" } else { ", " });
+        fill(out, template, &["one", one, "whole", item.snake.as_str()]);
     }
-    Ok(())
 }

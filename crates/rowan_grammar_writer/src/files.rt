@@ -1,10 +1,10 @@
 //! The files of a language.
-use crate::kinds::{kinds_code, kinds_specs};
-use crate::nodes::nodes_code;
-use crate::parsers::parser_code;
-use crate::sets::set_lemmas;
-use crate::specs::{cast_lemmas, casts_specs, nodes_in};
-use crate::writer::Scope;
+use crate::kinds::{add_kinds_code, add_kinds_specs};
+use crate::nodes::add_nodes_code;
+use crate::parsers::add_parser_code;
+use crate::sets::add_set_lemmas;
+use crate::specs::{add_cast_lemmas, add_casts_specs, add_nodes_in_specs};
+use crate::writer::{Scope, Text, fill};
 use rowan_grammar_calls::calls::Calls;
 use rowan_grammar_calls::predictive::Rules;
 use rowan_grammar_calls::reach::choices_of;
@@ -51,13 +51,8 @@ pub fn files_of(source: &Source<'_>) -> Result<Vec<File>, AllocError> {
     let alloc = source.alloc;
     let text = source.text;
     let grammar = source.grammar;
-    let kinds = kinds_of(alloc, grammar)?;
-    let numbers = kind_numbers(alloc, grammar, kinds.as_slice())?;
-    let nodes = nodes_of(alloc, grammar)?;
-    let choices = wrapped_choices(alloc, grammar)?;
-    let contents = contents_of(alloc, grammar)?;
-    let mut sets = Vec::new(alloc);
-    add_numbers(&mut sets, grammar, &[Sort::Set])?;
+    let mut lists = Lists::new(alloc);
+    lists.read(alloc, grammar)?;
     let scope = Scope {
         alloc,
         text,
@@ -71,105 +66,196 @@ pub fn files_of(source: &Source<'_>) -> Result<Vec<File>, AllocError> {
         language: part_of(text, grammar.language),
         error: error_name(grammar),
         root: root_name(grammar, part_of(text, grammar.root)),
-        kinds: kinds.as_slice(),
-        numbers: numbers.as_slice(),
-        nodes: nodes.as_slice(),
-        choices: choices.as_slice(),
-        contents: contents.as_slice(),
-        sets: sets.as_slice(),
+        kinds: lists.kinds.as_slice(),
+        numbers: lists.numbers.as_slice(),
+        nodes: lists.nodes.as_slice(),
+        choices: lists.choices.as_slice(),
+        contents: lists.contents.as_slice(),
+        sets: lists.sets.as_slice(),
         traits: source.traits,
         rules: source.rules,
-        taken: &taken_names(alloc, grammar)?,
+        taken: &lists.taken,
     };
     files_in(&scope, source.name)
 }
 
-/// The choices that have a wrapper, each behind those among its alternatives.
-fn wrapped_choices(alloc: Global, grammar: &Grammar) -> Result<Vec<usize>, AllocError> {
-    let mut wrapped = Vec::new(alloc);
-    for choice in choices_of(alloc, grammar)?.iter() {
-        if grammar.forms(*choice) != Forms::NONE {
-            wrapped.push(*choice)?;
+/// The items of a grammar by what they are. The fields are those of `Scope`.
+#[derive(Drop)]
+struct Lists {
+    kinds: Vec<usize>,
+    numbers: Vec<usize>,
+    nodes: Vec<usize>,
+    choices: Vec<usize>,
+    contents: Vec<usize>,
+    sets: Vec<usize>,
+    taken: HashMap<String, bool>,
+}
+
+impl Lists {
+    fn new(alloc: Global) -> Lists {
+        Lists {
+            kinds: Vec::new(alloc),
+            numbers: Vec::new(alloc),
+            nodes: Vec::new(alloc),
+            choices: Vec::new(alloc),
+            contents: Vec::new(alloc),
+            sets: Vec::new(alloc),
+            taken: HashMap::new(alloc),
         }
     }
-    Ok(wrapped)
+
+    fn read(&mut self, alloc: Global, grammar: &Grammar) -> Result<(), AllocError> {
+        self.kinds = kinds_of(alloc, grammar)?;
+        self.numbers = kind_numbers(alloc, grammar, self.kinds.as_slice())?;
+        self.nodes = nodes_of(alloc, grammar)?;
+        self.contents = contents_of(alloc, grammar)?;
+        add_numbers(&mut self.sets, grammar, &[Sort::Set])?;
+        self.read_choices(alloc, grammar)?;
+        self.read_taken(alloc, grammar)
+    }
+
+    /// The choices that have a wrapper, each behind those among its alternatives.
+    fn read_choices(&mut self, alloc: Global, grammar: &Grammar) -> Result<(), AllocError> {
+        for choice in choices_of(alloc, grammar)?.iter() {
+            if grammar.forms(*choice) != Forms::NONE {
+                self.choices.push(*choice)?;
+            }
+        }
+        Ok(())
+    }
+
+    /// The names from elsewhere that wrappers and traits have.
+    fn read_taken(&mut self, alloc: Global, grammar: &Grammar) -> Result<(), AllocError> {
+        for item in grammar.items.iter() {
+            for form in [Form::Owned, Form::Borrowed] {
+                let name = match form {
+                    Form::Owned => item.name.as_str(),
+                    Form::Borrowed => item.borrowed.as_str(),
+                };
+                let is_named = item.forms.has(form) || item.sort == Sort::Trait;
+                if is_named && is_outside(name) {
+                    self.taken.insert(String::from_str(alloc, name)?, true)?;
+                }
+            }
+        }
+        Ok(())
+    }
+}
+
+/// What a file of the crate is.
+#[derive(Clone, Copy)]
+enum Part {
+    Kinds,
+    Nodes,
+    KindSpecs,
+    CastSpecs,
+    NodeInSpecs,
+    CastLemmas,
+    SetLemmas,
+    Parser,
 }
 
 /// The files of a grammar that is called by this name. What the grammar has nothing for has no text.
 fn files_in(scope: &Scope<'_>, name: &str) -> Result<Vec<File>, AllocError> {
     let mut files = Vec::new(scope.alloc);
-    let kinds = format!(in scope.alloc; "src/{}.rt", scope.module)?;
-    let has_choices = !scope.choices.is_empty();
-    let has_contents = !scope.contents.is_empty();
-    let has_casts = has_choices || has_contents || !scope.nodes.is_empty();
-    let has_nodes_in = has_choices || has_contents || scope.has_nodes(Form::Borrowed);
-    add_file(&mut files, kinds.as_str(), name, Some(kinds_code(scope)?))?;
-    let nodes = match has_casts {
-        true => Some(nodes_code(scope)?),
-        false => None,
-    };
-    add_file(&mut files, "src/nodes.rt", name, nodes)?;
-    let specs = kinds_specs(scope)?;
-    add_file(&mut files, "specs/Kinds.antt", name, Some(specs))?;
-    let casts = match has_casts {
-        true => Some(casts_specs(scope)?),
-        false => None,
-    };
-    add_file(&mut files, "specs/Casts.antt", name, casts)?;
-    let places = match has_nodes_in {
-        true => Some(nodes_in(scope)?),
-        false => None,
-    };
-    add_file(&mut files, "specs/NodeIn.antt", name, places)?;
-    let lemmas = match has_choices {
-        true => Some(cast_lemmas(scope)?),
-        false => None,
-    };
-    add_file(&mut files, "proofs/CastLemmas.antt", name, lemmas)?;
-    let lemmas = match scope.sets.is_empty() {
-        true => None,
-        false => Some(set_lemmas(scope)?),
-    };
-    add_file(&mut files, "proofs/SetLemmas.antt", name, lemmas)?;
-    add_file(&mut files, "src/parser.rt", name, parser_code(scope)?)?;
+    for part in [
+        Part::Kinds,
+        Part::Nodes,
+        Part::KindSpecs,
+        Part::CastSpecs,
+        Part::NodeInSpecs,
+        Part::CastLemmas,
+        Part::SetLemmas,
+        Part::Parser,
+    ] {
+        files.push(file_of(scope, name, part)?)?;
+    }
     Ok(files)
 }
 
-/// Adds a file. Its text has the mark before it.
-fn add_file(
-    files: &mut Vec<File>,
-    path: &str,
-    name: &str,
-    rest: Option<String>,
-) -> Result<(), AllocError> {
-    let alloc = *files.allocator();
-    let mark = mark_of(alloc, path, name)?;
-    let text = match rest {
-        Some(rest) => Some(format!(in alloc; "{mark}{rest}")?),
-        None => None,
+/// The path of a file, and whether it has a text.
+fn path_of(out: &mut Text, scope: &Scope<'_>, part: Part) -> bool {
+    let has_choices = !scope.choices.is_empty();
+    let has_wrapped = has_choices || !scope.contents.is_empty();
+    let (path, is_given) = match part {
+        Part::Kinds => ("src/$module.rt", true),
+        Part::Nodes => ("src/nodes.rt", has_wrapped || !scope.nodes.is_empty()),
+        Part::KindSpecs => ("specs/Kinds.antt", true),
+        Part::CastSpecs => ("specs/Casts.antt", has_wrapped || !scope.nodes.is_empty()),
+        Part::NodeInSpecs => {
+            (
+                "specs/NodeIn.antt",
+                has_wrapped || scope.has_nodes(Form::Borrowed),
+            )
+        }
+        Part::CastLemmas => ("proofs/CastLemmas.antt", has_choices),
+        Part::SetLemmas => ("proofs/SetLemmas.antt", !scope.sets.is_empty()),
+        Part::Parser => ("src/parser.rt", has_parser(scope)),
     };
-    let path = String::from_str(alloc, path)?;
-    files.push(File { path, mark, text })?;
-    Ok(())
+    fill(out, path, &["module", scope.module]);
+    is_given
+}
+
+/// Whether a parser is asked for.
+fn has_parser(scope: &Scope<'_>) -> bool {
+    scope.rules.is_some() && scope.grammar.parsing.lexer.is_some()
+}
+
+fn add_part(out: &mut Text, scope: &Scope<'_>, part: Part) {
+    match part {
+        Part::Kinds => add_kinds_code(out, scope),
+        Part::Nodes => add_nodes_code(out, scope),
+        Part::KindSpecs => add_kinds_specs(out, scope),
+        Part::CastSpecs => add_casts_specs(out, scope),
+        Part::NodeInSpecs => add_nodes_in_specs(out, scope),
+        Part::CastLemmas => add_cast_lemmas(out, scope),
+        Part::SetLemmas => add_set_lemmas(out, scope),
+        Part::Parser => add_parser_code(out, scope),
+    }
+}
+
+/// One file. Its text has the mark before it.
+fn file_of(scope: &Scope<'_>, name: &str, part: Part) -> Result<File, AllocError> {
+    let mut path = Text::new(scope.alloc);
+    let mut mark = Text::new(scope.alloc);
+    let mut text = Text::new(scope.alloc);
+    let is_given = path_of(&mut path, scope, part);
+    add_mark(&mut mark, part, name);
+    if is_given {
+        text.add_text(&mark);
+        add_part(&mut text, scope, part);
+    }
+    made_file(path, mark, text, is_given)
+}
+
+/// A file of these texts.
+fn made_file(path: Text, mark: Text, text: Text, is_given: bool) -> Result<File, AllocError> {
+    let path = path.finish()?;
+    let mark = mark.finish()?;
+    let text = text.finish()?;
+    Ok(File {
+        path,
+        mark,
+        text: if is_given { Some(text) } else { None },
+    })
 }
 
 /// The first line of a file. It names the grammar as its folder does.
-fn mark_of(alloc: Global, path: &str, name: &str) -> Result<String, AllocError> {
-    let comment = match path.ends_with(".antt") {
-        true => "--",
-        false => "//",
-    };
-    let mut mark = format!(in alloc; "{comment} Written by rowan_grammar from ")?;
+fn add_mark(out: &mut Text, part: Part, name: &str) {
+    out.add(match part {
+        Part::Kinds | Part::Nodes | Part::Parser => "//",
+        _ => "--",
+    });
+    out.add(" Written by rowan_grammar from ");
     let start = name.rfind('/').map_or(0, |slash| slash.saturating_add(1));
     for character in name.get(start..).unwrap_or("").chars() {
-        mark.push(if character.is_control() {
+        out.add_character(if character.is_control() {
             '?'
         } else {
             character
-        })?;
+        });
     }
-    mark.push_str(": change that, and not this file.\n")?;
-    Ok(mark)
+    out.add(": change that, and not this file.\n");
 }
 
 /// The name of the root as it is written, which may have an underscore behind it.
@@ -181,24 +267,6 @@ fn root_name<'g>(grammar: &'g Grammar, root: &str) -> &'g str {
         }
     }
     ""
-}
-
-/// The names from elsewhere that wrappers and traits have.
-fn taken_names(alloc: Global, grammar: &Grammar) -> Result<HashMap<String, bool>, AllocError> {
-    let mut taken = HashMap::new(alloc);
-    for item in grammar.items.iter() {
-        for form in [Form::Owned, Form::Borrowed] {
-            let name = match form {
-                Form::Owned => item.name.as_str(),
-                Form::Borrowed => item.borrowed.as_str(),
-            };
-            let is_named = item.forms.has(form) || item.sort == Sort::Trait;
-            if is_named && is_outside(name) {
-                taken.insert(String::from_str(alloc, name)?, true)?;
-            }
-        }
-    }
-    Ok(taken)
 }
 
 fn error_name(grammar: &Grammar) -> &str {

@@ -3,11 +3,10 @@ use crate::choices::add_choice;
 use crate::structs::{add_node, add_node_types};
 use crate::tokens::{add_token, add_token_types};
 use crate::traits::add_traits;
-use crate::writer::{Scope, fill};
+use crate::writer::{Scope, Text, fill};
 use rowan_grammar_calls::calls::Gives;
 use rowan_grammar_model::forms::Form;
 use rowan_grammar_model::grammar::Sort;
-use std::alloc::AllocError;
 
 /// What the ghost fields of borrowed wrappers name, and the contract of `nth_child`: before the words
 /// of that contract, and behind the places of what is borrowed.
@@ -62,62 +61,46 @@ impl Needs {
 }
 
 /// The text of `src/nodes.rt`.
-pub fn nodes_code(scope: &Scope<'_>) -> Result<String, AllocError> {
-    let mut out = String::new(scope.alloc);
+pub fn add_nodes_code(out: &mut Text, scope: &Scope<'_>) {
     let owned = needs_of(scope, Form::Owned);
-    add_head(&mut out, scope, owned, needs_of(scope, Form::Borrowed))?;
-    add_node_types(&mut out, scope)?;
+    add_head(out, scope, owned, needs_of(scope, Form::Borrowed));
+    add_node_types(out, scope);
     if !scope.contents.is_empty() {
-        add_token_types(&mut out, scope)?;
+        add_token_types(out, scope);
     }
     for (index, item) in scope.grammar.items.iter().enumerate() {
         match item.sort {
             _ if !item.is_wrapped() => {}
-            Sort::Node => add_node(&mut out, scope, item, index)?,
-            Sort::Choice => add_choice(&mut out, scope, item, index)?,
-            _ => add_token(&mut out, scope, item, index)?,
+            Sort::Node => add_node(out, scope, item, index),
+            Sort::Choice => add_choice(out, scope, item, index),
+            _ => add_token(out, scope, item, index),
         }
     }
-    add_traits(&mut out, scope)?;
+    add_traits(out, scope);
     if owned.nth_child {
-        scope.fill(&mut out, NTH, &["language", scope.language])?;
+        scope.fill(out, NTH, &["language", scope.language]);
     }
-    Ok(out)
 }
 
-fn add_head(
-    out: &mut String,
-    scope: &Scope<'_>,
-    owned: Needs,
-    borrowed: Needs,
-) -> Result<(), AllocError> {
+fn add_head(out: &mut Text, scope: &Scope<'_>, owned: Needs, borrowed: Needs) {
     let has_contents = !scope.contents.is_empty();
     let has_owned = scope.has_nodes(Form::Owned) || has_contents;
     let has_borrowed = scope.has_nodes(Form::Borrowed) || has_contents;
-    let which = which(has_owned, has_borrowed);
-    writeln!(
-        out,
-        "//! Wrappers of the nodes of {}{which}.",
-        scope.language
-    )?;
+    let names = ["language", scope.language, "module", scope.module];
+    fill(out, which(has_owned, has_borrowed), &names);
     if has_borrowed || owned.nth_child {
-        add_words_of_fields(out, scope, owned)?;
+        add_words_of_fields(out, scope, owned);
     }
-    let (first, second) = match scope.language < "Kind" {
-        true => (scope.language, "Kind"),
-        false => ("Kind", scope.language),
+    let line = match scope.language < "Kind" {
+        true => "use crate::$module::{$language, Kind};\n",
+        false => "use crate::$module::{Kind, $language};\n",
     };
-    writeln!(out, "use crate::{}::{{{first}, {second}}};", scope.module)?;
-    add_uses(out, scope, owned, borrowed)
+    fill(out, line, &names);
+    add_uses(out, scope, owned, borrowed);
 }
 
 /// What is named from other crates.
-fn add_uses(
-    out: &mut String,
-    scope: &Scope<'_>,
-    owned: Needs,
-    borrowed: Needs,
-) -> Result<(), AllocError> {
+fn add_uses(out: &mut Text, scope: &Scope<'_>, owned: Needs, borrowed: Needs) {
     let has_owned = scope.has_nodes(Form::Owned);
     let has_borrowed = scope.has_nodes(Form::Borrowed);
     let has_contents = !scope.contents.is_empty();
@@ -135,7 +118,7 @@ fn add_uses(
             (has_contents, "AstTokenRef"),
             (owned.has_calls() || borrowed.has_calls(), "support"),
         ],
-    )?;
+    );
     add_use(
         out,
         scope,
@@ -147,26 +130,22 @@ fn add_uses(
             (owned.token || has_contents, "SyntaxToken"),
             (borrowed.token || has_contents, "SyntaxTokenRef"),
         ],
-    )?;
+    );
     let has_models = has_owned || has_contents;
-    add_use(out, scope, "std::marker", &[(has_models, "Model")])
+    add_use(out, scope, "std::marker", &[(has_models, "Model")]);
 }
 
 /// The words that are named outside of impls.
-fn add_words_of_fields(
-    out: &mut String,
-    scope: &Scope<'_>,
-    owned: Needs,
-) -> Result<(), AllocError> {
+fn add_words_of_fields(out: &mut Text, scope: &Scope<'_>, owned: Needs) {
     let names = ["crate", scope.crate_name, "module", scope.module];
-    out.push_str(OF_FIELDS)?;
+    out.add(OF_FIELDS);
     if owned.nth_child {
-        fill(out, OF_NTH, &names)?;
+        fill(out, OF_NTH, &names);
     }
-    out.push_str(OF_CASTS)?;
+    out.add(OF_CASTS);
     let places = places(scope.has_nodes(Form::Borrowed), !scope.contents.is_empty());
-    fill(out, places, &names)?;
-    fill(out, OF_KINDS, &names)
+    fill(out, places, &names);
+    fill(out, OF_KINDS, &names);
 }
 
 /// The lines that import the places of what is borrowed, and which kinds cast to it.
@@ -194,36 +173,37 @@ ghost use Rattle.rowan.specs.Refs.{node_place, token_place};
 ghost use Rattle.$crate.specs.Casts.{has_number};
 ";
 
-/// Which wrappers the file has.
+/// The first line, which says which wrappers the file has.
 fn which(has_owned: bool, has_borrowed: bool) -> &'static str {
     match (has_owned, has_borrowed) {
-        (true, true) => ": owned ones, which keep the tree, and those that borrow it",
-        (true, false) => ", which keep the tree",
-        _ => ", which borrow the tree",
+        (true, true) => BOTH,
+        (true, false) => "//! Wrappers of the nodes of $language, which keep the tree.\n",
+        _ => "//! Wrappers of the nodes of $language, which borrow the tree.\n",
     }
 }
 
+const BOTH: &str = "\
+//! Wrappers of the nodes of $language: owned ones, which keep the tree, and those that borrow it.
+";
+
 /// A line that imports those of the names of a module that are wanted and that no wrapper has.
-fn add_use(
-    out: &mut String,
-    scope: &Scope<'_>,
-    module: &str,
-    names: &[(bool, &str)],
-) -> Result<(), AllocError> {
-    let mut list = String::new(scope.alloc);
+fn add_use(out: &mut Text, scope: &Scope<'_>, module: &str, names: &[(bool, &str)]) {
+    let mut list = Text::new(scope.alloc);
     let mut count = 0usize;
     for (is_wanted, name) in names.iter() {
         if *is_wanted && scope.outside(name) == *name {
-            list.push_str(if count == 0 { "" } else { ", " })?;
-            list.push_str(name)?;
+            list.add(if count == 0 { "" } else { ", " });
+            list.add(name);
             count = count.saturating_add(1);
         }
     }
-    match count {
-        0 => Ok(()),
-        1 => writeln!(out, "use {module}::{list};"),
-        _ => writeln!(out, "use {module}::{{{list}}};"),
-    }
+    let template = match count {
+        0 => "",
+        1 => "use $module::$list;\n",
+        _ => "use $module::{$list};\n",
+    };
+    let values = ["module", module, "list", out.read(&list)];
+    fill(out, template, &values);
 }
 
 /// What the calls of wrappers of a form need.

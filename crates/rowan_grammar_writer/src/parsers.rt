@@ -1,12 +1,12 @@
 //! The parser of a language as source text: `src/parser.rt`.
+use crate::kinds::trivia_of;
 use crate::signs::plain;
 use crate::texts::text_of;
-use crate::writer::{ARGUMENTS, Scope, WIDTH, add_signature, fill};
+use crate::writer::{ARGUMENTS, Scope, Text, WIDTH, add_signature, fill};
 use rowan_grammar_calls::predictive::{Of, Rules};
 use rowan_grammar_model::grammar::Sort;
 use rowan_grammar_model::place::text_at;
 use rowan_predictive::Rule;
-use std::alloc::AllocError;
 
 const HEAD: &str = "\
 //! The parser of $language: the rules of its grammar, by which `rowan_predictive` goes.
@@ -19,16 +19,18 @@ ghost use Rattle.rowan_predictive.specs.Parsing.{HasTree, IsTreeBy};
 ghost use Rattle.rowan_predictive.specs.View.{rules_in, rules_prop};
 ghost use Rattle.$crate.specs.declared.parser.TheConstants.{RULES, SKIPPED};
 
-${kinds}use rowan::{Fault, SyntaxKind};
+";
+
+const USES: &str = "\
+use rowan::{Fault, SyntaxKind};
 use rowan_parser::{Lexer, Parse, TokenSet, Trivia, token_set};
 use rowan_predictive::{Grammar, GrammarError, Rule, Start};
 use std::alloc::Global;
 
 ";
 
-const PARSER: &str = "
-/// The tokens that may stand anywhere.
-const SKIPPED: TokenSet = token_set![$trivia];
+/// What stands behind the tokens that may stand anywhere.
+const PARSER: &str = "];
 
 const TRIVIA: Trivia<'static> = Trivia {
     kinds: SKIPPED,
@@ -101,88 +103,73 @@ $head
 }
 ";
 
-/// The text of `src/parser.rt`; nothing where no parser is asked for.
-pub fn parser_code(scope: &Scope<'_>) -> Result<Option<String>, AllocError> {
-    let Some(rules) = scope.rules else {
-        return Ok(None);
-    };
-    if scope.grammar.parsing.lexer.is_none() {
-        return Ok(None);
+/// Adds the text of `src/parser.rt`: nothing where no parser is asked for.
+pub fn add_parser_code(out: &mut Text, scope: &Scope<'_>) {
+    match (scope.rules, &scope.grammar.parsing.lexer) {
+        (Some(rules), Some(lexer)) => {
+            let trivia = trivia_of(scope);
+            add_head(out, scope, trivia.len() > 0);
+            add_rules(out, scope, rules);
+            add_words(out, scope);
+            out.add("\n/// The tokens that may stand anywhere.\n");
+            out.add("const SKIPPED: TokenSet = token_set![");
+            trivia.add_to(out);
+            add_parser(out, scope, rules.start, lexer.path.as_str());
+        }
+        _ => {}
     }
-    let mut out = String::new(scope.alloc);
-    let trivia = trivia_of(scope)?;
-    add_head(&mut out, scope, !trivia.is_empty())?;
-    add_rules(&mut out, scope, rules)?;
-    add_words(&mut out, scope)?;
-    add_parser(&mut out, scope, rules.start, trivia)?;
-    Ok(Some(out))
 }
 
 /// What stands before the rules.
-fn add_head(out: &mut String, scope: &Scope<'_>, has_trivia: bool) -> Result<(), AllocError> {
-    let mut kinds = String::new(scope.alloc);
-    if has_trivia {
-        writeln!(kinds, "use crate::{}::Kind;", scope.module)?;
-    }
+fn add_head(out: &mut Text, scope: &Scope<'_>, has_trivia: bool) {
     let values = [
         "language",
         scope.language,
-        "kinds",
-        kinds.as_str(),
         "crate",
         scope.crate_name,
+        "module",
+        scope.module,
     ];
-    fill(out, HEAD, &values)
+    fill(out, HEAD, &values);
+    if has_trivia {
+        fill(out, "use crate::$module::Kind;\n", &values);
+    }
+    out.add(USES);
 }
 
 /// The parser: its rules are tested by `new`, and begin at this one.
-fn add_parser(
-    out: &mut String,
-    scope: &Scope<'_>,
-    start: usize,
-    trivia: String,
-) -> Result<(), AllocError> {
-    let Some(lexer) = &scope.grammar.parsing.lexer else {
-        return Ok(());
-    };
-    let alloc = scope.alloc;
-    let root = format!(in alloc; "{}", number_of(scope, scope.root))?;
-    let error = format!(in alloc; "{}", number_of(scope, scope.error))?;
-    let start = format!(in alloc; "{start}")?;
-    let making = making_of(scope)?;
+fn add_parser(out: &mut Text, scope: &Scope<'_>, start: usize, lexer: &str) {
+    let root = scope.number(number_of(scope, scope.root));
+    let error = scope.number(number_of(scope, scope.error));
+    let start = scope.number(start);
+    let making = making_of(scope);
     let values = [
         "language",
         scope.language,
         "root",
-        root.as_str(),
+        out.read(&root),
         "error",
-        error.as_str(),
+        out.read(&error),
         "start",
-        start.as_str(),
+        out.read(&start),
         "lexer",
-        lexer.path.as_str(),
+        lexer,
         "node",
         scope.root,
-        "trivia",
-        trivia.as_str(),
         "head",
-        making.as_str(),
+        out.read(&making),
     ];
-    fill(out, PARSER, &values)
+    fill(out, PARSER, &values);
 }
 
 /// The head of `new`.
-fn making_of(scope: &Scope<'_>) -> Result<String, AllocError> {
-    let mut out = String::new(scope.alloc);
-    let gives = format!(in scope.alloc; "Result<{}Parser, GrammarError>", scope.language)?;
-    add_signature(
-        &mut out,
-        "    pub fn ",
-        "new",
-        "alloc: Global",
-        gives.as_str(),
-    )?;
-    Ok(out)
+fn making_of(scope: &Scope<'_>) -> Text {
+    let mut out = Text::new(scope.alloc);
+    let language = ["language", scope.language];
+    let gives = scope.filled("Result<${language}Parser, GrammarError>", &language);
+    let gives = out.read(&gives);
+    add_signature(&mut out, "    pub fn ", "new", "alloc: Global", gives);
+    out
 }
 
 /// The raw kind of what has this name.
@@ -193,72 +180,73 @@ fn number_of(scope: &Scope<'_>, name: &str) -> usize {
 }
 
 /// Adds the rules. Before that of a token, a node or a choice stands its name.
-fn add_rules(out: &mut String, scope: &Scope<'_>, rules: &Rules) -> Result<(), AllocError> {
-    out.push_str("/// The rules, which name each other by their places in this list.\n")?;
-    writeln!(out, "const RULES: [Rule; {}] = [", rules.rules.len())?;
+fn add_rules(out: &mut Text, scope: &Scope<'_>, rules: &Rules) {
+    out.add("/// The rules, which name each other by their places in this list.\n");
+    out.add("const RULES: [Rule; ");
+    out.add_number(rules.rules.len());
+    out.add("] = [\n");
     let mut is_behind_items = false;
     for (rule, origin) in rules.rules.iter().zip(rules.origins.iter()) {
         match origin.of {
-            Of::Item(item) => writeln!(out, "    // {}", scope.grammar.name(item))?,
+            Of::Item(item) => fill(out, "    // $name\n", &["name", scope.grammar.name(item)]),
             _ if !is_behind_items => {
                 is_behind_items = true;
-                out.push_str("    // Parts of these.\n")?;
+                out.add("    // Parts of these.\n");
             }
             _ => {}
         }
-        add_rule(out, *rule)?;
+        add_rule(out, *rule);
     }
-    out.push_str("];\n")
+    out.add("];\n");
 }
 
-fn add_rule(out: &mut String, rule: Rule) -> Result<(), AllocError> {
-    out.push_str("    Rule::")?;
+fn add_rule(out: &mut Text, rule: Rule) {
     match rule {
-        Rule::Empty => out.push_str("Empty")?,
-        Rule::Token(kind) => write!(out, "Token({kind})")?,
-        Rule::Node(kind, part) => write!(out, "Node({kind}, {part})")?,
-        Rule::Chain(part) => write!(out, "Chain({part})")?,
-        Rule::Wrap(kind, part) => write!(out, "Wrap({kind}, {part})")?,
-        Rule::Seq(one, other) => write!(out, "Seq({one}, {other})")?,
-        Rule::Choice(one, other) => write!(out, "Choice({one}, {other})")?,
-        Rule::Optional(part) => write!(out, "Optional({part})")?,
-        Rule::Star(part) => write!(out, "Star({part})")?,
+        Rule::Empty => out.add("    Rule::Empty"),
+        Rule::Token(kind) => add_parts(out, "    Rule::Token(", usize::from(kind), None),
+        Rule::Node(kind, part) => add_parts(out, "    Rule::Node(", usize::from(kind), Some(part)),
+        Rule::Chain(part) => add_parts(out, "    Rule::Chain(", part, None),
+        Rule::Wrap(kind, part) => add_parts(out, "    Rule::Wrap(", usize::from(kind), Some(part)),
+        Rule::Seq(one, other) => add_parts(out, "    Rule::Seq(", one, Some(other)),
+        Rule::Choice(one, other) => add_parts(out, "    Rule::Choice(", one, Some(other)),
+        Rule::Optional(part) => add_parts(out, "    Rule::Optional(", part, None),
+        Rule::Star(part) => add_parts(out, "    Rule::Star(", part, None),
     }
-    out.push_str(",\n")
+    out.add(",\n");
 }
 
-/// The kinds of trivia, each on its own line where one line does not take them.
-fn trivia_of(scope: &Scope<'_>) -> Result<String, AllocError> {
-    let mut line = String::new(scope.alloc);
-    let mut lines = String::from_str(scope.alloc, "\n")?;
-    for index in scope.kinds.iter() {
-        if scope.grammar.sort(*index) == Sort::Trivia {
-            let name = scope.grammar.name(*index);
-            line.push_str(if line.is_empty() { "" } else { ", " })?;
-            write!(line, "Kind::{name}")?;
-            writeln!(lines, "    Kind::{name},")?;
-        }
+/// The numbers that a rule has.
+fn add_parts(out: &mut Text, name: &str, one: usize, other: Option<usize>) {
+    out.add(name);
+    out.add_number(one);
+    if let Some(other) = other {
+        out.add(", ");
+        out.add_number(other);
     }
-    Ok(if line.len() <= ARGUMENTS { line } else { lines })
+    out.add(")");
 }
 
 /// Adds how messages name the tokens.
-fn add_words(out: &mut String, scope: &Scope<'_>) -> Result<(), AllocError> {
-    let mut words: Vec<String> = Vec::new(scope.alloc);
+fn add_words(out: &mut Text, scope: &Scope<'_>) {
+    let mut words: Vec<Text> = Vec::new(scope.alloc);
     for index in scope.kinds.iter() {
         if scope.grammar.sort(*index).is_token() && words.len() < 128 {
-            words.push(word_of(scope, *index)?)?;
+            if words.push(word_of(scope, *index)).is_err() {
+                out.fail();
+            }
         }
     }
-    out.push_str("\n/// How messages name the tokens, by their raw kinds.\n")?;
-    write!(out, "const WORDS: [&str; {}] = [", words.len())?;
-    add_packed(out, words.as_slice())?;
-    out.push_str("];\n")
+    out.add("\n/// How messages name the tokens, by their raw kinds.\n");
+    out.add("const WORDS: [&str; ");
+    out.add_number(words.len());
+    out.add("] = [");
+    add_packed(out, words.as_slice());
+    out.add("];\n");
 }
 
 /// Adds elements of a list as `rt fmt` lays them out: on one line if it takes them, else as many on
 /// a line as it takes where all are short, else each on its own.
-fn add_packed(out: &mut String, words: &[String]) -> Result<(), AllocError> {
+fn add_packed(out: &mut Text, words: &[Text]) {
     let mut len = 0usize;
     let mut longest = 0usize;
     for word in words.iter() {
@@ -275,69 +263,63 @@ fn add_packed(out: &mut String, words: &[String]) -> Result<(), AllocError> {
     for (index, word) in words.iter().enumerate() {
         let end = column.saturating_add(word.len()).saturating_add(2);
         if !is_one_line && (index == 0 || end > width) {
-            out.push_str("\n    ")?;
+            out.add("\n    ");
             column = 4;
         } else if index > 0 {
-            out.push(' ')?;
+            out.add(" ");
             column = column.saturating_add(1);
         }
-        out.push_str(word.as_str())?;
+        out.add_text(word);
         let is_last = index.saturating_add(1) == words.len();
         if !is_one_line || !is_last {
-            out.push(',')?;
+            out.add(",");
         }
         column = column.saturating_add(word.len()).saturating_add(1);
     }
-    match is_one_line {
-        true => Ok(()),
-        false => out.push('\n'),
+    if !is_one_line {
+        out.add("\n");
     }
 }
 
 /// How messages name a token, in quotes: by its text, by the words that the grammar has for it, or by
 /// its name with an article.
-fn word_of(scope: &Scope<'_>, index: usize) -> Result<String, AllocError> {
-    let alloc = scope.alloc;
-    let mut word = String::from_str(alloc, "\"")?;
-    if scope.grammar.sort(index) == Sort::Trivia {
-        word.push('"')?;
-        return Ok(word);
+fn word_of(scope: &Scope<'_>, index: usize) -> Text {
+    let mut word = Text::new(scope.alloc);
+    word.add("\"");
+    if scope.grammar.sort(index) != Sort::Trivia {
+        add_shown(&mut word, scope, index);
     }
-    let shown = scope.grammar.parsing.words(index);
-    if let Some(range) = shown {
-        let quoted = text_at(scope.text, range);
-        push_escaped(&mut word, plain(alloc, quoted)?.as_str())?;
+    word.add("\"");
+    word
+}
+
+fn add_shown(out: &mut Text, scope: &Scope<'_>, index: usize) {
+    if let Some(range) = scope.grammar.parsing.words(index) {
+        add_plain(out, scope, text_at(scope.text, range));
     } else if let Some(text) = text_of(scope, index) {
-        word.push('`')?;
-        push_escaped(&mut word, plain(alloc, text)?.as_str())?;
-        word.push('`')?;
+        out.add("`");
+        add_plain(out, scope, text);
+        out.add("`");
     } else {
-        add_name(&mut word, scope.grammar.snake(index))?;
+        add_name(out, scope.grammar.snake(index));
     }
-    word.push('"')?;
-    Ok(word)
+}
+
+/// Adds a text of a grammar as it stands in quotes here.
+fn add_plain(out: &mut Text, scope: &Scope<'_>, quoted: &str) {
+    let plain = plain(scope.alloc, quoted);
+    let plain = out.read(&plain);
+    out.add_escaped(plain);
 }
 
 /// Adds the name of a token in words, as `an integer literal`.
-fn add_name(out: &mut String, snake: &str) -> Result<(), AllocError> {
+fn add_name(out: &mut Text, snake: &str) {
     let is_vowel = snake.starts_with(|first: char| matches!(first, 'a' | 'e' | 'i' | 'o' | 'u'));
-    out.push_str(if is_vowel { "an" } else { "a" })?;
+    out.add(if is_vowel { "an" } else { "a" });
     for word in snake.split('_') {
         if !word.is_empty() {
-            out.push(' ')?;
-            out.push_str(word)?;
+            out.add(" ");
+            out.add(word);
         }
     }
-    Ok(())
-}
-
-/// Adds a text as it stands in quotes.
-pub fn push_escaped(out: &mut String, text: &str) -> Result<(), AllocError> {
-    for character in text.chars() {
-        if character == '"' || character == '\\' {
-            out.push('\\')?;
-        }
-        out.push(character)?;
-    }
-    Ok(())
 }

@@ -1,8 +1,7 @@
 //! The sets of tokens that a grammar names, as source text: constants, calls that tell the kinds in
 //! them, and the definitions and lemmas of these.
-use crate::writer::{ARGUMENTS, Imports, Scope, WIDTH, add_docs, fill};
+use crate::writer::{ARGUMENTS, Imports, Scope, Text, WIDTH, add_docs, fill};
 use rowan_grammar_model::names::upper;
-use std::alloc::AllocError;
 
 const CALL: &str = "
     /// Whether its tokens are in `$constant`.
@@ -26,31 +25,27 @@ use Rattle.$crate.specs.declared.$module.Kind.{Kind}
 const CONSTANT: &str = "pub const : TokenSet = token_set![];";
 
 /// The name of the constant of a set.
-fn constant(scope: &Scope<'_>, set: usize) -> Result<String, AllocError> {
-    upper(scope.alloc, scope.grammar.snake(set))
+fn constant(scope: &Scope<'_>, set: usize) -> Text {
+    Text::of(scope.alloc, upper(scope.alloc, scope.grammar.snake(set)))
 }
 
 /// Adds the constants of the sets.
-pub fn add_sets(out: &mut String, scope: &Scope<'_>) -> Result<(), AllocError> {
+pub fn add_sets(out: &mut Text, scope: &Scope<'_>) {
     for set in scope.sets.iter() {
-        let name = constant(scope, *set)?;
-        out.push('\n')?;
-        add_docs(out, "", scope.grammar.docs(*set), "")?;
-        write!(out, "pub const {name}: TokenSet = token_set![")?;
-        add_kinds(out, scope, *set, name.len())?;
-        out.push_str("];\n")?;
+        let name = constant(scope, *set);
+        out.add("\n");
+        add_docs(out, "", scope.grammar.docs(*set), "");
+        out.add("pub const ");
+        out.add_text(&name);
+        out.add(": TokenSet = token_set![");
+        add_kinds(out, scope, *set, name.len());
+        out.add("];\n");
     }
-    Ok(())
 }
 
 /// Adds the kinds of a set whose constant has a name of this length, each on a line of its own where
 /// they are long.
-fn add_kinds(
-    out: &mut String,
-    scope: &Scope<'_>,
-    set: usize,
-    name_len: usize,
-) -> Result<(), AllocError> {
+fn add_kinds(out: &mut Text, scope: &Scope<'_>, set: usize, name_len: usize) {
     let kinds = scope.grammar.alternatives(set);
     let mut len = 0usize;
     for used in kinds.iter() {
@@ -65,114 +60,111 @@ fn add_kinds(
         false => ("Kind::", ", Kind::"),
     };
     for (number, used) in kinds.iter().enumerate() {
-        out.push_str(if number == 0 { first } else { next })?;
-        out.push_str(scope.grammar.name(used.item))?;
+        out.add(if number == 0 { first } else { next });
+        out.add(scope.grammar.name(used.item));
     }
-    out.push_str(if is_long { "\n" } else { "" })
+    out.add(if is_long { "\n" } else { "" });
 }
 
 /// Adds the words that the contracts of the calls name.
-pub fn add_set_words(words: &mut Imports, scope: &Scope<'_>) -> Result<(), AllocError> {
+pub fn add_set_words(words: &mut Imports, scope: &Scope<'_>) {
     for set in scope.sets.iter() {
-        let word = format!(in scope.alloc; "is_in_{}", scope.grammar.snake(*set))?;
-        words.add(word.as_str())?;
+        words.add_word("is_in_", scope.grammar.snake(*set));
     }
-    Ok(())
 }
 
 /// Adds the calls that tell the kinds in the sets.
-pub fn add_set_calls(out: &mut String, scope: &Scope<'_>) -> Result<(), AllocError> {
+pub fn add_set_calls(out: &mut Text, scope: &Scope<'_>) {
     for set in scope.sets.iter() {
-        let name = constant(scope, *set)?;
+        let name = constant(scope, *set);
         let snake = scope.grammar.snake(*set);
-        fill(
-            out,
-            CALL,
-            &[
-                "snake",
-                snake,
-                "constant",
-                name.as_str(),
-                "language",
-                scope.language,
-            ],
-        )?;
+        let values = [
+            "snake",
+            snake,
+            "constant",
+            out.read(&name),
+            "language",
+            scope.language,
+        ];
+        fill(out, CALL, &values);
     }
-    Ok(())
 }
 
 /// Adds the definitions that the contracts of these calls name.
-pub fn add_set_specs(out: &mut String, scope: &Scope<'_>) -> Result<(), AllocError> {
+pub fn add_set_specs(out: &mut Text, scope: &Scope<'_>) {
     for set in scope.sets.iter() {
         let snake = scope.grammar.snake(*set);
         let name = scope.grammar.name(*set);
         let head =
             "\n-- whether its tokens are in the set `$name`\nabbrev pub is_in_$snake : Kind → Bool\n";
-        fill(out, head, &["snake", snake, "name", name])?;
+        fill(out, head, &["snake", snake, "name", name]);
         for used in scope.grammar.alternatives(*set).iter() {
             let kind = scope.grammar.name(used.item);
             fill(
                 out,
                 "is_in_$snake Kind.$kind = true\n",
                 &["snake", snake, "kind", kind],
-            )?;
+            );
         }
-        fill(out, "is_in_$snake _ = false\n", &["snake", snake])?;
+        fill(out, "is_in_$snake _ = false\n", &["snake", snake]);
     }
-    Ok(())
 }
 
 /// The text of `proofs/SetLemmas.antt`: a set has the bits of its tokens, and no others.
-pub fn set_lemmas(scope: &Scope<'_>) -> Result<String, AllocError> {
-    let mut out = String::new(scope.alloc);
+pub fn add_set_lemmas(out: &mut Text, scope: &Scope<'_>) {
     let names = ["crate", scope.crate_name, "module", scope.module];
-    fill(&mut out, LEMMAS, &names)?;
-    add_constants(&mut out, scope)?;
-    add_words(&mut out, scope)?;
+    fill(out, LEMMAS, &names);
+    add_constants(out, scope);
+    add_words(out, scope);
     for set in scope.sets.iter() {
-        add_lemma(&mut out, scope, *set)?;
+        add_lemma(out, scope, *set);
     }
-    Ok(out)
 }
 
 /// Adds the lines that import the constants.
-fn add_constants(out: &mut String, scope: &Scope<'_>) -> Result<(), AllocError> {
-    let (crate_name, module) = (scope.crate_name, scope.module);
-    let head = format!(in scope.alloc;
-        "use Rattle.{crate_name}.specs.declared.{module}.TheConstants.{{"
-    )?;
-    let mut constants = Imports::new(scope.alloc, head.as_str(), "")?;
+fn add_constants(out: &mut Text, scope: &Scope<'_>) {
+    let head = "use Rattle.$crate.specs.declared.$module.TheConstants.{";
+    let mut constants = Imports::new(scope, head, "");
     for set in scope.sets.iter() {
-        constants.add(constant(scope, *set)?.as_str())?;
+        let name = constant(scope, *set);
+        constants.add(out.read(&name));
     }
-    out.push_str(constants.finish()?)
+    constants.finish(out);
 }
 
 /// Adds the lines that import what tells the kinds in the sets.
-fn add_words(out: &mut String, scope: &Scope<'_>) -> Result<(), AllocError> {
-    let head = format!(in scope.alloc; "use Rattle.{}.specs.Kinds.{{", scope.crate_name)?;
-    let mut words = Imports::new(scope.alloc, head.as_str(), "")?;
-    words.add("number_of")?;
-    add_set_words(&mut words, scope)?;
-    out.push_str(words.finish()?)
+fn add_words(out: &mut Text, scope: &Scope<'_>) {
+    let mut words = Imports::new(scope, "use Rattle.$crate.specs.Kinds.{", "");
+    words.add("number_of");
+    add_set_words(&mut words, scope);
+    words.finish(out);
 }
 
 /// Adds the lemma of one set: a line for each kind.
-fn add_lemma(out: &mut String, scope: &Scope<'_>, set: usize) -> Result<(), AllocError> {
-    add_lemma_head(out, scope, set)?;
+fn add_lemma(out: &mut Text, scope: &Scope<'_>, set: usize) {
+    add_lemma_head(out, scope, set);
     let snake = scope.grammar.snake(set);
     for kind in scope.kinds.iter() {
         let kind = scope.grammar.name(*kind);
-        writeln!(out, "{snake}_has Kind.{kind} = refl")?;
+        fill(
+            out,
+            "${snake}_has Kind.$kind = refl\n",
+            &["snake", snake, "kind", kind],
+        );
     }
-    Ok(())
 }
 
-fn add_lemma_head(out: &mut String, scope: &Scope<'_>, set: usize) -> Result<(), AllocError> {
-    let name = constant(scope, set)?;
-    let snake = scope.grammar.snake(set);
-    writeln!(
-        out,
-        "\npub {snake}_has : (k : Kind) → has {name}.0 (number_of k) ≡ is_in_{snake} k"
-    )
+fn add_lemma_head(out: &mut Text, scope: &Scope<'_>, set: usize) {
+    let name = constant(scope, set);
+    let values = [
+        "constant",
+        out.read(&name),
+        "snake",
+        scope.grammar.snake(set),
+    ];
+    fill(out, LEMMA_HEAD, &values);
 }
+
+const LEMMA_HEAD: &str = "
+pub ${snake}_has : (k : Kind) → has $constant.0 (number_of k) ≡ is_in_$snake k
+";

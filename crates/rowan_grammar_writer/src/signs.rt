@@ -1,7 +1,6 @@
 //! The texts that tokens always have, the longest first, for a lexer, as source text.
-use crate::parsers::push_escaped;
 use crate::texts::{is_word, text_of};
-use crate::writer::{ARGUMENTS, Scope, fill};
+use crate::writer::{ARGUMENTS, Scope, Text, fill};
 use std::alloc::{AllocError, Global};
 
 const CALL: &str = "
@@ -23,7 +22,7 @@ const TEST: &str = "        if bytes.starts_with(b\"$text\") {
 /// A token that always has one text.
 #[derive(Drop)]
 struct Sign {
-    text: String,
+    text: Text,
     item: usize,
 }
 
@@ -33,7 +32,7 @@ fn texts_of(scope: &Scope<'_>) -> Result<Vec<Sign>, AllocError> {
     for index in scope.kinds.iter() {
         if let Some(text) = text_of(scope, *index) {
             texts.push(Sign {
-                text: plain(scope.alloc, text)?,
+                text: plain(scope.alloc, text),
                 item: *index,
             })?;
         }
@@ -42,44 +41,53 @@ fn texts_of(scope: &Scope<'_>) -> Result<Vec<Sign>, AllocError> {
     Ok(texts)
 }
 
-/// The signs, the longest first.
-fn signs_of(scope: &Scope<'_>) -> Result<Vec<Sign>, AllocError> {
-    let mut signs: Vec<Sign> = Vec::new(scope.alloc);
-    for sign in texts_of(scope)?.iter() {
-        if sign_of(scope, sign.item).is_some() {
-            signs.push(Sign {
-                text: sign.text.clone()?,
-                item: sign.item,
-            })?;
-        }
+/// Adds the table of the texts that tokens always have, where a parser is asked for.
+pub fn add_table(out: &mut Text, scope: &Scope<'_>) {
+    match texts_of(scope) {
+        Ok(texts) if scope.rules.is_some() && !texts.is_empty() => add_texts(
+            out,
+            scope,
+            texts.as_slice(),
+        ),
+        Ok(_) => {}
+        Err(_) => out.fail(),
     }
-    Ok(signs)
 }
 
-/// Adds the table of the texts that tokens always have, where a parser is asked for.
-pub fn add_table(out: &mut String, scope: &Scope<'_>) -> Result<(), AllocError> {
-    let texts = texts_of(scope)?;
-    if scope.rules.is_none() || texts.is_empty() {
-        return Ok(());
-    }
-    let mut line = String::new(scope.alloc);
-    let mut lines = String::new(scope.alloc);
+fn add_texts(out: &mut Text, scope: &Scope<'_>, texts: &[Sign]) {
+    let mut line = Text::new(scope.alloc);
+    let mut lines = Text::new(scope.alloc);
     for text in texts.iter() {
-        let shown = escaped(scope.alloc, text.text.as_str())?;
-        let name = scope.grammar.name(text.item);
-        let pair = format!(in scope.alloc; "(\"{shown}\", Kind::{name})")?;
-        line.push_str(if line.is_empty() { "" } else { ", " })?;
-        line.push_str(pair.as_str())?;
-        writeln!(lines, "    {pair},")?;
+        let pair = pair_of(scope, text);
+        line.add(if line.is_empty() { "" } else { ", " });
+        line.add_text(&pair);
+        lines.add("    ");
+        lines.add_text(&pair);
+        lines.add(",\n");
     }
-    let count = texts.len();
-    out.push_str("\n/// The texts of tokens that always have one, the longest first.\n")?;
-    write!(out, "pub const TEXTS: [(&str, Kind); {count}] = [")?;
+    out.add("\n/// The texts of tokens that always have one, the longest first.\n");
+    out.add("pub const TEXTS: [(&str, Kind); ");
+    out.add_number(texts.len());
+    out.add("] = [");
     if line.len() <= ARGUMENTS {
-        writeln!(out, "{line}];")
+        out.add_text(&line);
     } else {
-        write!(out, "\n{lines}];\n")
+        out.add("\n");
+        out.add_text(&lines);
     }
+    out.add("];\n");
+}
+
+/// The element of the table for one text.
+fn pair_of(scope: &Scope<'_>, sign: &Sign) -> Text {
+    let mut out = Text::new(scope.alloc);
+    out.add("(\"");
+    let text = out.read(&sign.text);
+    out.add_escaped(text);
+    out.add("\", Kind::");
+    out.add(scope.grammar.name(sign.item));
+    out.add(")");
+    out
 }
 
 /// Whether the kinds have a call for signs: where a parser is asked for, and there are some.
@@ -97,70 +105,83 @@ fn sign_of<'g>(scope: &Scope<'g>, index: usize) -> Option<&'g str> {
 }
 
 /// Adds the call that finds the sign with which a text begins.
-pub fn add_sign_call(out: &mut String, scope: &Scope<'_>) -> Result<(), AllocError> {
-    let mut tests = String::new(scope.alloc);
-    for sign in signs_of(scope)?.iter() {
-        let text = escaped(scope.alloc, sign.text.as_str())?;
-        let len = format!(in scope.alloc; "{}", sign.text.len())?;
-        let name = scope.grammar.name(sign.item);
-        fill(
-            &mut tests,
-            TEST,
-            &["text", text.as_str(), "kind", name, "len", len.as_str()],
-        )?;
+pub fn add_sign_call(out: &mut Text, scope: &Scope<'_>) {
+    let mut tests = Text::new(scope.alloc);
+    match texts_of(scope) {
+        Ok(texts) => {
+            for sign in texts.iter() {
+                if sign_of(scope, sign.item).is_some() {
+                    add_sign(&mut tests, scope, TEST, sign);
+                }
+            }
+        }
+        Err(_) => tests.fail(),
     }
-    fill(out, CALL, &["tests", tests.as_str()])
+    let tests = ["tests", out.read(&tests)];
+    fill(out, CALL, &tests);
+}
+
+/// Adds a template with the values of a sign.
+fn add_sign(out: &mut Text, scope: &Scope<'_>, template: &str, sign: &Sign) {
+    let plain = out.read(&sign.text);
+    let text = scope.escaped(plain);
+    let len = scope.number(plain.len());
+    let name = scope.grammar.name(sign.item);
+    let values = ["text", out.read(&text), "kind", name, "len", out.read(&len)];
+    fill(out, template, &values);
 }
 
 /// Adds the definition that the contract of this call names.
-pub fn add_sign_specs(out: &mut String, scope: &Scope<'_>) -> Result<(), AllocError> {
-    out.push_str("\n-- the kind and the length of the longest sign with which a text begins\n")?;
-    out.push_str("abbrev pub sign_of : List ℕ → Option (Kind × ℕ)\nsign_of text =\n")?;
-    let mut count = 0usize;
-    for sign in signs_of(scope)?.iter() {
-        let text = escaped(scope.alloc, sign.text.as_str())?;
-        let len = format!(in scope.alloc; "{}", sign.text.len())?;
-        let name = scope.grammar.name(sign.item);
-        out.push_str(if count == 0 { "    " } else { "    else (" })?;
-        let test = "if starts_with nat_eq text (codes \"$text\") then Some (Kind.$kind, $len)\n";
-        fill(
-            out,
-            test,
-            &["text", text.as_str(), "kind", name, "len", len.as_str()],
-        )?;
-        count = count.saturating_add(1);
+pub fn add_sign_specs(out: &mut Text, scope: &Scope<'_>) {
+    out.add(SPECS);
+    match texts_of(scope) {
+        Ok(texts) => add_sign_chain(out, scope, texts.as_slice()),
+        Err(_) => out.fail(),
     }
-    out.push_str(if count == 0 {
+}
+
+const SPECS: &str = "
+-- the kind and the length of the longest sign with which a text begins
+abbrev pub sign_of : List ℕ → Option (Kind × ℕ)
+sign_of text =
+";
+
+const SPEC_TEST: &str = "\
+if starts_with nat_eq text (codes \"$text\") then Some (Kind.$kind, $len)
+";
+
+fn add_sign_chain(out: &mut Text, scope: &Scope<'_>, texts: &[Sign]) {
+    let mut count = 0usize;
+    for sign in texts.iter() {
+        if sign_of(scope, sign.item).is_some() {
+            out.add(if count == 0 { "    " } else { "    else (" });
+            add_sign(out, scope, SPEC_TEST, sign);
+            count = count.saturating_add(1);
+        }
+    }
+    out.add(if count == 0 {
         "    None"
     } else {
         "    else None"
-    })?;
-    for _ in 1..count {
-        out.push(')')?;
-    }
-    out.push('\n')
-}
-
-fn escaped(alloc: Global, text: &str) -> Result<String, AllocError> {
-    let mut out = String::new(alloc);
-    push_escaped(&mut out, text)?;
-    Ok(out)
+    });
+    out.close(count);
+    out.add("\n");
 }
 
 /// A text of a grammar without its quotes, if it has some, and without the backslashes before a
 /// quote or a backslash in it.
-pub fn plain(alloc: Global, text: &str) -> Result<String, AllocError> {
+pub fn plain(alloc: Global, text: &str) -> Text {
     let inner = match text.strip_prefix('\'') {
         Some(rest) => rest.strip_suffix('\'').unwrap_or(rest),
         None => text,
     };
-    let mut out = String::new(alloc);
+    let mut out = Text::new(alloc);
     let mut is_escaped = false;
     for character in inner.chars() {
         is_escaped = character == '\\' && !is_escaped;
         if !is_escaped {
-            out.push(character)?;
+            out.add_character(character);
         }
     }
-    Ok(out)
+    out
 }

@@ -1,9 +1,8 @@
 //! The wrappers of nodes as source text.
 use crate::accessors::{add_call_imports, add_calls, add_kinds};
-use crate::writer::{Scope, add_cast_head, add_docs, fill, kind_test};
+use crate::writer::{Scope, Text, add_cast_head, add_docs, fill, kind_test};
 use rowan_grammar_model::forms::Form;
 use rowan_grammar_model::grammar::Item;
-use std::alloc::AllocError;
 
 /// What wrappers of nodes of one kind are: a type for each number of a kind.
 const NODE_OF: &str = "
@@ -168,24 +167,19 @@ const NODE: &str = "pub type $name = NodeOf<$number>;\n";
 const NODE_REF: &str = "pub type $borrowed<'tree> = NodeOfRef<'tree, $number>;\n";
 
 /// The types that wrappers of nodes of one kind are.
-pub fn add_node_types(out: &mut String, scope: &Scope<'_>) -> Result<(), AllocError> {
-    let test = kind_test(scope)?;
+pub fn add_node_types(out: &mut Text, scope: &Scope<'_>) {
+    let test = kind_test(scope);
+    let test = out.read(&test);
     if scope.has_nodes(Form::Owned) {
-        add_node_type(out, scope, Form::Owned, test.as_str())?;
+        add_node_type(out, scope, Form::Owned, test);
     }
     if scope.has_nodes(Form::Borrowed) {
-        add_node_type(out, scope, Form::Borrowed, test.as_str())?;
+        add_node_type(out, scope, Form::Borrowed, test);
     }
-    Ok(())
 }
 
 /// The type of wrappers of one form, and what leads from it to the other one.
-fn add_node_type(
-    out: &mut String,
-    scope: &Scope<'_>,
-    form: Form,
-    test: &str,
-) -> Result<(), AllocError> {
+fn add_node_type(out: &mut Text, scope: &Scope<'_>, form: Form, test: &str) {
     let (from, into, template, other, wrapper) = match form {
         Form::Owned => (
             "SyntaxNode",
@@ -202,91 +196,78 @@ fn add_node_type(
             "NodeOfRef<'_, KIND>",
         ),
     };
-    let mut cast = String::new(scope.alloc);
-    add_cast_head(&mut cast, scope, from, form, into)?;
+    let mut cast = Text::new(scope.alloc);
+    add_cast_head(&mut cast, scope, from, form, into);
     let values = [
         "crate",
         scope.crate_name,
         "language",
         scope.language,
         "cast",
-        cast.as_str(),
+        out.read(&cast),
         "test",
         test,
     ];
-    scope.fill(out, template, &values)?;
+    scope.fill(out, template, &values);
     if scope.has_both() {
-        scope.fill(out, other, &values)?;
+        scope.fill(out, other, &values);
     }
-    fill(out, DEBUG, &["wrapper", wrapper])
+    fill(out, DEBUG, &["wrapper", wrapper]);
 }
 
 /// The wrappers of a node, and their calls.
-pub fn add_node(
-    out: &mut String,
-    scope: &Scope<'_>,
-    item: &Item,
-    index: usize,
-) -> Result<(), AllocError> {
-    let number = format!(in scope.alloc; "{}", scope.kind_number(index))?;
+pub fn add_node(out: &mut Text, scope: &Scope<'_>, item: &Item, index: usize) {
+    let number = scope.number(scope.kind_number(index));
     let values = [
         "name",
         item.name.as_str(),
         "borrowed",
         item.borrowed.as_str(),
         "number",
-        number.as_str(),
+        out.read(&number),
     ];
     for form in [Form::Owned, Form::Borrowed] {
         if item.forms.has(form) {
-            add_wrapper_docs(out, form, item)?;
+            add_wrapper_docs(out, form, item);
             let template = match form {
                 Form::Owned => NODE,
                 Form::Borrowed => NODE_REF,
             };
-            fill(out, template, &values)?;
+            fill(out, template, &values);
         }
     }
-    add_kinds(out, scope, index)?;
+    add_kinds(out, scope, index);
     for form in [Form::Owned, Form::Borrowed] {
         if item.forms.has(form) {
-            add_own_calls(out, scope, form, index)?;
+            add_own_calls(out, scope, form, index);
         }
     }
-    Ok(())
 }
 
 /// The comment of a wrapper. Where there are both, the borrowed one has the name of the other.
-pub fn add_wrapper_docs(out: &mut String, form: Form, item: &Item) -> Result<(), AllocError> {
-    out.push('\n')?;
+pub fn add_wrapper_docs(out: &mut Text, form: Form, item: &Item) {
+    out.add("\n");
     if form == Form::Borrowed && item.forms.owned {
         let name = item.name.as_str();
-        return fill(
-            out,
-            "/// [`$name`], borrowed from its tree.\n",
-            &["name", name],
-        );
+        let line = "/// [`$name`], borrowed from its tree.\n";
+        fill(out, line, &["name", name]);
+    } else {
+        add_docs(out, "", item.docs.as_str(), item.rule.as_str());
     }
-    add_docs(out, "", item.docs.as_str(), item.rule.as_str())
 }
 
 /// The calls that a wrapper of a node has beside those of its trait: nothing where it has none.
-fn add_own_calls(
-    out: &mut String,
-    scope: &Scope<'_>,
-    form: Form,
-    index: usize,
-) -> Result<(), AllocError> {
+fn add_own_calls(out: &mut Text, scope: &Scope<'_>, form: Form, index: usize) {
     let mut calls = scope.calls(index).iter();
     if !calls.any(|call| scope.has_call(form, call)) {
-        return Ok(());
+        return;
     }
     let head = match form {
         Form::Owned => "\nimpl $wrapper {\n",
         Form::Borrowed => "\nimpl<'tree> $wrapper<'tree> {\n",
     };
-    fill(out, head, &["wrapper", scope.grammar.wrapper(form, index)])?;
-    add_call_imports(out, scope, form, index)?;
-    add_calls(out, scope, form, index)?;
-    out.push_str("}\n")
+    fill(out, head, &["wrapper", scope.grammar.wrapper(form, index)]);
+    add_call_imports(out, scope, form, index);
+    add_calls(out, scope, form, index);
+    out.add("}\n");
 }

@@ -2,9 +2,8 @@
 //! signs, and what tells those in a set.
 use crate::sets::{add_set_calls, add_set_words};
 use crate::signs::{add_sign_call, has_signs};
-use crate::writer::{Imports, Scope, fill};
+use crate::writer::{Imports, Scope, Text, fill};
 use rowan_grammar_model::place::text_at;
-use std::alloc::AllocError;
 
 /// The signs that stand in a macro's brackets as they are.
 const SIGNS: &str = "+-*/%^!&|=<>@.,;:#?~";
@@ -12,7 +11,7 @@ const SIGNS: &str = "+-*/%^!&|=<>@.,;:#?~";
 const HEAD: &str = "
 impl Kind {
     ghost use Rattle.std.specs.Prelude.{◌≡◌};
-$words";
+";
 
 const CALLS: &str = "
     /// Whether its tokens are always one word.
@@ -58,47 +57,48 @@ pub fn has_texts(scope: &Scope<'_>) -> bool {
 
 /// Adds the calls of kinds, and the macro from texts to kinds: nothing where there are neither texts
 /// nor sets.
-pub fn add_calls_of_kinds(out: &mut String, scope: &Scope<'_>) -> Result<(), AllocError> {
+pub fn add_calls_of_kinds(out: &mut Text, scope: &Scope<'_>) {
     let has_texts = has_texts(scope);
     if !has_texts && scope.sets.is_empty() && !has_signs(scope) {
-        return Ok(());
+        return;
     }
-    let head = format!(in scope.alloc; "    ghost use Rattle.{}.specs.Kinds.{{", scope.crate_name)?;
-    let mut words = Imports::new(scope.alloc, head.as_str(), ";")?;
+    add_head(out, scope, has_texts);
+    let mut rules = Text::new(scope.alloc);
     if has_texts {
-        for word in ["is_keyword", "is_punct", "keyword_of"] {
-            words.add(word)?;
-        }
+        add_text_calls(out, &mut rules, scope);
     }
     if has_signs(scope) {
-        words.add("sign_of")?;
+        add_sign_call(out, scope);
     }
-    add_set_words(&mut words, scope)?;
-    fill(out, HEAD, &["words", words.finish()?])?;
-    let mut rules = String::new(scope.alloc);
-    if has_texts {
-        add_text_calls(out, &mut rules, scope)?;
-    }
-    if has_signs(scope) {
-        add_sign_call(out, scope)?;
-    }
-    add_set_calls(out, scope)?;
-    out.push_str("}\n")?;
-    match rules.is_empty() {
-        true => Ok(()),
-        false => fill(out, MACRO, &["rules", rules.as_str()]),
+    add_set_calls(out, scope);
+    out.add("}\n");
+    if !rules.is_empty() {
+        let rules = ["rules", out.read(&rules)];
+        fill(out, MACRO, &rules);
     }
 }
 
+/// Adds the head of the calls, with the words that their contracts name.
+fn add_head(out: &mut Text, scope: &Scope<'_>, has_texts: bool) {
+    let mut words = Imports::new(scope, "    ghost use Rattle.$crate.specs.Kinds.{", ";");
+    if has_texts {
+        for word in ["is_keyword", "is_punct", "keyword_of"] {
+            words.add(word);
+        }
+    }
+    if has_signs(scope) {
+        words.add("sign_of");
+    }
+    add_set_words(&mut words, scope);
+    out.add(HEAD);
+    words.finish(out);
+}
+
 /// Adds the calls that tell words and signs apart, and the rules from texts to kinds.
-fn add_text_calls(
-    out: &mut String,
-    rules: &mut String,
-    scope: &Scope<'_>,
-) -> Result<(), AllocError> {
-    let mut keywords = String::new(scope.alloc);
-    let mut signs = String::new(scope.alloc);
-    let mut tests = String::new(scope.alloc);
+fn add_text_calls(out: &mut Text, rules: &mut Text, scope: &Scope<'_>) {
+    let mut keywords = Text::new(scope.alloc);
+    let mut signs = Text::new(scope.alloc);
+    let mut tests = Text::new(scope.alloc);
     for index in scope.kinds.iter() {
         let Some(text) = text_of(scope, *index) else {
             continue;
@@ -106,25 +106,22 @@ fn add_text_calls(
         let name = scope.grammar.name(*index);
         let arm = "            Kind::$kind => true,\n";
         if is_word(text) {
-            fill(&mut keywords, arm, &["kind", name])?;
-            fill(&mut tests, TEST, &["text", text, "kind", name])?;
+            fill(&mut keywords, arm, &["kind", name]);
+            fill(&mut tests, TEST, &["text", text, "kind", name]);
         } else {
-            fill(&mut signs, arm, &["kind", name])?;
+            fill(&mut signs, arm, &["kind", name]);
         }
-        add_rule(rules, scope.module, text, name)?;
+        add_rule(rules, scope.module, text, name);
     }
-    fill(
-        out,
-        CALLS,
-        &[
-            "keywords",
-            keywords.as_str(),
-            "signs",
-            signs.as_str(),
-            "tests",
-            tests.as_str(),
-        ],
-    )
+    let values = [
+        "keywords",
+        out.read(&keywords),
+        "signs",
+        out.read(&signs),
+        "tests",
+        out.read(&tests),
+    ];
+    fill(out, CALLS, &values);
 }
 
 const TEST: &str = "        if text == \"$text\" {
@@ -134,76 +131,87 @@ const TEST: &str = "        if text == \"$text\" {
 
 /// Adds the rule of the macro for a text. A text that is neither a word nor of signs stands there as
 /// a character or as a text.
-fn add_rule(rules: &mut String, module: &str, text: &str, name: &str) -> Result<(), AllocError> {
-    rules.push_str("    [")?;
+fn add_rule(rules: &mut Text, module: &str, text: &str, name: &str) {
+    rules.add("    [");
     if is_word(text) || is_of_signs(text) {
-        rules.push_str(text)?;
+        rules.add(text);
     } else {
         let quote = if text.chars().count() == 1 { '\'' } else { '"' };
-        rules.push(quote)?;
+        rules.add_character(quote);
         for character in text.chars() {
             if character == '"' && quote == '"' {
-                rules.push('\\')?;
+                rules.add("\\");
             }
-            rules.push(character)?;
+            rules.add_character(character);
         }
-        rules.push(quote)?;
+        rules.add_character(quote);
     }
     fill(
         rules,
         "] => { ${dollar}crate::$module::Kind::$kind };\n",
         &["dollar", "$", "module", module, "kind", name],
-    )
+    );
 }
 
+const IS_KEYWORD: &str = "
+-- whether its tokens are always one word
+abbrev pub is_keyword : Kind → Bool
+";
+
+const IS_PUNCT: &str = "\
+is_keyword _ = false
+
+-- whether its tokens always have one text that is no word
+abbrev pub is_punct : Kind → Bool
+";
+
+const KEYWORD_OF: &str = "\
+is_punct _ = false
+
+-- the kind of the tokens that are always this word
+abbrev pub keyword_of : List ℕ → Option Kind
+keyword_of text =
+";
+
 /// Adds the definitions that the contracts of these calls name.
-pub fn add_text_specs(out: &mut String, scope: &Scope<'_>) -> Result<(), AllocError> {
-    let mut chain = String::new(scope.alloc);
+pub fn add_text_specs(out: &mut Text, scope: &Scope<'_>) {
+    out.add(IS_KEYWORD);
+    add_kinds_that(out, scope, true, "is_keyword Kind.$kind = true\n");
+    out.add(IS_PUNCT);
+    add_kinds_that(out, scope, false, "is_punct Kind.$kind = true\n");
+    out.add(KEYWORD_OF);
     let mut count = 0usize;
-    out.push_str(
-        "\n-- whether its tokens are always one word\nabbrev pub is_keyword : Kind → Bool\n",
-    )?;
     for index in scope.kinds.iter() {
-        let name = scope.grammar.name(*index);
         match text_of(scope, *index) {
             Some(text) if is_word(text) => {
-                fill(out, "is_keyword Kind.$kind = true\n", &["kind", name])?;
-                chain.push_str(if count == 0 { "    " } else { "    else (" })?;
+                let name = scope.grammar.name(*index);
+                out.add(if count == 0 { "    " } else { "    else (" });
                 let test = "if bytes_eq text (codes \"$text\") then Some Kind.$kind\n";
-                fill(&mut chain, test, &["text", text, "kind", name])?;
+                fill(out, test, &["text", text, "kind", name]);
                 count = count.saturating_add(1);
             }
             _ => {}
         }
     }
-    out.push_str("is_keyword _ = false\n")?;
-    out.push_str("\n-- whether its tokens always have one text that is no word\n")?;
-    out.push_str("abbrev pub is_punct : Kind → Bool\n")?;
+    out.add(if count == 0 {
+        "    None"
+    } else {
+        "    else None"
+    });
+    out.close(count);
+    out.add("\n");
+}
+
+/// Adds a line for each kind whose tokens are always one word, or always one text that is none.
+fn add_kinds_that(out: &mut Text, scope: &Scope<'_>, are_words: bool, line: &str) {
     for index in scope.kinds.iter() {
         match text_of(scope, *index) {
-            Some(text) if !is_word(text) => {
-                fill(
-                    out,
-                    "is_punct Kind.$kind = true\n",
-                    &["kind", scope.grammar.name(*index)],
-                )?;
+            Some(text) if is_word(text) == are_words => {
+                fill(out, line, &["kind", scope.grammar.name(*index)]);
             }
             _ => {}
         }
     }
-    out.push_str("is_punct _ = false\n")?;
-    out.push_str("\n-- the kind of the tokens that are always this word\n")?;
-    out.push_str("abbrev pub keyword_of : List ℕ → Option Kind\nkeyword_of text =\n")?;
-    out.push_str(chain.as_str())?;
-    out.push_str(if count == 0 {
-        "    None"
-    } else {
-        "    else None"
-    })?;
-    for _ in 1..count {
-        out.push(')')?;
-    }
-    out.push('\n')
 }
 
 /// The text that the tokens of a kind always have.

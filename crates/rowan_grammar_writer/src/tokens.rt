@@ -1,8 +1,7 @@
 //! The wrappers of tokens whose text means something, as source text.
-use crate::writer::{Scope, add_cast_head, add_docs, fill, kind_test};
+use crate::writer::{Scope, Text, add_cast_head, add_docs, fill, kind_test};
 use rowan_grammar_model::forms::Form;
 use rowan_grammar_model::grammar::Item;
-use std::alloc::AllocError;
 
 /// What wrappers of tokens are: a type for each number of a kind.
 const TOKEN_OF: &str = "
@@ -171,52 +170,47 @@ pub type $borrowed<'tree> = TokenOfRef<'tree, $number>;
 ";
 
 /// The types that wrappers of tokens are.
-pub fn add_token_types(out: &mut String, scope: &Scope<'_>) -> Result<(), AllocError> {
-    let test = kind_test(scope)?;
-    let mut cast = String::new(scope.alloc);
+pub fn add_token_types(out: &mut Text, scope: &Scope<'_>) {
+    let test = kind_test(scope);
+    let mut cast = Text::new(scope.alloc);
     add_cast_head(
         &mut cast,
         scope,
         "SyntaxToken",
         Form::Owned,
         "TokenOf<KIND>",
-    )?;
-    let mut borrowed = String::new(scope.alloc);
+    );
+    let mut borrowed = Text::new(scope.alloc);
     let into = "TokenOfRef<'tree, KIND>";
-    add_cast_head(&mut borrowed, scope, "SyntaxTokenRef", Form::Borrowed, into)?;
+    add_cast_head(&mut borrowed, scope, "SyntaxTokenRef", Form::Borrowed, into);
     let values = [
         "crate",
         scope.crate_name,
         "language",
         scope.language,
         "cast",
-        cast.as_str(),
+        out.read(&cast),
         "borrowed",
-        borrowed.as_str(),
+        out.read(&borrowed),
         "test",
-        test.as_str(),
+        out.read(&test),
     ];
-    scope.fill(out, TOKEN_OF, &values)?;
-    scope.fill(out, TOKEN_OF_REF, &values)
+    scope.fill(out, TOKEN_OF, &values);
+    scope.fill(out, TOKEN_OF_REF, &values);
 }
 
 /// The wrappers of a token.
-pub fn add_token(
-    out: &mut String,
-    scope: &Scope<'_>,
-    item: &Item,
-    index: usize,
-) -> Result<(), AllocError> {
-    out.push('\n')?;
-    add_docs(out, "", item.docs.as_str(), "")?;
-    let number = format!(in scope.alloc; "{}", scope.kind_number(index))?;
+pub fn add_token(out: &mut Text, scope: &Scope<'_>, item: &Item, index: usize) {
+    out.add("\n");
+    add_docs(out, "", item.docs.as_str(), "");
+    let number = scope.number(scope.kind_number(index));
     let values = [
         "name",
         item.name.as_str(),
         "borrowed",
         item.borrowed.as_str(),
         "number",
-        number.as_str(),
+        out.read(&number),
     ];
-    fill(out, TOKEN, &values)
+    fill(out, TOKEN, &values);
 }

@@ -8,6 +8,158 @@ use rowan_grammar_model::names::path_of;
 use std::alloc::{AllocError, Global};
 use std::collections::HashMap;
 
+/// A text that is written. Where an allocation fails, `finish` says so: until then nothing has to
+/// look at it.
+#[derive(Drop)]
+pub struct Text {
+    text: String,
+    has_failed: bool,
+}
+
+impl Text {
+    pub fn new(alloc: Global) -> Text {
+        Text {
+            text: String::new(alloc),
+            has_failed: false,
+        }
+    }
+
+    /// A text that was made elsewhere, or could not be.
+    pub fn of(alloc: Global, made: Result<String, AllocError>) -> Text {
+        match made {
+            Ok(text) => Text {
+                text,
+                has_failed: false,
+            },
+            Err(_) => Text {
+                text: String::new(alloc),
+                has_failed: true,
+            },
+        }
+    }
+
+    pub fn len(&self) -> usize {
+        self.text.len()
+    }
+
+    pub fn is_empty(&self) -> bool {
+        self.text.is_empty()
+    }
+
+    pub fn add(&mut self, part: &str) {
+        if self.text.push_str(part).is_err() {
+            self.has_failed = true;
+        }
+    }
+
+    pub fn add_character(&mut self, character: char) {
+        if self.text.push(character).is_err() {
+            self.has_failed = true;
+        }
+    }
+
+    /// Adds a text as it stands in quotes.
+    pub fn add_escaped(&mut self, text: &str) {
+        for character in text.chars() {
+            if character == '"' || character == '\\' {
+                self.add("\\");
+            }
+            self.add_character(character);
+        }
+    }
+
+    pub fn add_number(&mut self, number: usize) {
+        if write!(self.text, "{number}").is_err() {
+            self.has_failed = true;
+        }
+    }
+
+    /// Adds the parentheses that end a chain of so many comparisons.
+    pub fn close(&mut self, count: usize) {
+        for _ in 1..count {
+            self.add(")");
+        }
+    }
+
+    /// Says that an allocation failed.
+    pub fn fail(&mut self) {
+        self.has_failed = true;
+    }
+
+    /// Takes all that it has away, so that the same memory takes another text.
+    pub fn clear(&mut self) {
+        self.text.clear();
+    }
+
+    /// Another text, for a place in this one. Where that one failed, this one has too.
+    pub fn read<'t>(&mut self, part: &'t Text) -> &'t str {
+        if part.has_failed {
+            self.has_failed = true;
+        }
+        part.text.as_str()
+    }
+
+    /// Adds another text. Where that one failed, this one has too.
+    pub fn add_text(&mut self, part: &Text) {
+        let text = self.read(part);
+        self.add(text);
+    }
+
+    /// What was written.
+    ///
+    /// Errors: `AllocError` if an allocation failed on the way.
+    pub fn finish(self) -> Result<String, AllocError> {
+        let Text { text, has_failed } = self;
+        match has_failed {
+            true => Err(AllocError),
+            false => Ok(text),
+        }
+    }
+}
+
+/// The kinds in the brackets of a list: on one line where it takes them, else each on its own.
+#[derive(Drop)]
+pub struct KindList {
+    line: Text,
+    lines: Text,
+}
+
+impl KindList {
+    pub fn new(alloc: Global) -> KindList {
+        KindList {
+            line: Text::new(alloc),
+            lines: Text::new(alloc),
+        }
+    }
+
+    pub fn add(&mut self, name: &str) {
+        self.line.add(if self.line.is_empty() {
+            "Kind::"
+        } else {
+            ", Kind::"
+        });
+        self.line.add(name);
+        self.lines.add("\n    Kind::");
+        self.lines.add(name);
+        self.lines.add(",");
+    }
+
+    /// Adds them where they are to stand.
+    pub fn add_to(&self, out: &mut Text) {
+        if self.line.len() > ARGUMENTS {
+            out.add_text(&self.lines);
+            out.add("\n");
+        } else {
+            out.add_text(&self.line);
+        }
+    }
+
+    /// How long they are on one line.
+    pub fn len(&self) -> usize {
+        self.line.len()
+    }
+}
+
 /// What every written file is of.
 #[derive(Drop)]
 pub struct Scope<'g> {
@@ -52,13 +204,8 @@ impl Scope<'_> {
     }
 
     /// Adds a template as `fill` does. Behind an `@` it has names from elsewhere.
-    pub fn fill(
-        &self,
-        out: &mut String,
-        template: &str,
-        values: &[&str],
-    ) -> Result<(), AllocError> {
-        let mut named = String::new(self.alloc);
+    pub fn fill(&self, out: &mut Text, template: &str, values: &[&str]) {
+        let mut named = Text::new(self.alloc);
         for (index, piece) in template.split('@').enumerate() {
             let len = match index {
                 0 => 0,
@@ -66,10 +213,32 @@ impl Scope<'_> {
                     .find(|character: char| !character.is_ascii_alphanumeric())
                     .unwrap_or(piece.len()),
             };
-            named.push_str(self.outside(piece.get(..len).unwrap_or("")))?;
-            named.push_str(piece.get(len..).unwrap_or(""))?;
+            named.add(self.outside(piece.get(..len).unwrap_or("")));
+            named.add(piece.get(len..).unwrap_or(""));
         }
-        fill(out, named.as_str(), values)
+        let template = out.read(&named);
+        fill(out, template, values);
+    }
+
+    /// A number as a text.
+    pub fn number(&self, number: usize) -> Text {
+        let mut out = Text::new(self.alloc);
+        out.add_number(number);
+        out
+    }
+
+    /// A text as it stands in quotes.
+    pub fn escaped(&self, text: &str) -> Text {
+        let mut out = Text::new(self.alloc);
+        out.add_escaped(text);
+        out
+    }
+
+    /// A template with its values.
+    pub fn filled(&self, template: &str, values: &[&str]) -> Text {
+        let mut out = Text::new(self.alloc);
+        fill(&mut out, template, values);
+        out
     }
 
     /// The kinds of the parts of an item that are alike.
@@ -114,22 +283,24 @@ impl Scope<'_> {
     }
 
     /// Adds the function from a wrapper to its node, as clauses have it.
-    pub fn add_node_of(&self, out: &mut String, form: Form, item: usize) -> Result<(), AllocError> {
+    pub fn add_node_of(&self, out: &mut Text, form: Form, item: usize) {
         if self.grammar.sort(item) == Sort::Choice {
-            let snake = self.grammar.snake(item);
-            return write!(out, "{}_{snake}", form.word());
+            out.add(form.word());
+            out.add("_");
+            out.add(self.grammar.snake(item));
+        } else {
+            out.add(match form {
+                Form::Owned => "(λ node. node)",
+                Form::Borrowed => "place_in",
+            });
         }
-        out.push_str(match form {
-            Form::Owned => "(λ node. node)",
-            Form::Borrowed => "place_in",
-        })
     }
 
     /// The function from a wrapper to its node.
-    pub fn node_of(&self, form: Form, item: usize) -> Result<String, AllocError> {
-        let mut out = String::new(self.alloc);
-        self.add_node_of(&mut out, form, item)?;
-        Ok(out)
+    pub fn node_of(&self, form: Form, item: usize) -> Text {
+        let mut out = Text::new(self.alloc);
+        self.add_node_of(&mut out, form, item);
+        out
     }
 }
 
@@ -145,17 +316,16 @@ pub const ARGUMENTS: usize = 60;
 /// Adds a template, in which `$name` stands for the value of that name, or `${name}` where a letter
 /// or a digit follows. The values are names, in small letters, each with its value behind it. A name
 /// that has none is left out.
-pub fn fill(out: &mut String, template: &str, values: &[&str]) -> Result<(), AllocError> {
+pub fn fill(out: &mut Text, template: &str, values: &[&str]) {
     for (index, piece) in template.split('$').enumerate() {
         if index == 0 {
-            out.push_str(piece)?;
+            out.add(piece);
         } else {
             let (name, rest) = name_before(piece);
-            out.push_str(value_of(name, values))?;
-            out.push_str(rest)?;
+            out.add(value_of(name, values));
+            out.add(rest);
         }
     }
-    Ok(())
 }
 
 /// The name with which a piece begins, and what stands behind it.
@@ -186,62 +356,65 @@ fn value_of<'a>(name: &str, values: &[&'a str]) -> &'a str {
 
 /// Adds the head of a function of one parameter, from what stands before its name on. The parameter
 /// has a line of its own where one line is too short.
-pub fn add_signature(
-    out: &mut String,
-    start: &str,
-    name: &str,
-    parameter: &str,
-    gives: &str,
-) -> Result<(), AllocError> {
+pub fn add_signature(out: &mut Text, start: &str, name: &str, parameter: &str, gives: &str) {
     let len = start.len().saturating_add(name.len());
     let len = len
         .saturating_add(parameter.len())
         .saturating_add(gives.len());
-    match len.saturating_add("() -> ".len()) > WIDTH {
-        true => write!(
-            out,
-            "{start}{name}(\n        {parameter},\n    ) -> {gives}"
-        ),
-        false => write!(out, "{start}{name}({parameter}) -> {gives}"),
-    }
+    let is_long = len.saturating_add("() -> ".len()) > WIDTH;
+    out.add(start);
+    out.add(name);
+    out.add(if is_long { "(\n        " } else { "(" });
+    out.add(parameter);
+    out.add(if is_long { ",\n    ) -> " } else { ") -> " });
+    out.add(gives);
 }
 
 /// Adds the head of `cast` from a node or a token of this type to a wrapper.
 pub fn add_cast_head(
-    out: &mut String,
+    out: &mut Text,
     scope: &Scope<'_>,
     from: &'static str,
     form: Form,
     into: &str,
-) -> Result<(), AllocError> {
-    let alloc = scope.alloc;
-    let language = scope.language;
-    let option = scope.outside("Option");
-    let from = scope.outside(from);
-    let lifetime = match form {
-        Form::Owned => "",
-        Form::Borrowed => "'tree, ",
-    };
-    let parameter = format!(in alloc; "syntax: {from}<{lifetime}{language}>")?;
-    let result = format!(in alloc; "{option}<{into}>")?;
-    add_signature(out, "    fn ", "cast", parameter.as_str(), result.as_str())
+) {
+    let mut parameter = Text::new(scope.alloc);
+    parameter.add("syntax: ");
+    parameter.add(scope.outside(from));
+    parameter.add(match form {
+        Form::Owned => "<",
+        Form::Borrowed => "<'tree, ",
+    });
+    parameter.add(scope.language);
+    parameter.add(">");
+    let mut result = Text::new(scope.alloc);
+    result.add(scope.outside("Option"));
+    result.add("<");
+    result.add(into);
+    result.add(">");
+    let parameter = out.read(&parameter);
+    let result = out.read(&result);
+    add_signature(out, "    fn ", "cast", parameter, result);
 }
 
 /// The test that a kind has the number of a wrapper.
-pub fn kind_test(scope: &Scope<'_>) -> Result<String, AllocError> {
-    let raw = format!(in scope.alloc;
-        "        <{} as rowan::Language>::kind_to_raw(kind).0",
-        scope.language
-    )?;
-    match raw.len() > MAX_TESTED {
-        true => format!(in scope.alloc; "{raw}\n            == KIND"),
-        false => format!(in scope.alloc; "{raw} == KIND"),
-    }
+pub fn kind_test(scope: &Scope<'_>) -> Text {
+    let mut out = Text::new(scope.alloc);
+    out.add("        <");
+    out.add(scope.language);
+    out.add(" as rowan::Language>::kind_to_raw(kind).0");
+    let is_long = out.len() > MAX_TESTED;
+    out.add(if is_long {
+        "\n            == KIND"
+    } else {
+        " == KIND"
+    });
+    out
 }
 
 /// Adds arguments of a call in a function's body, which are given one a line: each on a line of its
 /// own where they are long, with this end behind the last one.
-pub fn add_arguments(out: &mut String, values: &str, end: &str) -> Result<(), AllocError> {
+pub fn add_arguments(out: &mut Text, values: &str, end: &str) {
     let commas = values.lines().count().saturating_sub(1);
     let is_long = values.len().saturating_add(commas) > ARGUMENTS;
     let (first, next) = match is_long {
@@ -249,23 +422,17 @@ pub fn add_arguments(out: &mut String, values: &str, end: &str) -> Result<(), Al
         false => ("", ", "),
     };
     for (number, value) in values.lines().enumerate() {
-        out.push_str(if number == 0 { first } else { next })?;
-        out.push_str(value)?;
+        out.add(if number == 0 { first } else { next });
+        out.add(value);
     }
     if is_long {
-        out.push_str(end)?;
-        out.push_str("\n        ")?;
+        out.add(end);
+        out.add("\n        ");
     }
-    Ok(())
 }
 
 /// Adds an arm of a `match`. What it gives has a line of its own where one line is too short.
-pub fn add_arm(
-    out: &mut String,
-    indent: &str,
-    pattern: &str,
-    body: &str,
-) -> Result<(), AllocError> {
+pub fn add_arm(out: &mut Text, indent: &str, pattern: &str, body: &str) {
     let len = indent.len().saturating_add(pattern.len());
     let len = len.saturating_add(body.len()).saturating_add(" => ,".len());
     let template = match len > WIDTH {
@@ -276,84 +443,103 @@ pub fn add_arm(
         out,
         template,
         &["indent", indent, "pattern", pattern, "body", body],
-    )
+    );
 }
 
 /// Lines that import names of one module, as many in a line as it takes.
 #[derive(Drop)]
 pub struct Imports {
-    head: String,
+    alloc: Global,
+    /// A line up to its brace.
+    head: Text,
+    /// What stands behind its other brace.
     end: &'static str,
-    line: String,
-    lines: String,
+    line: Text,
+    lines: Text,
 }
 
 impl Imports {
-    /// The head is a line up to its brace, the end what stands behind that brace.
-    pub fn new(alloc: Global, head: &str, end: &'static str) -> Result<Imports, AllocError> {
-        Ok(Imports {
-            head: String::from_str(alloc, head)?,
+    /// The head is a line up to its brace, with the names of the crate and of its module of kinds
+    /// as a template has them; the end is what stands behind that brace.
+    pub fn new(scope: &Scope<'_>, head: &str, end: &'static str) -> Imports {
+        let names = ["crate", scope.crate_name, "module", scope.module];
+        Imports {
+            alloc: scope.alloc,
+            head: scope.filled(head, &names),
             end,
-            line: String::new(alloc),
-            lines: String::new(alloc),
-        })
+            line: Text::new(scope.alloc),
+            lines: Text::new(scope.alloc),
+        }
     }
 
-    pub fn add(&mut self, name: &str) -> Result<(), AllocError> {
+    pub fn add(&mut self, name: &str) {
         let len = self.line.len().saturating_add(name.len());
         if self.line.is_empty() {
-            self.line.push_str(self.head.as_str())?;
+            self.line.add_text(&self.head);
         } else if len.saturating_add(4) > WIDTH {
-            self.end_line()?;
-            self.line.push_str(self.head.as_str())?;
+            self.end_line();
+            self.line.add_text(&self.head);
         } else {
-            self.line.push_str(", ")?;
+            self.line.add(", ");
         }
-        self.line.push_str(name)
+        self.line.add(name);
     }
 
-    fn end_line(&mut self) -> Result<(), AllocError> {
-        self.lines.push_str(self.line.as_str())?;
-        self.lines.push('}')?;
-        self.lines.push_str(self.end)?;
-        self.lines.push('\n')?;
+    /// Adds a name that begins with this prefix.
+    pub fn add_word(&mut self, prefix: &str, rest: &str) {
+        let mut name = Text::new(self.alloc);
+        name.add(prefix);
+        name.add(rest);
+        let name = self.lines.read(&name);
+        self.add(name);
+    }
+
+    fn end_line(&mut self) {
+        self.lines.add_text(&self.line);
+        self.lines.add("}");
+        self.lines.add(self.end);
+        self.lines.add("\n");
         self.line.clear();
-        Ok(())
     }
 
-    /// The lines; nothing where no name was added.
-    pub fn finish(&mut self) -> Result<&str, AllocError> {
+    /// Adds the lines; nothing where no name was added.
+    pub fn finish(&mut self, out: &mut Text) {
         if !self.line.is_empty() {
-            self.end_line()?;
+            self.end_line();
         }
-        Ok(self.lines.as_str())
+        out.add_text(&self.lines);
     }
 }
 
 /// Adds the lines of a comment, and its rule where there is one.
-pub fn add_docs(out: &mut String, indent: &str, docs: &str, rule: &str) -> Result<(), AllocError> {
+pub fn add_docs(out: &mut Text, indent: &str, docs: &str, rule: &str) {
     for line in docs.lines() {
-        out.push_str(indent)?;
-        out.push_str("///")?;
-        out.push_str(if line.is_empty() { "" } else { " " })?;
-        out.push_str(line)?;
-        out.push('\n')?;
+        out.add(indent);
+        out.add(if line.is_empty() { "///" } else { "/// " });
+        out.add(line);
+        out.add("\n");
     }
-    if rule.is_empty() {
-        return Ok(());
+    if !rule.is_empty() {
+        let indented = ["indent", indent];
+        if !docs.is_empty() {
+            fill(out, "$indent///\n", &indented);
+        }
+        fill(out, "$indent/// ```text\n$indent///", &indented);
+        add_rule(out, indent, rule);
+        fill(out, "\n$indent/// ```\n", &indented);
     }
-    if !docs.is_empty() {
-        fill(out, "$indent///\n", &["indent", indent])?;
-    }
-    fill(out, "$indent/// ```text\n$indent///", &["indent", indent])?;
+}
+
+/// Adds the words of a rule, as many in a line as it takes.
+fn add_rule(out: &mut Text, indent: &str, rule: &str) {
     let mut width = 0usize;
     for word in rule.split(' ') {
         width = width.saturating_add(word.len()).saturating_add(1);
         if width > 90 {
-            fill(out, "\n$indent///    ", &["indent", indent])?;
+            fill(out, "\n$indent///    ", &["indent", indent]);
             width = word.len().saturating_add(4);
         }
-        fill(out, " $word", &["word", word])?;
+        out.add(" ");
+        out.add(word);
     }
-    fill(out, "\n$indent/// ```\n", &["indent", indent])
 }
