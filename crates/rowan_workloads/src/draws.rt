@@ -17,9 +17,9 @@ impl Draws {
 
     fn next(&mut self) -> u64 {
         self.state = self.state.wrapping_add(0x9e37_79b9_7f4a_7c15);
-        let mixed = (self.state ^ (self.state >> 30)).wrapping_mul(0xbf58_476d_1ce4_e5b9);
-        let mixed = (mixed ^ (mixed >> 27)).wrapping_mul(0x94d0_49bb_1331_11eb);
-        mixed ^ (mixed >> 31)
+        let mixed = folded(self.state, 30).wrapping_mul(0xbf58_476d_1ce4_e5b9);
+        let mixed = folded(mixed, 27).wrapping_mul(0x94d0_49bb_1331_11eb);
+        folded(mixed, 31)
     }
 
     /// A number below a bound.
@@ -45,6 +45,14 @@ impl Draws {
     {
         words[self.below(words.len())]
     }
+}
+
+/// A number with its upper bits in the lower ones, too. A function of its own, since the proof of
+/// `next` would name each number twice for each time that it is folded.
+fn folded(number: u64, by: u32) -> u64
+    requires { by < 64 }
+{
+    number ^ (number >> by)
 }
 
 /// Steps of [`Turns`]: primes above each bound that a job has.
