@@ -1,7 +1,7 @@
 //! What can be wrong with a grammar whose items were read.
+use crate::rules::Rules;
 use rowan::TextRange;
 use rowan_grammar_calls::calls::{Call, Calls, Clash, calls_of};
-use rowan_grammar_calls::predictive::Rules;
 use rowan_grammar_calls::reach::{Looker, count_arms, doubtful_choices, leads_to, set};
 use rowan_grammar_calls::rings::{Ring, Want, rings};
 use rowan_grammar_calls::shared::Shared;
@@ -10,7 +10,8 @@ use rowan_grammar_model::names::{
     is_call_name, why_no_crate, why_no_language, why_no_module, why_no_set, why_no_trait,
     why_no_type,
 };
-use rowan_grammar_model::place::{Problem, part_of, text_at, top};
+use rowan_grammar_model::place::{part_of, text_at, top};
+use rowan_grammar_reader::problems::Problem;
 use rowan_parser::Severity;
 use std::alloc::{AllocError, Global};
 use std::collections::HashMap;

@@ -1,7 +1,7 @@
 //! Where the next token does not say to a parser what to do, as messages.
 use crate::checks::{Checker, way_around};
+use crate::rules::{Of, Rules};
 use rowan::TextRange;
-use rowan_grammar_calls::predictive::{Of, Rules};
 use rowan_grammar_calls::rings::Ring;
 use rowan_grammar_model::grammar::Grammar;
 use rowan_grammar_model::place::text_at;

@@ -4,7 +4,10 @@
 mod checks;
 mod conflicts;
 mod kind_checks;
+mod operators;
 mod parser_checks;
+mod rule_lines;
+mod rules;
 mod written;
 
 pub use rowan_grammar_writer::File;

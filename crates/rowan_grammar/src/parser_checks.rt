@@ -1,10 +1,11 @@
 //! What can be wrong with a grammar of which a parser is to be written.
 use crate::checks::Checker;
 use crate::kind_checks::MAX_TOKENS;
+use crate::rules::rules_of;
 use rowan::TextRange;
-use rowan_grammar_calls::predictive::rules_of;
 use rowan_grammar_model::grammar::{Grammar, Item, Part, Sort, Use, kinds_of};
-use rowan_grammar_model::place::{is_error, part_of, text_at};
+use rowan_grammar_model::place::{part_of, text_at};
+use rowan_grammar_reader::problems::is_error;
 use rowan_predictive::conflicts_of;
 use std::alloc::AllocError;
 

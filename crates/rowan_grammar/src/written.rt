@@ -4,11 +4,12 @@ ghost use Rattle.rowan.specs.Fits.{byte_limit};
 ghost use Rattle.rowan_parser.specs.Parsing.{WhyNoTree};
 
 use crate::checks::Checker;
+use crate::rule_lines::written;
 use rowan::Fault;
 use rowan_grammar_calls::calls::Calls;
 use rowan_grammar_calls::reach::Looker;
 use rowan_grammar_model::grammar::Grammar;
-use rowan_grammar_model::place::{is_error, render};
+use rowan_grammar_reader::problems::{is_error, render};
 use rowan_grammar_reader::{Reading, read};
 use rowan_grammar_writer::{File, Source, files_of};
 use std::alloc::{AllocError, Global};
@@ -110,14 +111,19 @@ fn files<'g>(
     name: &'g str,
     grammar: &'g Grammar,
 ) -> Result<Vec<File>, AllocError> {
+    let alloc = checker.alloc;
+    let rules = match &checker.rules {
+        Some(rules) => Some(written(alloc, grammar, rules)?),
+        None => None,
+    };
     files_of(&Source {
-        alloc: checker.alloc,
+        alloc,
         text,
         name,
         grammar,
         calls: checker.calls.as_slice(),
         traits: checker.traits.as_slice(),
-        rules: checker.rules.as_ref(),
+        rules: rules.as_ref(),
     })
 }
 

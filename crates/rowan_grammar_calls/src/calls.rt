@@ -3,11 +3,11 @@ use crate::alike::Sets;
 use crate::places::{Branch, Place, Places, Stands, places_of};
 use crate::reach::Looker;
 use crate::roles::{Role, roles_of};
-use rowan::TextRange;
 use rowan_grammar_model::forms::Form;
 use rowan_grammar_model::grammar::{Grammar, Item};
 use rowan_grammar_model::names::{is_word, plural, upper};
 use rowan_grammar_model::place::text_at;
+use rowan_green::TextRange;
 use std::alloc::{AllocError, Global};
 use std::collections::HashMap;
 

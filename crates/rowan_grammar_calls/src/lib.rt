@@ -1,12 +1,9 @@
-//! What follows from a grammar: the calls of its nodes, what its choices lead to, its traits, and the
-//! rules of its parser.
+//! What follows from a grammar: the calls of its nodes, what its choices lead to, and its traits.
 #![tactic(auto)]
 
 pub mod alike;
 pub mod calls;
-pub mod operators;
 pub mod places;
-pub mod predictive;
 pub mod reach;
 pub mod rings;
 pub mod roles;

@@ -1,6 +1,6 @@
 //! The places of a rule: where a token or a child may stand.
-use rowan::TextRange;
 use rowan_grammar_model::grammar::Part;
+use rowan_green::TextRange;
 use std::alloc::{AllocError, Global};
 
 /// What may stand at a place, by the numbers of items.

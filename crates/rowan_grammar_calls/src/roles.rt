@@ -1,6 +1,6 @@
 //! Which places of a rule have a call.
 use crate::places::Place;
-use rowan::TextRange;
+use rowan_green::TextRange;
 use std::alloc::{AllocError, Global};
 use std::collections::HashMap;
 

@@ -3,7 +3,7 @@ use crate::forms::{Form, Forms};
 use crate::names::is_taken;
 use crate::parser_lines::ParserLines;
 use crate::place::top;
-use rowan::TextRange;
+use rowan_green::TextRange;
 use std::alloc::{AllocError, Global};
 use std::collections::HashMap;
 

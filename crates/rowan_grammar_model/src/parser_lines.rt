@@ -1,5 +1,5 @@
 //! What the head of a grammar says of a parser.
-use rowan::TextRange;
+use rowan_green::TextRange;
 use std::alloc::Global;
 
 /// The lines of the head that ask for a parser.

@@ -4,11 +4,11 @@ ghost use Rattle.rowan.specs.Fits.{byte_limit};
 ghost use Rattle.rowan_parser.specs.Parsing.{WhyNoTree};
 
 use crate::parser::parse;
+use crate::problems::Problem;
 use crate::reader::Reader;
 use crate::syntax::Grammars;
 use rowan::{Fault, SyntaxNode};
 use rowan_grammar_model::grammar::Grammar;
-use rowan_grammar_model::place::Problem;
 use rowan_parser::{Severity, SyntaxError};
 use std::alloc::{AllocError, Global};
 

@@ -5,6 +5,7 @@ mod from_text;
 mod lexer;
 mod parser;
 mod parser_head;
+pub mod problems;
 mod reader;
 mod rules;
 mod syntax;

@@ -1,10 +1,10 @@
 //! From the tree of a grammar to its items.
+use crate::problems::Problem;
 use crate::syntax::{Grammars, Kind};
 use rowan::{NodeOrToken, SyntaxNodeRef, SyntaxTokenRef, TextRange};
 use rowan_grammar_model::forms::{Form, Forms};
 use rowan_grammar_model::grammar::{Content, Grammar, Item, Part, Sort};
 use rowan_grammar_model::names::snake;
-use rowan_grammar_model::place::Problem;
 use rowan_parser::Severity;
 use std::alloc::{AllocError, Global};
 use std::collections::HashMap;

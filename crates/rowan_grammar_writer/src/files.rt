@@ -6,7 +6,6 @@ use crate::sets::add_set_lemmas;
 use crate::specs::{add_cast_lemmas, add_casts_specs, add_nodes_in_specs};
 use crate::writer::{Scope, Text, fill};
 use rowan_grammar_calls::calls::Calls;
-use rowan_grammar_calls::predictive::Rules;
 use rowan_grammar_calls::reach::choices_of;
 use rowan_grammar_calls::shared::Shared;
 use rowan_grammar_model::forms::{Form, Forms};
@@ -28,6 +27,17 @@ pub struct File {
     pub text: Option<String>,
 }
 
+/// The rules of a parser, as the list of them is written.
+#[derive(Drop)]
+pub struct WrittenRules {
+    /// A line of source text for each rule, in UTF-8, with comments between them.
+    pub lines: String,
+    /// How many rules they are.
+    pub count: usize,
+    /// The number of the rule for what stands in the root.
+    pub start: usize,
+}
+
 /// A grammar in which nothing is wrong, and what follows from it.
 #[derive(Drop)]
 pub struct Source<'g> {
@@ -41,7 +51,7 @@ pub struct Source<'g> {
     /// The traits, and what has them.
     pub traits: &'g [Shared],
     /// The rules of the parser, where one is asked for.
-    pub rules: Option<&'g Rules>,
+    pub rules: Option<&'g WrittenRules>,
 }
 
 /// The files of the language, in UTF-8. What the grammar has nothing for has no text.

@@ -17,4 +17,4 @@ mod tokens;
 mod traits;
 mod writer;
 
-pub use files::{File, Source, files_of};
+pub use files::{File, Source, WrittenRules, files_of};

@@ -1,12 +1,11 @@
 //! The parser of a language as source text: `src/parser.rt`.
+use crate::files::WrittenRules;
 use crate::kinds::trivia_of;
 use crate::signs::plain;
 use crate::texts::text_of;
 use crate::writer::{ARGUMENTS, Scope, Text, WIDTH, add_signature, fill};
-use rowan_grammar_calls::predictive::{Of, Rules};
 use rowan_grammar_model::grammar::Sort;
 use rowan_grammar_model::place::text_at;
-use rowan_predictive::Rule;
 
 const HEAD: &str = "\
 //! The parser of $language: the rules of its grammar, by which `rowan_predictive` goes.
@@ -109,7 +108,7 @@ pub fn add_parser_code(out: &mut Text, scope: &Scope<'_>) {
         (Some(rules), Some(lexer)) => {
             let trivia = trivia_of(scope);
             add_head(out, scope, trivia.len() > 0);
-            add_rules(out, scope, rules);
+            add_rules(out, rules);
             add_words(out, scope);
             out.add("\n/// The tokens that may stand anywhere.\n");
             out.add("const SKIPPED: TokenSet = token_set![");
@@ -179,51 +178,14 @@ fn number_of(scope: &Scope<'_>, name: &str) -> usize {
     scope.kinds.iter().position(is_named).unwrap_or(0)
 }
 
-/// Adds the rules. Before that of a token, a node or a choice stands its name.
-fn add_rules(out: &mut Text, scope: &Scope<'_>, rules: &Rules) {
+/// Adds the list of the rules.
+fn add_rules(out: &mut Text, rules: &WrittenRules) {
     out.add("/// The rules, which name each other by their places in this list.\n");
     out.add("const RULES: [Rule; ");
-    out.add_number(rules.rules.len());
+    out.add_number(rules.count);
     out.add("] = [\n");
-    let mut is_behind_items = false;
-    for (rule, origin) in rules.rules.iter().zip(rules.origins.iter()) {
-        match origin.of {
-            Of::Item(item) => fill(out, "    // $name\n", &["name", scope.grammar.name(item)]),
-            _ if !is_behind_items => {
-                is_behind_items = true;
-                out.add("    // Parts of these.\n");
-            }
-            _ => {}
-        }
-        add_rule(out, *rule);
-    }
+    out.add(rules.lines.as_str());
     out.add("];\n");
-}
-
-fn add_rule(out: &mut Text, rule: Rule) {
-    match rule {
-        Rule::Empty => out.add("    Rule::Empty"),
-        Rule::Token(kind) => add_parts(out, "    Rule::Token(", usize::from(kind), None),
-        Rule::Node(kind, part) => add_parts(out, "    Rule::Node(", usize::from(kind), Some(part)),
-        Rule::Chain(part) => add_parts(out, "    Rule::Chain(", part, None),
-        Rule::Wrap(kind, part) => add_parts(out, "    Rule::Wrap(", usize::from(kind), Some(part)),
-        Rule::Seq(one, other) => add_parts(out, "    Rule::Seq(", one, Some(other)),
-        Rule::Choice(one, other) => add_parts(out, "    Rule::Choice(", one, Some(other)),
-        Rule::Optional(part) => add_parts(out, "    Rule::Optional(", part, None),
-        Rule::Star(part) => add_parts(out, "    Rule::Star(", part, None),
-    }
-    out.add(",\n");
-}
-
-/// The numbers that a rule has.
-fn add_parts(out: &mut Text, name: &str, one: usize, other: Option<usize>) {
-    out.add(name);
-    out.add_number(one);
-    if let Some(other) = other {
-        out.add(", ");
-        out.add_number(other);
-    }
-    out.add(")");
 }
 
 /// Adds how messages name the tokens.

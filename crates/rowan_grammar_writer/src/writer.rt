@@ -1,6 +1,6 @@
 //! Source text from templates.
+use crate::files::WrittenRules;
 use rowan_grammar_calls::calls::{Alike, Call, Calls};
-use rowan_grammar_calls::predictive::Rules;
 use rowan_grammar_calls::shared::Shared;
 use rowan_grammar_model::forms::Form;
 use rowan_grammar_model::grammar::{Grammar, Sort};
@@ -189,7 +189,7 @@ pub struct Scope<'g> {
     /// The traits, and what has them.
     pub traits: &'g [Shared],
     /// The rules of the parser, where one is asked for.
-    pub rules: Option<&'g Rules>,
+    pub rules: Option<&'g WrittenRules>,
     /// The names from elsewhere that wrappers have.
     pub taken: &'g HashMap<String, bool>,
 }
