@@ -13,7 +13,7 @@ use Rattle.rowan_parser.specs.Parsing.{IsParsed, WhyNoTree}
 use Rattle.rowan_parser.specs.Tokens.{tokens_text, token_terms}
 use Rattle.rowan_parser.specs.declared.event.Event.{Event}
 use Rattle.rowan_parser.specs.declared.lexer.Token.{Token}
-use Rattle.rowan_parser.specs.declared.parsed.SyntaxError.{SyntaxError}
+use Rattle.rowan_lines.specs.declared.syntax_error.SyntaxError.{SyntaxError}
 use Rattle.rowan_parser.specs.declared.tree.Trivia.{Trivia}
 use Rattle.rowan_parser.proofs.Leaves.{tree-text}
 

@@ -10,7 +10,7 @@ use Rattle.rowan_parser.specs.Tokens.{tokens_text}
 use Rattle.rowan_parser.specs.Told.{Told}
 use Rattle.rowan_parser.specs.declared.lexer.LexError.{LexError}
 use Rattle.rowan_parser.specs.declared.lexer.Token.{Token}
-use Rattle.rowan_parser.specs.declared.parsed.SyntaxError.{SyntaxError}
+use Rattle.rowan_lines.specs.declared.syntax_error.SyntaxError.{SyntaxError}
 use Rattle.rowan_parser.specs.declared.parser.Spot.{Spot}
 use Rattle.rowan_parser.specs.declared.tree.Trivia.{Trivia}
 

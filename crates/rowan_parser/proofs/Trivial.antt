@@ -9,7 +9,7 @@ use Rattle.std.proofs.lemmas.List.Sums.{take_while-cons}
 use Rattle.rowan_green.specs.Word.{Symbol}
 use Rattle.rowan_parser.specs.Building.{IsAhead}
 use Rattle.rowan_parser.specs.Events.{is_trivia, is_attached, is_pair, outside, past, leaves, Puts}
-use Rattle.rowan_parser.specs.Lines.{line_ends}
+use Rattle.rowan_lines.specs.Lines.{line_ends}
 use Rattle.rowan_parser.specs.Outside.{is_blank, outside_of}
 use Rattle.rowan_green.specs.declared.green.SyntaxKind.{SyntaxKind}
 use Rattle.rowan_parser.specs.declared.lexer.Token.{Token}

@@ -1,12 +1,9 @@
 pub mod Building
 pub mod Events
-pub mod Lines
 pub mod Log
 pub mod Making
 pub mod Outside
 pub mod Parsing
-pub mod Pictures
-pub mod Printed
 pub mod Running
 pub mod Seen
 pub mod Shape

@@ -1,7 +1,7 @@
 -- Of trivia before a node, those that stay outside of it, by the tokens that are attached to it.
 use Rattle.std.specs.Prelude.{ℕ, suc, ◌&&◌, ltb, Bool, cond, not, List, [], ◌∷◌}
 use Rattle.std.specs.List.{list_any}
-use Rattle.rowan_parser.specs.Lines.{line_ends}
+use Rattle.rowan_lines.specs.Lines.{line_ends}
 use Rattle.rowan_parser.specs.declared.lexer.Token.{Token}
 
 -- a blank line: two lines end in a token that is not attached

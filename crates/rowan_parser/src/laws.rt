@@ -14,7 +14,7 @@ ghost use Rattle.rowan_parser.specs.declared.event.Event.{Event};
 ghost use Rattle.rowan_parser.specs.declared.event.Event.TheVariants.{Open, Around, Close, Nothing};
 ghost use Rattle.rowan_parser.specs.declared.event.Event.TheVariants as event;
 ghost use Rattle.rowan_parser.specs.declared.lexer.Token.{Token};
-ghost use Rattle.rowan_parser.specs.declared.parsed.SyntaxError.{SyntaxError};
+ghost use Rattle.rowan_lines.specs.declared.syntax_error.SyntaxError.{SyntaxError};
 ghost use Rattle.rowan_parser.specs.declared.tree.Trivia.{Trivia};
 
 use crate::lexer::Lexer;

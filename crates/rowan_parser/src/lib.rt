@@ -3,27 +3,25 @@
 #![tactic(auto)]
 
 pub mod event;
-mod excerpt;
 pub mod laws;
 pub mod lexer;
-pub mod line_index;
 pub mod parsed;
 pub mod parser;
 pub mod parsing;
-mod pictures;
 pub mod places;
-pub mod rendering;
 pub mod running;
 pub mod token_set;
 pub mod tree;
 
 pub use event::Event;
 pub use lexer::{LexError, Lexed, Lexeme, Lexer, Token, lex};
-pub use line_index::{LineColumn, LineIndex};
-pub use parsed::{Parse, SyntaxError};
+pub use parsed::Parse;
 pub use parser::{CompletedMarker, Marker, Parser};
 pub use parsing::{Ran, parse, parse_with, run};
 pub use places::{lexer_errors, nth_range, token_ranges};
-pub use rendering::{Renderer, Severity, render, render_up_to};
+pub use rowan_lines::{
+    LineColumn, LineIndex, Renderer, Severity, SyntaxError, line_index, render, render_up_to,
+    rendering,
+};
 pub use token_set::{Brackets, TokenSet};
 pub use tree::{Source, Trivia, build_tree, build_tree_with};

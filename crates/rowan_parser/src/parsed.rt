@@ -4,7 +4,8 @@ ghost use Rattle.std.specs.Option.{option_map};
 ghost use Rattle.rowan.specs.Ast.{casts_at, if_casts};
 
 use rowan::ast::AstNode;
-use rowan::{Fault, GreenNode, Language, SyntaxNode, TextRange};
+use rowan::{Fault, GreenNode, Language, SyntaxNode};
+use rowan_lines::SyntaxError;
 use std::alloc::Global;
 
 /// The tree of a text, and what its grammar complained of.
@@ -58,12 +59,4 @@ impl Parse {
             Err(errors)
         }
     }
-}
-
-/// A message, and where it stands: the range of the token of which the grammar complained, or an
-/// empty range at the end of the text.
-#[derive(Drop)]
-pub struct SyntaxError {
-    pub message: String,
-    pub range: TextRange,
 }

@@ -15,12 +15,13 @@ ghost use Rattle.rowan_parser.specs.declared.lexer.Token.{Token};
 
 use crate::event::Event;
 use crate::lexer::{Lexed, Lexer, Token, lex};
-use crate::parsed::{Parse, SyntaxError};
+use crate::parsed::Parse;
 use crate::parser::{Complaint, Parser, SeenToken, Spot};
 use crate::places::{empty_at, end_behind, lexer_errors, nth_range, token_ranges};
 use crate::running::{Made, run_grammar};
 use crate::tree::{Source, Trivia, build_tree_with, is_trivia};
 use rowan::{Fault, Language, NodeCache, TextRange, TextSize};
+use rowan_lines::SyntaxError;
 use std::alloc::Global;
 
 /// What a grammar did over the tokens of a text, without a tree.

@@ -7,9 +7,9 @@ ghost use Rattle.rowan_parser.specs.Parsing.{error_value, lexer_error};
 ghost use Rattle.rowan_parser.specs.Tokens.{tokens_text, lies_within};
 
 use crate::lexer::{LexError, Token};
-use crate::parsed::SyntaxError;
 use crate::tree::{Trivia, is_trivia};
 use rowan::{Fault, TextRange, TextSize};
+use rowan_lines::SyntaxError;
 use std::alloc::Global;
 
 /// What a lexer complained of, as errors of a parse, in the same order.

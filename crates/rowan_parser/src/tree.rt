@@ -15,7 +15,7 @@ ghost use Rattle.rowan_parser.specs.Building.{WhyRefused, WhyNotPut, IsAhead, Is
 ghost use Rattle.rowan_parser.specs.Building.{raw, to_come, AreDone};
 ghost use Rattle.rowan_parser.specs.Events.{begun, is_trivia, is_pair, outside, past};
 ghost use Rattle.rowan_parser.specs.Events.{begins_with};
-ghost use Rattle.rowan_parser.specs.Lines.{line_ends};
+ghost use Rattle.rowan_lines.specs.Lines.{line_ends};
 ghost use Rattle.rowan_parser.specs.Outside.{outside_of};
 ghost use Rattle.rowan_parser.specs.Seen.{has};
 ghost use Rattle.rowan_parser.specs.Events.{up_to, behind, leaves, one_leaf, closings};

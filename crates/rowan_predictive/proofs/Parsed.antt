@@ -16,7 +16,7 @@ use Rattle.rowan_parser.specs.Shape as shape
 use Rattle.rowan_parser.specs.declared.event.Event.{Event}
 use Rattle.rowan_parser.specs.declared.lexer.Lexeme.{Lexeme}
 use Rattle.rowan_parser.specs.declared.lexer.Token.{Token}
-use Rattle.rowan_parser.specs.declared.parsed.SyntaxError.{SyntaxError}
+use Rattle.rowan_lines.specs.declared.syntax_error.SyntaxError.{SyntaxError}
 use Rattle.rowan_parser.specs.declared.tree.Trivia.{Trivia}
 use Rattle.rowan_predictive.specs.declared.parsing.Start.{Start}
 use Rattle.rowan_predictive.specs.declared.rules.Action.{Action}

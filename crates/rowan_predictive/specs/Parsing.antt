@@ -15,7 +15,7 @@ use Rattle.rowan_parser.specs.declared.event.Event.{Event}
 use Rattle.rowan_parser.specs.declared.lexer.LexError.{LexError}
 use Rattle.rowan_parser.specs.declared.lexer.Lexeme.{Lexeme}
 use Rattle.rowan_parser.specs.declared.lexer.Token.{Token}
-use Rattle.rowan_parser.specs.declared.parsed.SyntaxError.{SyntaxError}
+use Rattle.rowan_lines.specs.declared.syntax_error.SyntaxError.{SyntaxError}
 use Rattle.rowan_parser.specs.declared.parser.Spot.TheVariants.{Here}
 use Rattle.rowan_parser.specs.declared.token_set.TokenSet.{TokenSet}
 use Rattle.rowan_parser.specs.declared.tree.Trivia.{Trivia}

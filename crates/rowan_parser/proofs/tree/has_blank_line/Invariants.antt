@@ -1,5 +1,5 @@
 use Rattle.std.proofs.Common.{◌≡◌, ◌+◌, ◌≤◌, length}
-use Rattle.rowan_parser.specs.Lines.{line_ends}
+use Rattle.rowan_lines.specs.Lines.{line_ends}
 use Rattle.rowan_parser.proofs.tree.has_blank_line.Given as goal
 
 abbrev pub invariant-loop-byte : goal.invariant-loop-byte
