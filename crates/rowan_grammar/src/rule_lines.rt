@@ -6,7 +6,7 @@ use rowan_predictive::Rule;
 use std::alloc::{AllocError, Global};
 
 /// The rules, a line each. Before that of a token, a node or a choice stands its name.
-pub fn written(
+pub fn written_rules(
     alloc: Global,
     grammar: &Grammar,
     rules: &Rules,

@@ -4,7 +4,7 @@ ghost use Rattle.rowan.specs.Fits.{byte_limit};
 ghost use Rattle.rowan_parser.specs.Parsing.{WhyNoTree};
 
 use crate::checks::Checker;
-use crate::rule_lines::written;
+use crate::rule_lines::written_rules;
 use rowan::Fault;
 use rowan_grammar_calls::calls::Calls;
 use rowan_grammar_calls::reach::Looker;
@@ -113,7 +113,7 @@ fn files<'g>(
 ) -> Result<Vec<File>, AllocError> {
     let alloc = checker.alloc;
     let rules = match &checker.rules {
-        Some(rules) => Some(written(alloc, grammar, rules)?),
+        Some(rules) => Some(written_rules(alloc, grammar, rules)?),
         None => None,
     };
     files_of(&Source {
