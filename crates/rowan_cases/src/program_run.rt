@@ -3,7 +3,6 @@
 
 use crate::stored::{read_bytes, read_text};
 use anyhow::{Context, Result};
-use rowan_tool::program;
 use std::alloc::{AllocError, Global};
 use std::fmt;
 use std::rt::Files;
@@ -121,7 +120,7 @@ impl Outcome {
     fn of(alloc: Global, args: &[String], input: &[u8]) -> Result<Outcome, AllocError> {
         let mut unread = input;
         let mut output = Vec::new(alloc);
-        let (line, status) = match program::run(alloc, args, &mut unread, &mut output) {
+        let (line, status) = match rowan_program::run(alloc, args, &mut unread, &mut output) {
             Ok(()) => ("", 0),
             Err(stop) => (stop.line(), stop.status()),
         };

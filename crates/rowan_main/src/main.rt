@@ -1,7 +1,7 @@
 //! The program `rowan`: reads a text on standard input, and prints what its one argument asks for.
 #![tactic(auto)]
 
-use rowan_tool::program::{self, Stop};
+use rowan_program::Stop;
 use std::io::ErrorKind;
 use std::process::ExitCode;
 use std::{env, io};
@@ -23,5 +23,5 @@ fn run(rt: &HostRuntime) -> Result<(), Stop> {
         Err(_) => return Err(Stop::NoMemory),
     };
     let words: Vec<String> = args.skip(1).collect(rt.alloc())?;
-    program::run(rt.alloc(), &words, &mut rt.reader(), &mut io::writer(rt))
+    rowan_program::run(rt.alloc(), &words, &mut rt.reader(), &mut io::writer(rt))
 }

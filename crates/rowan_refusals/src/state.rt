@@ -22,7 +22,7 @@ use rowan::{
     Fault, GreenNode, GreenToken, NodeCache, NodeOrToken, SyntaxKind, SyntaxText, TextRange,
     TextSize, TypedElementCalls, script,
 };
-use rowan_tool::program;
+use rowan_program::Stop;
 use rowan_tool::sexp::{Lang, List, Parse, lex, parse, parse_with, reparse_all, reparse_list};
 use serde_json::Value;
 use std::alloc::Global;
@@ -310,14 +310,14 @@ impl State {
     fn run_program(&mut self, text: &str) -> Result<Made, Fault> {
         self.output.clear();
         let mut input = text.as_bytes();
-        match program::run(
+        match rowan_program::run(
             self.alloc,
             self.words.as_slice(),
             &mut input,
             &mut self.output,
         ) {
             Ok(()) => Ok(Made::Count(self.output.len())),
-            Err(program::Stop::NoMemory) => Err(Fault::Memory),
+            Err(Stop::NoMemory) => Err(Fault::Memory),
             Err(_) => Err(Fault::NotFound),
         }
     }

@@ -27,7 +27,6 @@ use Rattle.rowan_tool.specs.Eval.{Reading, number_in, operator_in, atom_text, at
 use Rattle.rowan_tool.specs.Eval.{list_value, value_by, operator_of, value, readings}
 use Rattle.rowan_tool.specs.Eval.{operator_at_term, operator_at, value_of, value_at, result_if}
 use Rattle.rowan_tool.specs.Operation.{size_at, Operates}
-use Rattle.rowan_tool.specs.Program.{value_line, value_lines, value_lines_of, value_lines_at}
 use Rattle.rowan_tool.specs.Sexp.{kind_of}
 use Rattle.rowan_tool.specs.Wrappers.{node_in}
 use Rattle.rowan_tool.specs.declared.sexp.lang.SyntaxKind.{SyntaxKind}
@@ -128,6 +127,27 @@ readings-at c k f e =
         ap (λ i. subterm (Node c.root) (c.path ++ i ∷ [])) same
         ∙ subterm-child (Some (Node c.root)) c.path i
         ∙ ap (λ s. slice_get (children_of s) i) e ∙ h
+
+-- the expressions among the children of a term
+abbrev pub readings_of : Option Term → List Reading
+readings_of None = []
+readings_of (Some (Token t)) = []
+readings_of (Some (Node (node k f))) = readings f
+
+pub all-read : (c : Cursor) → map reading_at (sexps_at c) ≡ readings_of (term_at c)
+all-read c = by (term_at c) refl
+  where
+    none : (s : Option Term) → term_at c ≡ s
+        → map reading_at (sexps_at c)
+        ≡ map reading_at (cursors c.root (paths-from c.root c.path 0 (length (children_of s))))
+    none s h = ap (λ s. map reading_at
+        (cursors c.root (paths-from c.root c.path 0 (length (children_of s))))) h
+
+    by : (s : Option Term) → term_at c ≡ s
+        → map reading_at (sexps_at c) ≡ readings_of (term_at c)
+    by None h = none None h ∙ sym (ap readings_of h)
+    by (Some (Token t)) h = none (Some (Token t)) h ∙ sym (ap readings_of h)
+    by (Some (Node (node k f))) h = readings-at c k f h ∙ sym (ap readings_of h)
 
 -- ---- a list
 
@@ -350,7 +370,7 @@ begins : (c : Cursor) (seen : List Cursor) (rest after : Rest Cursor) (x : Sexp)
 begins c seen (Err f) after x l y = absurd y
 begins c seen (Ok cs) after x l y = (filter is_sexp_at y.0, l.all ∙ ap (λ xs. seen ++ xs) y.1)
 
-left-end : (c : Cursor) (seen : List Cursor) (rest after : Rest Cursor) → Left c seen rest
+pub left-end : (c : Cursor) (seen : List Cursor) (rest after : Rest Cursor) → Left c seen rest
     → YieldsWrappers is_sexp_at node_in rest None after → sexps_at c ≡ seen
 left-end c seen (Err f) after l y = absurd y
 left-end c seen (Ok cs) after l y = l.all ∙ ap (λ xs. seen ++ xs) y.0 ∙ append-nil seen
@@ -403,59 +423,3 @@ operates c rest after o x left right h l y is =
       left_smaller = small.1.0;
       right_smaller = small.1.1.0;
     }
-
--- ---- the lines of what expressions read
-
-lines-more : (ds : List Cursor) (d : Cursor)
-    → value_lines (map reading_at (ds ++ d ∷ [])) ≡ value_lines (map reading_at ds)
-    ++ value_line (value_at d)
-lines-more ds d = ap value_lines (map-append reading_at ds (d ∷ []))
-    ∙ sym (flat_map_more (λ r. value_line r.1) [] (map reading_at ds) (reading_at d))
-
-lines-all : (c : Cursor) → value_lines (map reading_at (sexps_at c)) ≡ value_lines_at c
-lines-all c = by (term_at c) refl
-  where
-    none : (s : Option Term) → term_at c ≡ s
-        → value_lines (map reading_at (sexps_at c))
-        ≡ value_lines (map reading_at (cursors c.root
-        (paths-from c.root c.path 0 (length (children_of s)))))
-    none s h = ap (λ s. value_lines (map reading_at
-        (cursors c.root (paths-from c.root c.path 0 (length (children_of s)))))) h
-
-    by : (s : Option Term) → term_at c ≡ s
-        → value_lines (map reading_at (sexps_at c)) ≡ value_lines_at c
-    by None h = none None h ∙ sym (ap value_lines_of h)
-    by (Some (Token t)) h = none (Some (Token t)) h ∙ sym (ap value_lines_of h)
-    by (Some (Node (node k f))) h = ap value_lines (readings-at c k f h) ∙ sym (ap value_lines_of h)
-
--- these are the lines of the expressions that came first
-pub record Lines (c : Cursor) (rest : Rest Cursor) (lines : List ℕ) : Type 0 where
-  pub seen : List Cursor
-  pub left : Left c seen rest
-  pub printed : lines ≡ value_lines (map reading_at seen)
-
-pub lines-start : (c : Cursor) (rest : Rest Cursor) (lines : List ℕ)
-    → IfOk rest (λ nodes. nodes ≡ children c) → IfErr rest (λ e. e ≡ Memory) → lines ≡ []
-    → Lines c rest lines
-lines-start c rest lines h e none =
-    record { seen = []; left = left-start c rest h e; printed = none }
-
-pub lines-next : (c : Cursor) (rest after : Rest Cursor) (x : Sexp) (lines more : List ℕ)
-    → Lines c rest lines → YieldsWrappers is_sexp_at node_in rest (Some (Ok x)) after
-    → more ≡ lines ++ value_line (value_at (node_in x)) → Lines c after more
-lines-next c rest after x lines more l y e = record {
-  seen = l.seen ++ node_in x ∷ [];
-  left = left-next c l.seen rest after x l.left y;
-  printed = e ∙ ap (λ bs. bs ++ value_line (value_at (node_in x))) l.printed
-      ∙ sym (lines-more l.seen (node_in x));
-}
-
-pub lines-end : (c : Cursor) (rest after : Rest Cursor) (lines : List ℕ) → Lines c rest lines
-    → YieldsWrappers is_sexp_at node_in rest None after → lines ≡ value_lines_at c
-lines-end c rest after lines l y =
-    l.printed ∙ ap (λ ds. value_lines (map reading_at ds))
-    (sym (left-end c l.seen rest after l.left y)) ∙ lines-all c
-
-pub lines-refused : (c : Cursor) (rest after : Rest Cursor) (lines : List ℕ) (f : Fault)
-    → Lines c rest lines → YieldsWrappers is_sexp_at node_in rest (Some (Err f)) after → f ≡ Memory
-lines-refused c rest after lines f l y = left-refused c l.seen rest after f l.left y

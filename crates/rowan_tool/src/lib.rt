@@ -1,5 +1,4 @@
-//! S-expressions over `rowan`, and the program that prints them.
+//! S-expressions over `rowan`.
 #![tactic(auto)]
 
-pub mod program;
 pub mod sexp;

@@ -1,6 +1,6 @@
 //! The program, over readers and writers that may fail.
 use crate::streams::{FailingReader, FailingWriter, words};
-use rowan_tool::program::{Stop, run};
+use rowan_program::{Stop, run};
 use std::alloc::{AllocError, Global};
 use std::io::ErrorKind;
 use std::test::Fail;

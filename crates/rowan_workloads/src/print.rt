@@ -3,7 +3,6 @@ use crate::digest::Digest;
 use crate::document::{self, Phrases};
 use crate::draws::{Draws, Turns};
 use rowan::Fault;
-use rowan_tool::program;
 use std::alloc::Global;
 
 /// How many sizes texts have.
@@ -35,7 +34,7 @@ fn print(alloc: Global, command: &str, text: &str, digest: &mut Digest) -> Resul
     let args = vec![in alloc; String::from_str(alloc, command)?]?;
     let mut unread = text.as_bytes();
     let mut output = Vec::new(alloc);
-    match program::run(alloc, args.as_slice(), &mut unread, &mut output) {
+    match rowan_program::run(alloc, args.as_slice(), &mut unread, &mut output) {
         Ok(()) => digest.add_text(output.as_slice()),
         Err(stop) => digest.add(u64::from(stop.status())),
     }

@@ -2,7 +2,7 @@ use Rattle.std.proofs.Common.{◌+◌, ◌++◌, ℕ, List, take, Option, Some, 
 use Rattle.std.proofs.Common.{refl, sym, ◌∙◌, ap, arith, append_assoc, length-append}
 use Rattle.std.proofs.lemmas.List.{length-take-le}
 use Rattle.std.specs.Io.KnownBytes.{Consumes}
-use Rattle.rowan_tool.proofs.program.read_all.Goals as goal
+use Rattle.rowan_program.proofs.program.read_all.Goals as goal
 
 -- one read behind others
 consumes-more : (old between new : Option (List ℕ)) (bs more : List ℕ)

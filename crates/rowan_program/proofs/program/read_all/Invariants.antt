@@ -1,8 +1,8 @@
 -- The bytes so far are what was read, and they are within the limit.
 use Rattle.std.proofs.Common.{◌-◌, ◌≤◌, vec_len}
 use Rattle.std.specs.Io.KnownBytes.{Consumes}
-use Rattle.rowan_tool.specs.Program.{longest_input}
-use Rattle.rowan_tool.proofs.program.read_all.Given as goal
+use Rattle.rowan_program.specs.Program.{longest_input}
+use Rattle.rowan_program.proofs.program.read_all.Given as goal
 
 abbrev pub invariant-loop-bytes : goal.invariant-loop-bytes
 invariant-loop-bytes g l = record {

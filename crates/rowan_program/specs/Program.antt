@@ -5,9 +5,9 @@ use Rattle.std.specs.Fmt.{signed_decimal}
 use Rattle.std.specs.Io.KnownBytes.{Appends, Consumes}
 use Rattle.std.specs.List.{flat_map}
 use Rattle.std.specs.declared.alloc.Global.{Global}
-use Rattle.rowan_tool.specs.declared.program.Command.{Command}
-use Rattle.rowan_tool.specs.declared.program.Command.TheVariants.{Tree, Eval, Json}
-use Rattle.rowan_tool.specs.declared.program.Stop.{Stop}
+use Rattle.rowan_program.specs.declared.program.Command.{Command}
+use Rattle.rowan_program.specs.declared.program.Command.TheVariants.{Tree, Eval, Json}
+use Rattle.rowan_program.specs.declared.program.Stop.{Stop}
 use Rattle.serde_json.specs.Written.{compact_text}
 use Rattle.rowan_tool.specs.Eval.{Reading, readings}
 use Rattle.rowan_tool.specs.Grammar.{IsParse}
@@ -20,8 +20,8 @@ use Rattle.rowan_green.specs.Fits.{byte_limit}
 use Rattle.rowan_green.specs.Term.{node, NodeTerm, Term}
 use Rattle.rowan_green.specs.declared.fault.Fault.{Fault}
 use Rattle.rowan_green.specs.declared.fault.Fault.TheVariants.{Memory, TextTooLong}
-use Rattle.rowan_tool.specs.declared.program.Stop.TheVariants.{Usage, CannotRead, NotUtf8, TooLong}
-use Rattle.rowan_tool.specs.declared.program.Stop.TheVariants.{NoMemory, CannotWrite}
+use Rattle.rowan_program.specs.declared.program.Stop.TheVariants.{Usage, CannotRead, NotUtf8, TooLong}
+use Rattle.rowan_program.specs.declared.program.Stop.TheVariants.{NoMemory, CannotWrite}
 
 -- the word that asks for the command
 abbrev pub argument_of : Command → List ℕ

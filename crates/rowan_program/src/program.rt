@@ -3,13 +3,13 @@ ghost use Rattle.std.specs.Prelude.{◌≡◌, ◌≢◌, ◌↔◌, ◌<◌, �
 ghost use Rattle.std.specs.Prelude.{IfErr, IfSome, IfNone, OnOk, IsUtf8, string_bytes, vec_len};
 ghost use Rattle.std.specs.Io.KnownBytes.{Appends, Consumes, IsAtEnd};
 ghost use Rattle.rowan_cursor.specs.Moves.{cursor_at};
-ghost use Rattle.rowan_tool.specs.Program.{AsksFor, IsCommandLine, IsReadWhole, ReadsAll};
-ghost use Rattle.rowan_tool.specs.Program.{ReadsTooMany, IsShown, Shows, IsAnswered, StopsFor};
-ghost use Rattle.rowan_tool.specs.Program.{longest_input, value_line, value_lines_at, json_line_at};
-ghost use Rattle.rowan_tool.specs.Program.{status_of, line_of};
+ghost use Rattle.rowan_program.specs.Program.{AsksFor, IsCommandLine, IsReadWhole, ReadsAll};
+ghost use Rattle.rowan_program.specs.Program.{ReadsTooMany, IsShown, Shows, IsAnswered, StopsFor};
+ghost use Rattle.rowan_program.specs.Program.{longest_input, value_line, value_lines_at, json_line_at};
+ghost use Rattle.rowan_program.specs.Program.{status_of, line_of};
 
-use crate::sexp::{self, Lang, Parse, Root};
 use rowan::{Fault, GreenNode, SyntaxNode};
+use rowan_tool::sexp::{self, Lang, Parse, Root};
 use std::alloc::{AllocError, Global};
 use std::io::{ErrorKind, Read, Write};
 
@@ -92,7 +92,7 @@ impl Stop {
 }
 
 impl From<AllocError> for Stop {
-    ghost use Rattle.rowan_tool.specs.declared.program.Stop.TheVariants.{NoMemory};
+    ghost use Rattle.rowan_program.specs.declared.program.Stop.TheVariants.{NoMemory};
 
     ghost from_gives = { λ _ stop. stop ≡ NoMemory };
 

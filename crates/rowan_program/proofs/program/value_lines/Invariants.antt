@@ -1,6 +1,6 @@
 use Rattle.std.specs.Prelude.{string_bytes}
-use Rattle.rowan_tool.proofs.EvalLemmas.{Lines}
-use Rattle.rowan_tool.proofs.program.value_lines.Given as goal
+use Rattle.rowan_program.proofs.ValueLines.{Lines}
+use Rattle.rowan_program.proofs.program.value_lines.Given as goal
 
 -- the lines so far are those of the expressions that came
 abbrev pub invariant-loop-sexp : goal.invariant-loop-sexp
