@@ -11,20 +11,20 @@ use Rattle.rowan_cursor.specs.Cursor.{Cursor}
 use Rattle.rowan_cursor.specs.Moves.{Element, place_of, element_at, cursor_at}
 use Rattle.rowan_cursor.specs.Search.{StandsWhere, touching}
 use Rattle.rowan_cursor.proofs.CoverLemmas.{place_of-element, place_of-stands}
-use Rattle.rowan.specs.declared.script.steps.Report.{Report}
-use Rattle.rowan.specs.declared.script.steps.Report.TheVariants.{Moved, Nowhere, Replaced, Refused}
-use Rattle.rowan.specs.declared.script.steps.Step.{Step}
-use Rattle.rowan.specs.declared.script.steps.Step.TheVariants.{Parent, TreeTop, FirstChild}
-use Rattle.rowan.specs.declared.script.steps.Step.TheVariants.{LastChild, FirstChildOrToken}
-use Rattle.rowan.specs.declared.script.steps.Step.TheVariants.{LastChildOrToken, NextSibling}
-use Rattle.rowan.specs.declared.script.steps.Step.TheVariants.{PrevSibling, NextSiblingOrToken}
-use Rattle.rowan.specs.declared.script.steps.Step.TheVariants.{PrevSiblingOrToken, FirstToken}
-use Rattle.rowan.specs.declared.script.steps.Step.TheVariants.{LastToken, NextToken, PrevToken}
-use Rattle.rowan.specs.declared.script.steps.Step.TheVariants.{ChildAtRange, Covering, LeftTokenAt}
-use Rattle.rowan.specs.declared.script.steps.Step.TheVariants.{RightTokenAt, ReplaceNode}
-use Rattle.rowan.specs.declared.script.steps.Step.TheVariants.{ReplaceToken}
-use Rattle.rowan.specs.Trace.{IsFound, ReportsInTurn, last_element, tree_of, replacement_of}
-use Rattle.rowan.specs.Trace.{replacements}
+use Rattle.rowan_script.specs.declared.script.steps.Report.{Report}
+use Rattle.rowan_script.specs.declared.script.steps.Report.TheVariants.{Moved, Nowhere, Replaced, Refused}
+use Rattle.rowan_script.specs.declared.script.steps.Step.{Step}
+use Rattle.rowan_script.specs.declared.script.steps.Step.TheVariants.{Parent, TreeTop, FirstChild}
+use Rattle.rowan_script.specs.declared.script.steps.Step.TheVariants.{LastChild, FirstChildOrToken}
+use Rattle.rowan_script.specs.declared.script.steps.Step.TheVariants.{LastChildOrToken, NextSibling}
+use Rattle.rowan_script.specs.declared.script.steps.Step.TheVariants.{PrevSibling, NextSiblingOrToken}
+use Rattle.rowan_script.specs.declared.script.steps.Step.TheVariants.{PrevSiblingOrToken, FirstToken}
+use Rattle.rowan_script.specs.declared.script.steps.Step.TheVariants.{LastToken, NextToken, PrevToken}
+use Rattle.rowan_script.specs.declared.script.steps.Step.TheVariants.{ChildAtRange, Covering, LeftTokenAt}
+use Rattle.rowan_script.specs.declared.script.steps.Step.TheVariants.{RightTokenAt, ReplaceNode}
+use Rattle.rowan_script.specs.declared.script.steps.Step.TheVariants.{ReplaceToken}
+use Rattle.rowan_script.specs.Trace.{IsFound, ReportsInTurn, last_element, tree_of, replacement_of}
+use Rattle.rowan_script.specs.Trace.{replacements}
 
 -- ---- moves stay in the tree
 

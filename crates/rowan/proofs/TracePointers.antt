@@ -13,13 +13,13 @@ use Rattle.rowan_green.proofs.PutOrders.{subterm-made}
 use Rattle.rowan_green.proofs.Terms.{Fits-len}
 use Rattle.rowan_cursor.specs.Cursor.{Cursor}
 use Rattle.rowan_cursor.specs.Moves.{Element, place_of, cursor_at}
-use Rattle.rowan.specs.declared.script.steps.Report.{Report}
-use Rattle.rowan.specs.declared.script.steps.Report.TheVariants.{Moved, Nowhere, Replaced, Refused}
-use Rattle.rowan.specs.declared.script.steps.Step.{Step}
+use Rattle.rowan_script.specs.declared.script.steps.Report.{Report}
+use Rattle.rowan_script.specs.declared.script.steps.Report.TheVariants.{Moved, Nowhere, Replaced, Refused}
+use Rattle.rowan_script.specs.declared.script.steps.Step.{Step}
 use Rattle.rowan.specs.Pointer.{Pointer, pointer_to, means_kind, carried, carried_in_turn, Resolves}
 use Rattle.rowan.specs.Pointer.{LeadsAbove}
-use Rattle.rowan.specs.Trace.{ReportsInTurn, root_of, tree_of, last_root, last_tree, replacement_of}
-use Rattle.rowan.specs.Trace.{replacements}
+use Rattle.rowan_script.specs.Trace.{ReportsInTurn, root_of, tree_of, last_root, last_tree, replacement_of}
+use Rattle.rowan_script.specs.Trace.{replacements}
 use Rattle.rowan.proofs.CarriedLemmas.{pointer-carried, leads-above}
 use Rattle.rowan.proofs.TraceLaws.{root-found, there, turns-make}
 

@@ -11,7 +11,6 @@
 
 pub mod ast;
 pub mod laws;
-pub mod script;
 
 pub use api::{
     Language, SyntaxElement, SyntaxElementChildren, SyntaxElementChildrenRef, SyntaxElementRef,
@@ -29,6 +28,7 @@ pub use node_cache::NodeCache;
 pub use rowan_api::api;
 pub use rowan_cursor::{cursor, syntax_text};
 pub use rowan_green::{builder, fault, green, node_cache, steps, text, utility_types};
+pub use rowan_script::script;
 pub use serde_json;
 pub use steps::Steps;
 pub use syntax_text::{SyntaxText, SyntaxTextRef};

@@ -8,9 +8,9 @@ use Rattle.rowan_green.specs.Span.{Span}
 use Rattle.rowan_green.specs.Term.{Term, term_len}
 use Rattle.rowan_cursor.specs.Cursor.{Cursor, text_range}
 use Rattle.rowan_cursor.specs.Moves.{Element, place_of}
-use Rattle.rowan.specs.declared.script.steps.Report.{Report}
-use Rattle.rowan.specs.declared.script.steps.Report.TheVariants.{Moved, Nowhere, Replaced, Refused}
-use Rattle.rowan.specs.declared.script.steps.Step.{Step}
+use Rattle.rowan_script.specs.declared.script.steps.Report.{Report}
+use Rattle.rowan_script.specs.declared.script.steps.Report.TheVariants.{Moved, Nowhere, Replaced, Refused}
+use Rattle.rowan_script.specs.declared.script.steps.Step.{Step}
 use Rattle.rowan.specs.Pointer.{Pointer, carried, carried_in_turn}
 use Rattle.rowan.specs.Trace.{IsReport, ReportsInTurn, Trace, element_after, new_term, replacement_of, replacements, tree_of}
 use Rattle.rowan.proofs.TraceLaws.{root-found}

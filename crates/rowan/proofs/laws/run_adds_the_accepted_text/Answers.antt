@@ -1,4 +1,4 @@
-use Rattle.rowan.proofs.RunLaws.{tokens-rewritten, text-rewritten}
+use Rattle.rowan_script.proofs.RunLaws.{tokens-rewritten, text-rewritten}
 use Rattle.rowan.proofs.laws.run_adds_the_accepted_text.Goals as goal
 
 pub returns-clause-tokens : goal.returns-clause-tokens

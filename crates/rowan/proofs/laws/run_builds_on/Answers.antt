@@ -1,4 +1,4 @@
-use Rattle.rowan.proofs.RunLaws.{builds-run}
+use Rattle.rowan_script.proofs.RunLaws.{builds-run}
 use Rattle.rowan.proofs.laws.run_builds_on.Goals as goal
 
 pub returns : goal.returns

@@ -1,4 +1,4 @@
-use Rattle.rowan.proofs.RunLaws.{word-turns, intern-turns}
+use Rattle.rowan_script.proofs.RunLaws.{word-turns, intern-turns}
 use Rattle.rowan.proofs.laws.word_is_independent_of_the_cache.Goals as goal
 
 pub returns-clause-word : goal.returns-clause-word

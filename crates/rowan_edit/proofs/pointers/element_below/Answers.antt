@@ -3,7 +3,7 @@ use Rattle.std.specs.Option.{option_map}
 use Rattle.std.proofs.lemmas.List.{take_more}
 use Rattle.rowan_cursor.specs.Moves.{element_below}
 use Rattle.rowan_api.specs.Refs.{node_place, token_place, element_place}
-use Rattle.rowan.proofs.Places.{place-split, child-there, none-below, token-below}
+use Rattle.rowan_script.proofs.Places.{place-split, child-there, none-below, token-below}
 use Rattle.rowan_edit.proofs.pointers.element_below.Goals as goal
 
 pub loop-place-preserved : goal.loop-place-preserved
