@@ -75,8 +75,8 @@ fn report_of(alloc: Global, here: &SyntaxElement, step: &Step) -> Report
 
 // The report where there is no room for one more cursor at what a step found.
 fn refused_for_room(here: &SyntaxElement, step: &Step, report: Report) -> Report
-    requires { IsReport here.now step.now report }
-    requires { IsSome (destination report) }
+    requires told { IsReport here.now step.now report }
+    requires leads { IsSome (destination report) }
     ensures report { IsReport here.now step.now result }
     ensures refused { result ≡ Report.Refused Fault.Memory }
 {
