@@ -3,6 +3,7 @@
 
 #[cfg(test)]
 mod arranging;
+#[cfg(test)]
 pub mod calling;
 #[cfg(test)]
 mod drawn;

@@ -18,6 +18,7 @@ mod parser;
 mod parts;
 #[cfg(test)]
 mod program;
+#[cfg(test)]
 pub mod scripts;
 #[cfg(test)]
 mod streams;

@@ -3,21 +3,13 @@
 //! them, a small parser and pointers carried through traces.
 
 pub mod arithmetic;
-#[cfg(test)]
 mod math;
 pub mod nested_lists;
 pub mod pointers;
-#[cfg(test)]
 mod report;
-#[cfg(test)]
 mod run;
-#[cfg(test)]
 mod sessions;
-#[cfg(test)]
 mod step;
-#[cfg(test)]
 mod traces;
-#[cfg(test)]
 mod word;
-#[cfg(test)]
 mod worked;
