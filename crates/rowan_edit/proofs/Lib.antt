@@ -36,10 +36,6 @@ pub mod SiteLaw
 pub mod SiteLemmas
 pub mod SiteListLemmas
 pub mod TextLaw
-pub mod TreeCursorLemmas
-pub mod TreeCursorMoveLemmas
-pub mod TreeCursorReplaceLemmas
-pub mod TreeCursorSearchLemmas
 pub mod TriviaLemmas
 pub mod Untouched
 pub mod Ways

@@ -34,7 +34,5 @@ pub mod SitesKept
 pub mod TextEdits
 pub mod TextWith
 pub mod TokenAts
-pub mod TreeCursor
-pub mod TreeCursorMoves
 pub mod Trivia
 pub mod Zipper

@@ -22,8 +22,7 @@ mod ranked;
 pub mod refusal;
 pub mod rewriting;
 pub mod syntax_editor;
-pub mod tree_cursor;
-mod zipper;
+pub mod zipper;
 
 pub use as_element::AsElement;
 pub use changes::{Change, Changes, Edited};
@@ -38,5 +37,5 @@ pub use pieces::Piece;
 pub use position::Position;
 pub use refusal::Refusal;
 pub use rewriting::{Rewrite, Rewritten, TokenAt, rewrite_tokens};
+pub use rowan_tree_cursor::{TreeCursor, tree_cursor};
 pub use syntax_editor::SyntaxEditor;
-pub use tree_cursor::TreeCursor;

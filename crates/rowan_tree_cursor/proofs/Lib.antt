@@ -1,0 +1,4 @@
+pub mod TreeCursorLemmas
+pub mod TreeCursorMoveLemmas
+pub mod TreeCursorReplaceLemmas
+pub mod TreeCursorSearchLemmas

@@ -1,0 +1,2 @@
+pub mod TreeCursor
+pub mod TreeCursorMoves
