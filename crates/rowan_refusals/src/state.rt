@@ -22,7 +22,6 @@ use rowan::{
     Fault, GreenNode, GreenToken, NodeCache, NodeOrToken, SyntaxKind, SyntaxText, TextRange,
     TextSize, TypedElementCalls, script,
 };
-use rowan_program::Stop;
 use rowan_tool::sexp::{Lang, List, Parse, lex, parse, parse_with, reparse_all, reparse_list};
 use serde_json::Value;
 use std::alloc::Global;
@@ -317,7 +316,7 @@ impl State {
             &mut self.output,
         ) {
             Ok(()) => Ok(Made::Count(self.output.len())),
-            Err(Stop::NoMemory) => Err(Fault::Memory),
+            Err(rowan_program::Stop::NoMemory) => Err(Fault::Memory),
             Err(_) => Err(Fault::NotFound),
         }
     }
