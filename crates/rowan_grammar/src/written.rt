@@ -11,7 +11,7 @@ use rowan_grammar_calls::reach::Looker;
 use rowan_grammar_model::grammar::Grammar;
 use rowan_grammar_reader::problems::{is_error, render};
 use rowan_grammar_reader::{Reading, read};
-use rowan_grammar_writer::{File, Source, files_of};
+use rowan_grammar_writer::{File, Source, WrittenRules, files_of};
 use std::alloc::{AllocError, Global};
 
 /// How much a grammar has.
@@ -105,25 +105,37 @@ fn answer(
 }
 
 /// The files of a grammar in which nothing is wrong.
-fn files<'g>(
+fn files(
+    checker: &Checker<'_>,
+    text: &str,
+    name: &str,
+    grammar: &Grammar,
+) -> Result<Vec<File>, AllocError> {
+    match &checker.rules {
+        Some(rules) => {
+            let rules = written_rules(checker.alloc, grammar, rules)?;
+            files_by(checker, text, name, grammar, Some(&rules))
+        }
+        None => files_by(checker, text, name, grammar, None),
+    }
+}
+
+/// The files of a grammar whose parser has these rules, if it is to have one.
+fn files_by<'g>(
     checker: &'g Checker<'_>,
     text: &'g str,
     name: &'g str,
     grammar: &'g Grammar,
+    rules: Option<&'g WrittenRules>,
 ) -> Result<Vec<File>, AllocError> {
-    let alloc = checker.alloc;
-    let rules = match &checker.rules {
-        Some(rules) => Some(written_rules(alloc, grammar, rules)?),
-        None => None,
-    };
     files_of(&Source {
-        alloc,
+        alloc: checker.alloc,
         text,
         name,
         grammar,
         calls: checker.calls.as_slice(),
         traits: checker.traits.as_slice(),
-        rules: rules.as_ref(),
+        rules,
     })
 }
 
