@@ -256,7 +256,8 @@ fn push_element(
     cursor::push_element(alloc, text, element)
 }
 
-fn length_text(alloc: Global, len: TextSize, text: &str) -> Result<String, AllocError> {
+/// What a text of so many bytes is told as.
+pub fn length_text(alloc: Global, len: TextSize, text: &str) -> Result<String, AllocError> {
     let quoted = operand::quote(alloc, text)?;
     format!(in alloc; "Text {len:?} {quoted}")
 }

@@ -39,9 +39,14 @@ fn answer_input(rt: &(impl Input + Print + AllocGlobal)) -> Result<()> {
     let alloc = rt.alloc();
     let text = io::read_to_string(alloc, rt.reader()).context("reading the case file")?;
     let file = CaseFile::parse(alloc, text.as_str())?;
-    let (answers, _) = runner::answers_of(alloc, &file, Caches::OfCases)?;
+    answer_file(rt, &file)
+}
+
+/// Writes the answers of a case file, a line each.
+fn answer_file(rt: &(impl Print + AllocGlobal), file: &CaseFile) -> Result<()> {
+    let (answers, _) = runner::answers_of(rt.alloc(), file, Caches::OfCases)?;
     for answered in answers.as_slice() {
-        println!(rt; "{}", answered.text(alloc)?)?;
+        println!(rt; "{}", answered.text(rt.alloc())?)?;
     }
     Ok(())
 }

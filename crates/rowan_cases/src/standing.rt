@@ -8,11 +8,11 @@ use crate::instruction::Step;
 use crate::pointers::Pointers;
 use crate::texts::Texts;
 use rowan::ast::AstNode;
-use rowan::cursor::{SyntaxElement, SyntaxNode};
+use rowan::cursor::{SyntaxElement, SyntaxElementRef, SyntaxNode};
 use rowan::script::element_at;
 use rowan::{Fault, GreenNode, NodeOrToken};
 use rowan_tool::sexp::{self, List};
-use std::alloc::Global;
+use std::alloc::{AllocError, Global};
 use std::collections::BTreeMap;
 
 /// Where a case stands.
@@ -56,20 +56,13 @@ impl Standing {
 
     /// What borrowed cursors answer, if they have the call.
     fn answer_by_refs(&self, alloc: Global, step: &Step) -> Result<Option<String>, Fault> {
-        let from = self.start.by(&self.here);
-        Ok(Some(match step {
-            Step::ElementAt(path) => moves::element_at(alloc, from, path.as_slice())?,
-            Step::CloneSubtree => moves::clone_subtree(alloc, from)?,
-            Step::Listing(listing) => lists::list(alloc, from, *listing)?,
-            Step::Same(slot) => self.compare_by_refs(*slot).text(alloc)?,
-            Step::TokenAt(offset) => moves::tokens(alloc, from, *offset)?,
-            Step::Walk(walk) => lists::walk(alloc, from, walk)?,
-            Step::Text => texts::read(alloc, from)?,
-            Step::Slice(slice) => self.texts.slice_by_ref(alloc, *slice)?,
-            Step::Ask(question) => self.texts.ask_by_ref(alloc, question)?,
-            Step::EqText(slot) => self.texts.compare_by_refs(*slot).text(alloc)?,
-            _ => return Ok(None),
-        }))
+        match step {
+            Step::Same(slot) => written(self.compare_by_refs(*slot).text(alloc)),
+            Step::Slice(slice) => self.texts.slice_by_ref(alloc, *slice).map(Some),
+            Step::Ask(question) => self.texts.ask_by_ref(alloc, question).map(Some),
+            Step::EqText(slot) => written(self.texts.compare_by_refs(*slot).text(alloc)),
+            _ => read_by_refs(alloc, self.start.by(&self.here), step),
+        }
     }
 
     /// Answers a step by owned cursors, and goes where it leads.
@@ -173,4 +166,26 @@ impl Standing {
             None => Answer::Nowhere,
         }
     }
+}
+
+/// What a step that only looks answers by borrowed cursors, if it is such a step.
+fn read_by_refs(
+    alloc: Global,
+    from: SyntaxElementRef<'_>,
+    step: &Step,
+) -> Result<Option<String>, Fault> {
+    match step {
+        Step::ElementAt(path) => written(moves::element_at(alloc, from, path.as_slice())),
+        Step::CloneSubtree => moves::clone_subtree(alloc, from).map(Some),
+        Step::Listing(listing) => written(lists::list(alloc, from, *listing)),
+        Step::TokenAt(offset) => written(moves::tokens(alloc, from, *offset)),
+        Step::Walk(walk) => written(lists::walk(alloc, from, walk)),
+        Step::Text => texts::read(alloc, from).map(Some),
+        _ => Ok(None),
+    }
+}
+
+/// A text that there is, where there was memory for it.
+fn written(text: Result<String, AllocError>) -> Result<Option<String>, Fault> {
+    Ok(Some(text?))
 }

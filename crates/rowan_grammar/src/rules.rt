@@ -74,33 +74,12 @@ struct Base {
 pub fn rules_of(alloc: Global, grammar: &Grammar, root: usize) -> Result<Rules, AllocError> {
     let ways = ways_of(alloc, grammar)?;
     let is_reached = reached_from(alloc, grammar, ways.as_slice(), root)?;
-    let mut maker = Maker {
-        alloc,
-        grammar,
-        ways,
-        kinds: numbers_of(alloc, grammar)?,
-        slots: vec![in alloc; None; grammar.items.len()]?,
-        places: vec![in alloc; 0; grammar.items.len()]?,
-        rules: Rules {
-            rules: Vec::new(alloc),
-            origins: Vec::new(alloc),
-            start: 0,
-        },
-    };
+    let mut maker = Maker::new(alloc, grammar, ways)?;
     maker.add_slots(is_reached.as_slice(), false)?;
     maker.add_slots(is_reached.as_slice(), true)?;
     let count = maker.rules.rules.len();
-    for index in 0..grammar.items.len() {
-        if let Some(slot) = maker.slot(index) {
-            let rule = maker.rule_of_item(index)?;
-            maker.rules.set(slot, rule);
-            if let (Rule::Node(_, body), true) = (rule, index == root) {
-                maker.rules.start = body;
-            }
-        }
-    }
-    let Maker { rules, .. } = maker;
-    rules.turned(alloc, count)
+    maker.fill_slots(root)?;
+    maker.rules.turned(alloc, count)
 }
 
 /// The raw kinds by items, and 0 of those that are none.
@@ -332,7 +311,48 @@ impl Rules {
     }
 }
 
+impl<'g> Maker<'g> {
+    /// A maker that has no rules yet.
+    fn new(
+        alloc: Global,
+        grammar: &'g Grammar,
+        ways: Vec<Vec<Way>>,
+    ) -> Result<Maker<'g>, AllocError> {
+        let kinds = numbers_of(alloc, grammar)?;
+        let slots = vec![in alloc; None; grammar.items.len()]?;
+        let places = vec![in alloc; 0; grammar.items.len()]?;
+        let rules = Rules {
+            rules: Vec::new(alloc),
+            origins: Vec::new(alloc),
+            start: 0,
+        };
+        Ok(Maker {
+            alloc,
+            grammar,
+            ways,
+            kinds,
+            slots,
+            places,
+            rules,
+        })
+    }
+}
+
 impl Maker<'_> {
+    /// Makes the rules of the items that have a slot.
+    fn fill_slots(&mut self, root: usize) -> Result<(), AllocError> {
+        for index in 0..self.grammar.items.len() {
+            if let Some(slot) = self.slot(index) {
+                let rule = self.rule_of_item(index)?;
+                self.rules.set(slot, rule);
+                if let (Rule::Node(_, body), true) = (rule, index == root) {
+                    self.rules.start = body;
+                }
+            }
+        }
+        Ok(())
+    }
+
     /// Adds a rule for each item that is reached, for tokens or for nodes and choices. Those of nodes
     /// and choices are still empty.
     fn add_slots(&mut self, is_reached: &[bool], of_tokens: bool) -> Result<(), AllocError> {

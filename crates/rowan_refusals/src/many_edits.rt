@@ -28,19 +28,33 @@ pub fn run_edits(log: &Transcript<'_>) -> Result<(), Stop> {
     log.case("many edits of the sum")?;
     log.phase(Phase::Making)?;
     let subject = ask(log, "a tree, with drops", || make_subject(log.alloc()))?;
-    let edited = ask(log, "GreenEditor, with drops", || by_paths(&subject))?;
-    tell(log, &edited)?;
-    tell_places(log, &subject, &edited)?;
+    let _by_paths = tell_by_paths(log, &subject)?;
     let edited = ask(log, "Editor, with drops", || by_cursors(&subject))?;
     tell(log, &edited)?;
-    let rewritten = ask(log, "rewrite_tokens, with drops", || rewritten(&subject))?;
-    log.tell("tree", &Shape(&rewritten.green))?;
-    let replaced = ask(log, "TreeCursor, with drops", || replaced(&subject))?;
-    log.tell("tree", &Shape(&replaced))?;
+    let _others = tell_others(log, &subject)?;
     log.phase(Phase::Moving)?;
-    log.tell("moved", &edited.changes.moved(range(3, 11)?))?;
-    log.tell("moved", &edited.changes.moved(range(12, 14)?))?;
+    tell_moved(log, &edited)?;
     log.phase(Phase::Dropping)
+}
+
+fn tell_by_paths(log: &Transcript<'_>, subject: &Subject) -> Result<Edited, Stop> {
+    let edited = ask(log, "GreenEditor, with drops", || by_paths(subject))?;
+    tell(log, &edited)?;
+    tell_places(log, subject, &edited)?;
+    Ok(edited)
+}
+
+fn tell_others(log: &Transcript<'_>, subject: &Subject) -> Result<(Rewritten, GreenNode), Stop> {
+    let rewritten = ask(log, "rewrite_tokens, with drops", || rewritten(subject))?;
+    log.tell("tree", &Shape(&rewritten.green))?;
+    let replaced = ask(log, "TreeCursor, with drops", || replaced(subject))?;
+    log.tell("tree", &Shape(&replaced))?;
+    Ok((rewritten, replaced))
+}
+
+fn tell_moved(log: &Transcript<'_>, edited: &Edited) -> Result<(), Stop> {
+    log.tell("moved", &edited.changes.moved(range(3, 11)?))?;
+    log.tell("moved", &edited.changes.moved(range(12, 14)?))
 }
 
 fn tell(log: &Transcript<'_>, edited: &Edited) -> Result<(), Stop> {
@@ -95,13 +109,21 @@ fn taken(answer: Result<(), Refusal>) -> Result<(), Fault> {
 /// A token is put before the first token of the tree, and one in place of the last.
 fn by_cursors(subject: &Subject) -> Result<Edited, Fault> {
     let mut editor = Editor::new(subject.alloc, &subject.root)?;
-    let first = subject.root.first_token()?.ok_or(Fault::NotFound)?;
+    replace_last(subject, &mut editor)?;
+    insert_before_first(subject, &mut editor)?;
+    editor.finish()
+}
+
+fn replace_last(subject: &Subject, editor: &mut Editor) -> Result<(), Fault> {
     let last = subject.root.last_token()?.ok_or(Fault::NotFound)?;
     let new = vec![in subject.alloc; leaf(&subject.token)?]?;
-    taken(editor.replace(&SyntaxElement::from(last), new))?;
+    taken(editor.replace(&SyntaxElement::from(last), new))
+}
+
+fn insert_before_first(subject: &Subject, editor: &mut Editor) -> Result<(), Fault> {
+    let first = subject.root.first_token()?.ok_or(Fault::NotFound)?;
     let new = vec![in subject.alloc; leaf(&subject.token)?]?;
-    taken(editor.insert_before(&SyntaxElement::from(first), new))?;
-    editor.finish()
+    taken(editor.insert_before(&SyntaxElement::from(first), new))
 }
 
 /// Another token comes in place of each that is one byte long, and before each other one.

@@ -80,11 +80,29 @@ where
     let pointer = AstPtr::new(wrapper);
     log.tell("pointer", &pointer)?;
     tell_wrapped(log, "try_to_node", pointer.try_to_node(&root)?)?;
-    match pointer.to_node(&root) {
-        Ok(found) => log.tell("to_node", found.syntax())?,
-        Err(fault) => log.tell("to_node", &fault)?,
-    }
+    tell_node_of(log, &pointer, &root)?;
     log.tell("syntax_node_ptr", &pointer.syntax_node_ptr())?;
+    tell_as_others(log, pointer)
+}
+
+fn tell_node_of<N>(
+    log: &Transcript<'_>,
+    pointer: &AstPtr<N>,
+    root: &SyntaxNode<Lang>,
+) -> Result<(), Stop>
+where
+    N: AstNode<Language = Lang> + Drop,
+{
+    match pointer.to_node(root) {
+        Ok(found) => log.tell("to_node", found.syntax()),
+        Err(fault) => log.tell("to_node", &fault),
+    }
+}
+
+fn tell_as_others<N>(log: &Transcript<'_>, pointer: AstPtr<N>) -> Result<(), Stop>
+where
+    N: AstNode<Language = Lang> + Drop,
+{
     log.tell("equal to its clone", &(pointer.clone()? == pointer))?;
     let raw = SyntaxNodePtr::from(pointer);
     log.tell("as a pointer to an atom", &raw.cast::<Atom>())?;

@@ -81,25 +81,37 @@ fn as_token<'t>(found: Option<SyntaxTokenRef<'t>>) -> Option<SyntaxElementRef<'t
 
 /// Says which elements a list has.
 pub fn tell_list(log: &Transcript<'_>, listing: Listing, from: &SyntaxElement) -> Result<(), Stop> {
-    match (borrowed(from), listing) {
-        (NodeOrToken::Node(node), Listing::Children) => tell_children(log, node),
-        (NodeOrToken::Node(node), Listing::ChildrenWithTokens) => {
-            tell_all(log, node.children_with_tokens())
-        }
-        (NodeOrToken::Node(node), Listing::Ancestors) => tell_all(log, node.ancestors()),
-        (NodeOrToken::Node(node), Listing::Siblings(way)) => tell_all(log, node.siblings(way)),
-        (NodeOrToken::Node(node), Listing::SiblingsWithTokens(way)) => {
-            tell_all(log, node.siblings_with_tokens(way))
-        }
-        (NodeOrToken::Node(node), Listing::Descendants) => tell_all(log, node.descendants()),
-        (NodeOrToken::Node(node), Listing::DescendantsWithTokens) => {
-            tell_all(log, node.descendants_with_tokens())
-        }
-        (NodeOrToken::Token(token), Listing::Ancestors) => tell_all(log, token.ancestors()),
-        (NodeOrToken::Token(token), Listing::SiblingsWithTokens(way)) => {
-            tell_all(log, token.siblings_with_tokens(way))
-        }
-        (NodeOrToken::Token(_), _) => Ok(()),
+    match borrowed(from) {
+        NodeOrToken::Node(node) => tell_list_of_node(log, listing, node),
+        NodeOrToken::Token(token) => tell_list_of_token(log, listing, token),
+    }
+}
+
+fn tell_list_of_node(
+    log: &Transcript<'_>,
+    listing: Listing,
+    node: SyntaxNodeRef<'_>,
+) -> Result<(), Stop> {
+    match listing {
+        Listing::Children => tell_children(log, node),
+        Listing::ChildrenWithTokens => tell_all(log, node.children_with_tokens()),
+        Listing::Ancestors => tell_all(log, node.ancestors()),
+        Listing::Siblings(way) => tell_all(log, node.siblings(way)),
+        Listing::SiblingsWithTokens(way) => tell_all(log, node.siblings_with_tokens(way)),
+        Listing::Descendants => tell_all(log, node.descendants()),
+        Listing::DescendantsWithTokens => tell_all(log, node.descendants_with_tokens()),
+    }
+}
+
+fn tell_list_of_token(
+    log: &Transcript<'_>,
+    listing: Listing,
+    token: SyntaxTokenRef<'_>,
+) -> Result<(), Stop> {
+    match listing {
+        Listing::Ancestors => tell_all(log, token.ancestors()),
+        Listing::SiblingsWithTokens(way) => tell_all(log, token.siblings_with_tokens(way)),
+        _ => Ok(()),
     }
 }
 

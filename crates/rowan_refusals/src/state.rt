@@ -2,7 +2,7 @@
 
 use crate::building::{build, build_on, build_over};
 use crate::calls::{Call, script_of, tree_of};
-use crate::edits::leaf;
+use crate::edits::{Edit, leaf};
 use crate::making::{Made, Make};
 use crate::moving::{Move, compare, hash_of};
 use crate::pointers::{tell_pointer, tell_wrappers};
@@ -80,9 +80,30 @@ impl State {
             Step::Look(way) => self.look(log, way),
             Step::Go(way) => self.go(log, way),
             Step::GoToRoot(number) => self.go_to_root(log, number),
+            Step::Text => self.read(log),
+            Step::Slice(slice) => self.cut(log, slice),
+            _ => self.tell_step(log, step),
+        }
+    }
+
+    /// The steps at the current cursor that leave it where it is.
+    fn tell_step(&self, log: &Transcript<'_>, step: Step) -> Result<(), Stop> {
+        match step {
             Step::List(listing) => listing.tell(log, self.place()?),
             Step::Walk(walk) => walk.tell(log, self.place()?),
             Step::Clones => tell_clones(log, self.node_here()?),
+            Step::NotOneList(text) => self.tell_not_one_list(log, text),
+            Step::Search(search) => search.tell(log, self.place()?),
+            Step::Ask(question) => question.tell(log, self.text()?),
+            Step::SameText(number) => self.tell_same_text(log, number),
+            Step::Compare(way) => compare(log, self.place()?, &self.target_of(way)?),
+            Step::CompareRoot(number) => compare(log, self.place()?, &self.root(number)?),
+            _ => self.tell_typed_step(log, step),
+        }
+    }
+
+    fn tell_typed_step(&self, log: &Transcript<'_>, step: Step) -> Result<(), Stop> {
+        match step {
             Step::Typed => tell_typed(log, self.syntax()?),
             Step::TypedMoves => tell_moves(log, &self.typed_place()?),
             Step::Conversions => tell_conversions(log, self.typed_place()?),
@@ -95,15 +116,8 @@ impl State {
                 )
             }
             Step::Wrappers => tell_wrappers(log, &self.typed_node()?),
-            Step::NotOneList(text) => self.tell_not_one_list(log, text),
-            Step::Search(search) => search.tell(log, self.place()?),
             Step::TypedSearch(search) => search.tell_typed(log, &self.typed_place()?),
-            Step::Text => self.read(log),
-            Step::Slice(slice) => self.cut(log, slice),
-            Step::Ask(question) => question.tell(log, self.text()?),
-            Step::SameText(number) => self.tell_same_text(log, number),
-            Step::Compare(way) => compare(log, self.place()?, &self.target_of(way)?),
-            Step::CompareRoot(number) => compare(log, self.place()?, &self.root(number)?),
+            _ => Ok(()),
         }
     }
 
@@ -128,48 +142,97 @@ impl State {
     }
 
     fn make_value(&mut self, what: Make) -> Result<Made, Fault> {
-        let alloc = self.alloc;
         match what {
-            Make::Tree(calls) => Ok(Made::Tree(tree_of(alloc, calls)?)),
-            Make::Token(kind, text) => {
-                Ok(Made::Token(GreenToken::new(alloc, SyntaxKind(kind), text)?))
-            }
-            Make::Node(kind) => Ok(Made::Tree(self.node(kind)?)),
-            Make::Edited(edit) => Ok(Made::Edited(edit.make(alloc, self.tree()?, self.token()?)?)),
-            Make::Replaced => Ok(Made::Edited(self.replace()?)),
-            Make::TypedReplaced => Ok(Made::Edited(self.replace_typed()?)),
-            Make::RefReplaced => Ok(Made::Edited(self.replace_by_ref()?)),
-            Make::TypedRefReplaced => Ok(Made::Edited(self.replace_by_typed_ref()?)),
-            Make::Root => Ok(Made::Cursor(SyntaxNode::new_root(alloc, self.tree()?.clone()?)?)),
-            Make::Subtree => Ok(Made::Cursor(self.subtree()?)),
-            Make::RefSubtree => Ok(Made::Cursor(self.node_here()?.as_ref().clone_subtree()?)),
-            Make::TypedSubtree => Ok(Made::Syntax(self.typed_node()?.clone_subtree()?)),
-            Make::TypedRefSubtree => {
-                Ok(Made::Syntax(self.typed_node()?.as_ref().clone_subtree()?))
-            }
-            Make::ListSubtree => Ok(Made::Syntax(self.list_subtree()?)),
-            Make::Lexed(text) => Ok(Made::Count(lex(alloc, text)?.len())),
-            Make::Parsed(text) => Ok(Made::Parse(parse(alloc, text)?)),
-            Make::ParsedOver(text) => Ok(Made::Parse(parse_with(alloc, text, &mut self.cache)?)),
-            Make::Syntax => Ok(Made::Syntax(self.parse()?.syntax(alloc)?)),
-            Make::ParsedRoot => Ok(Made::Syntax(self.parsed_root()?)),
-            Make::Printed => Ok(Made::Text(self.syntax()?.debug_tree(alloc)?)),
-            Make::Line => Ok(Made::Text(self.line()?)),
-            Make::Json => Ok(Made::Json(self.json()?)),
-            Make::JsonText => Ok(Made::Text(self.json_text()?)),
-            Make::Reparsed(text) => Ok(Made::Edited(self.reparse(text)?)),
             Make::ListEdits(edits) => self.set_list_edits(edits),
-            Make::ReparsedAll(text) => Ok(Made::Edited(self.reparse_text(text)?)),
-            Make::Text => Ok(Made::Text(self.syntax()?.to_string(alloc)?)),
-            Make::Shown => Ok(Made::Text(self.tree()?.to_string(alloc)?)),
-            Make::Copy => Ok(Made::Text(self.text()?.to_text()?)),
-            Make::RefCopy => Ok(Made::Text(self.text()?.as_ref().to_text()?)),
             Make::Script(calls, count) => self.set_script(calls, count),
             Make::Steps(strides) => self.set_steps(strides),
             Make::Words(words) => self.set_words(words),
             Make::Room(bytes) => self.set_room(bytes),
             Make::Written(text) => self.run_program(text),
+            Make::ParsedOver(text) => {
+                parse_with(self.alloc, text, &mut self.cache).map(Made::Parse)
+            }
+            Make::Parsed(text) => parse(self.alloc, text).map(Made::Parse),
+            Make::Lexed(text) => Ok(Made::Count(lex(self.alloc, text)?.len())),
+            _ => self.green_value(what),
         }
+    }
+
+    fn green_value(&self, what: Make) -> Result<Made, Fault> {
+        let alloc = self.alloc;
+        match what {
+            Make::Tree(calls) => tree_of(alloc, calls).map(Made::Tree),
+            Make::Token(kind, text) => {
+                GreenToken::new(alloc, SyntaxKind(kind), text).map(Made::Token)
+            }
+            Make::Node(kind) => self.node(kind).map(Made::Tree),
+            Make::Edited(edit) => self.edited(edit).map(Made::Edited),
+            Make::Replaced => self.replace().map(Made::Edited),
+            Make::TypedReplaced => self.replace_typed().map(Made::Edited),
+            Make::RefReplaced => self.replace_by_ref().map(Made::Edited),
+            Make::TypedRefReplaced => self.replace_by_typed_ref().map(Made::Edited),
+            Make::Reparsed(text) => self.reparse(text).map(Made::Edited),
+            Make::ReparsedAll(text) => self.reparse_text(text).map(Made::Edited),
+            _ => self.cursor_value(what),
+        }
+    }
+
+    fn cursor_value(&self, what: Make) -> Result<Made, Fault> {
+        match what {
+            Make::Root => self.new_root().map(Made::Cursor),
+            Make::Subtree => self.subtree().map(Made::Cursor),
+            Make::RefSubtree => self.ref_subtree().map(Made::Cursor),
+            Make::TypedSubtree => self.typed_subtree().map(Made::Syntax),
+            Make::TypedRefSubtree => self.typed_ref_subtree().map(Made::Syntax),
+            Make::ListSubtree => self.list_subtree().map(Made::Syntax),
+            Make::Syntax => self.parse()?.syntax(self.alloc).map(Made::Syntax),
+            Make::ParsedRoot => self.parsed_root().map(Made::Syntax),
+            _ => self.text_value(what),
+        }
+    }
+
+    fn text_value(&self, what: Make) -> Result<Made, Fault> {
+        match what {
+            Make::Json => self.json().map(Made::Json),
+            Make::Printed => self.syntax()?.debug_tree(self.alloc).map(Made::Text),
+            Make::Line => self.line().map(Made::Text),
+            Make::JsonText => self.json_text().map(Made::Text),
+            Make::Text => self.syntax_text().map(Made::Text),
+            Make::Shown => self.tree_text().map(Made::Text),
+            Make::Copy => self.text()?.to_text().map(Made::Text),
+            Make::RefCopy => self.text()?.as_ref().to_text().map(Made::Text),
+            _ => Err(Fault::NotFound),
+        }
+    }
+
+    fn edited(&self, edit: Edit) -> Result<GreenNode, Fault> {
+        edit.make(self.alloc, self.tree()?, self.token()?)
+    }
+
+    fn new_root(&self) -> Result<SyntaxNode, Fault> {
+        SyntaxNode::new_root(self.alloc, self.tree()?.clone()?)
+    }
+
+    fn ref_subtree(&self) -> Result<SyntaxNode, Fault> {
+        self.node_here()?.as_ref().clone_subtree()
+    }
+
+    fn typed_subtree(&self) -> Result<rowan::SyntaxNode<Lang>, Fault> {
+        let node = self.typed_node()?;
+        node.clone_subtree()
+    }
+
+    fn typed_ref_subtree(&self) -> Result<rowan::SyntaxNode<Lang>, Fault> {
+        let node = self.typed_node()?;
+        node.as_ref().clone_subtree()
+    }
+
+    fn syntax_text(&self) -> Result<String, Fault> {
+        Ok(self.syntax()?.to_string(self.alloc)?)
+    }
+
+    fn tree_text(&self) -> Result<String, Fault> {
+        Ok(self.tree()?.to_string(self.alloc)?)
     }
 
     /// A node over all tokens.

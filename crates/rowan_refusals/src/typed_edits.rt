@@ -19,22 +19,32 @@ pub fn run_typed_edits(log: &Transcript<'_>) -> Result<(), Stop> {
     log.case("typed edits of a JSON text")?;
     log.phase(Phase::Making)?;
     let subject = ask(log, "a tree, with drops", || make_subject(log.alloc()))?;
-    let edited = ask(
-        log,
-        "SyntaxEditor, with drops",
-        || fault_of(edited(&subject)),
-    )?;
-    log.tell("tree", &Shape(&edited.green))?;
-    log.tell("changes", &edited.changes.as_slice())?;
-    let arranged = ask(
-        log,
-        "SyntaxEditor::replace_children, with drops",
-        || fault_of(arranged(&subject)),
-    )?;
-    log.tell("arranged", &Shape(&arranged.green))?;
+    let _edited = tell_edited(log, &subject)?;
+    let _arranged = tell_arranged(log, &subject)?;
     let made = ask(log, "Make, with drops", || fault_of(made(&subject)))?;
     log.tell("made", &made.text_len())?;
     log.phase(Phase::Dropping)
+}
+
+fn tell_edited(log: &Transcript<'_>, subject: &Subject) -> Result<Edited, Stop> {
+    let edited = ask(
+        log,
+        "SyntaxEditor, with drops",
+        || fault_of(edited(subject)),
+    )?;
+    log.tell("tree", &Shape(&edited.green))?;
+    log.tell("changes", &edited.changes.as_slice())?;
+    Ok(edited)
+}
+
+fn tell_arranged(log: &Transcript<'_>, subject: &Subject) -> Result<Edited, Stop> {
+    let arranged = ask(
+        log,
+        "SyntaxEditor::replace_children, with drops",
+        || fault_of(arranged(subject)),
+    )?;
+    log.tell("arranged", &Shape(&arranged.green))?;
+    Ok(arranged)
 }
 
 fn make_subject(alloc: Global) -> Result<Subject, Fault> {

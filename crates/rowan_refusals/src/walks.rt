@@ -69,22 +69,38 @@ fn tell_preorder_with_tokens(
 
 /// Says what a clone of each iterator at a node gives first.
 pub fn tell_clones(log: &Transcript<'_>, node: &SyntaxNode) -> Result<(), Stop> {
+    tell_clones_of_children(log, node)?;
+    log.tell("ancestors", &node.ancestors().clone()?.next())?;
+    tell_clones_of_siblings(log, node)?;
+    tell_clones_of_descendants(log, node)?;
+    tell_clones_of_walks(log, node)
+}
+
+fn tell_clones_of_children(log: &Transcript<'_>, node: &SyntaxNode) -> Result<(), Stop> {
     log.tell("children", &node.children().clone()?.next())?;
     log.tell(
         "children_with_tokens",
         &node.children_with_tokens().clone()?.next(),
-    )?;
-    log.tell("ancestors", &node.ancestors().clone()?.next())?;
+    )
+}
+
+fn tell_clones_of_siblings(log: &Transcript<'_>, node: &SyntaxNode) -> Result<(), Stop> {
     log.tell("siblings", &node.siblings(Direction::Next).clone()?.next())?;
     log.tell(
         "siblings_with_tokens",
         &node.siblings_with_tokens(Direction::Next).clone()?.next(),
-    )?;
+    )
+}
+
+fn tell_clones_of_descendants(log: &Transcript<'_>, node: &SyntaxNode) -> Result<(), Stop> {
     log.tell("descendants", &node.descendants().clone()?.next())?;
     log.tell(
         "descendants_with_tokens",
         &node.descendants_with_tokens().clone()?.next(),
-    )?;
+    )
+}
+
+fn tell_clones_of_walks(log: &Transcript<'_>, node: &SyntaxNode) -> Result<(), Stop> {
     log.tell("preorder", &node.preorder().clone()?.next())?;
     log.tell(
         "preorder_with_tokens",

@@ -1,7 +1,7 @@
 //! Texts that are borrowed.
 
 use super::written;
-use crate::answer::Answer;
+use crate::answer::{Answer, length_text};
 use crate::instruction::{Question, Slice};
 use rowan::cursor::SyntaxElementRef;
 use rowan::syntax_text::SyntaxTextRef;
@@ -25,7 +25,8 @@ pub fn slice(alloc: Global, text: &SyntaxTextRef<'_>, slice: Slice) -> Result<St
 }
 
 fn whole(alloc: Global, text: &SyntaxTextRef<'_>) -> Result<String, Fault> {
-    Ok(Answer::Text(text.len(), text.to_text()?).text(alloc)?)
+    let bytes = text.to_text()?;
+    Ok(length_text(alloc, text.len(), bytes.as_str())?)
 }
 
 /// Asks a text.

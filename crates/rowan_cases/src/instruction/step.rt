@@ -83,25 +83,44 @@ impl Step {
         if let Some(support) = Support::parse(name, operands)? {
             return Ok(Some(Step::Support(support)));
         }
-        Ok(Some(match (name, operands) {
-            ("GreenChildAt", _) => Step::GreenChildAt(operand::range(operands)?),
-            ("ElementAt", _) => Step::ElementAt(operand::path(alloc, operands)?),
-            ("Astray", "") => Step::Astray,
-            ("CloneSubtree", "") => Step::CloneSubtree,
-            ("Save", _) => Step::Save(operand::number(operands)?),
-            ("Load", _) => Step::Load(operand::number(operands)?),
-            ("Same", _) => Step::Same(operand::number(operands)?),
-            ("TokenAt", _) => Step::TokenAt(operand::offset(operands)?),
-            ("Walk", _) => Step::Walk(Walk::Nodes(walk::calls(alloc, operands)?)),
-            ("WalkWithTokens", _) => Step::Walk(Walk::WithTokens(walk::calls(alloc, operands)?)),
-            ("Eval", "") => Step::Eval,
-            ("ReparseList", _) => Step::ReparseList(operand::text(alloc, operands)?),
-            ("DebugTree", "") => Step::DebugTree,
-            ("DebugLine", "") => Step::DebugLine,
-            ("Json", "") => Step::Json,
-            _ => return Ok(None),
-        }))
+        match (name, operands) {
+            ("Astray", "") => Ok(Some(Step::Astray)),
+            ("CloneSubtree", "") => Ok(Some(Step::CloneSubtree)),
+            ("Eval", "") => Ok(Some(Step::Eval)),
+            ("DebugTree", "") => Ok(Some(Step::DebugTree)),
+            ("DebugLine", "") => Ok(Some(Step::DebugLine)),
+            ("Json", "") => Ok(Some(Step::Json)),
+            _ => with_operand(alloc, name, operands),
+        }
     }
+}
+
+/// Reads a step with an operand. Nothing where the name is that of none.
+fn with_operand(alloc: Global, name: &str, operands: &str) -> Result<Option<Step>> {
+    match name {
+        "GreenChildAt" => operand::range(operands).map(Step::GreenChildAt).map(Some),
+        "ElementAt" => operand::path(alloc, operands)
+            .map(Step::ElementAt)
+            .map(Some),
+        "Save" => operand::number(operands).map(Step::Save).map(Some),
+        "Load" => operand::number(operands).map(Step::Load).map(Some),
+        "Same" => operand::number(operands).map(Step::Same).map(Some),
+        "TokenAt" => operand::offset(operands).map(Step::TokenAt).map(Some),
+        "ReparseList" => operand::text(alloc, operands)
+            .map(Step::ReparseList)
+            .map(Some),
+        _ => of_walk(alloc, name, operands),
+    }
+}
+
+/// Reads a walk. Nothing where the name is that of none.
+fn of_walk(alloc: Global, name: &str, operands: &str) -> Result<Option<Step>> {
+    let walk = match name {
+        "Walk" => Walk::Nodes(walk::calls(alloc, operands)?),
+        "WalkWithTokens" => Walk::WithTokens(walk::calls(alloc, operands)?),
+        _ => return Ok(None),
+    };
+    Ok(Some(Step::Walk(walk)))
 }
 
 /// Reads a step that acts on texts. Nothing where the name is that of none.
