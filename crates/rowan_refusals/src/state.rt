@@ -102,6 +102,7 @@ impl State {
         }
     }
 
+    /// Those at the current typed cursor. A step that is in none of the three lists stops the run.
     fn tell_typed_step(&self, log: &Transcript<'_>, step: Step) -> Result<(), Stop> {
         match step {
             Step::Typed => tell_typed(log, self.syntax()?),
@@ -117,7 +118,7 @@ impl State {
             }
             Step::Wrappers => tell_wrappers(log, &self.typed_node()?),
             Step::TypedSearch(search) => search.tell_typed(log, &self.typed_place()?),
-            _ => Ok(()),
+            _ => Err(Stop::Refused(Fault::NotFound)),
         }
     }
 
@@ -158,6 +159,7 @@ impl State {
         }
     }
 
+    /// A value of a green tree.
     fn green_value(&self, what: Make) -> Result<Made, Fault> {
         let alloc = self.alloc;
         match what {
@@ -177,6 +179,7 @@ impl State {
         }
     }
 
+    /// A cursor.
     fn cursor_value(&self, what: Make) -> Result<Made, Fault> {
         match what {
             Make::Root => self.new_root().map(Made::Cursor),
@@ -191,6 +194,7 @@ impl State {
         }
     }
 
+    /// A text, or JSON. What is in none of the four lists is refused, and so told as another line.
     fn text_value(&self, what: Make) -> Result<Made, Fault> {
         match what {
             Make::Json => self.json().map(Made::Json),
