@@ -3,11 +3,11 @@ use Rattle.std.proofs.Common.{◌≡◌, List, [], ◌∷◌, map, refl, sym, �
 use Rattle.std.proofs.Common.{cond}
 use Rattle.std.specs.Prelude.{Option, Some, None}
 use Rattle.std.specs.Option.{option_map, option_map_or}
-use Rattle.rowan_green.specs.Path.{Path}
+use Rattle.rowan_terms.specs.Path.{Path}
 use Rattle.rowan_green.specs.Term.{NodeTerm}
-use Rattle.rowan_cursor.specs.Cursor.{Cursor}
-use Rattle.rowan_cursor.specs.Moves.{cursor_at, ancestor_paths, parent_path, ancestors, parent}
-use Rattle.rowan_cursor.specs.Moves.{parent_ancestors}
+use Rattle.rowan_table.specs.Cursor.{Cursor}
+use Rattle.rowan_table.specs.Moves.{cursor_at, ancestor_paths, parent_path, ancestors, parent}
+use Rattle.rowan_table.specs.Moves.{parent_ancestors}
 use Rattle.rowan_cursor.proofs.ClimbLemmas.{ancestors-first}
 use Rattle.rowan.specs.AroundOffset.{is_shorter, put_in, merged, from_node, is_second}
 

@@ -10,22 +10,22 @@ use Rattle.std.proofs.lemmas.Bool.{cases_order, cases_lt, le-leb, lt-leb, trueâ‰
 use Rattle.std.proofs.lemmas.Option.{slice_get_within}
 use Rattle.rowan_green.specs.declared.utility_types.NodeOrToken.TheVariants.{Node, Token}
 use Rattle.rowan_green.specs.Fits.{byte_limit}
-use Rattle.rowan_green.specs.Path.{Path, subterm_of, subterm, begins, stands_before, offset, len_of}
-use Rattle.rowan_green.specs.Path.{range, put, separate, shifted, moved, moved_range}
+use Rattle.rowan_terms.specs.Path.{Path, subterm_of, subterm, begins, stands_before, offset, len_of}
+use Rattle.rowan_terms.specs.Path.{range, put, separate, shifted, moved, moved_range}
 use Rattle.rowan_green.specs.Search.{child_start}
 use Rattle.rowan_green.specs.Span.{Span}
 use Rattle.rowan_green.specs.Term.{NodeTerm, node_kind, node_children, node_len, Term, term_kind}
 use Rattle.rowan_green.specs.Term.{term_len}
-use Rattle.rowan_green.proofs.OffsetLemmas.{before_at_same, before_at_greater, offset_of}
-use Rattle.rowan_green.proofs.OffsetLemmas.{offset-lens, lens_before-node, range-within}
-use Rattle.rowan_green.proofs.PutLemmas.{subterm-apart}
-use Rattle.rowan_green.proofs.PutRanges.{range-apart}
+use Rattle.rowan_terms.proofs.OffsetLemmas.{before_at_same, before_at_greater, offset_of}
+use Rattle.rowan_terms.proofs.OffsetLemmas.{offset-lens, lens_before-node, range-within}
+use Rattle.rowan_terms.proofs.PutLemmas.{subterm-apart}
+use Rattle.rowan_terms.proofs.PutRanges.{range-apart}
 use Rattle.rowan_green.proofs.SearchLemmas.{child_start-le}
-use Rattle.rowan_green.proofs.SeparateLemmas.{Part, part-separate, before-separate, separate-sym}
-use Rattle.rowan_cursor.specs.Cursor.{Cursor, kind}
-use Rattle.rowan_cursor.specs.Moves.{cursor_at}
-use Rattle.rowan_cursor.specs.Search.{IsChain}
-use Rattle.rowan_cursor.proofs.PathLemmas.{child_start-next, begins-own}
+use Rattle.rowan_terms.proofs.SeparateLemmas.{Part, part-separate, before-separate, separate-sym}
+use Rattle.rowan_table.specs.Cursor.{Cursor, kind}
+use Rattle.rowan_table.specs.Moves.{cursor_at}
+use Rattle.rowan_table.specs.Search.{IsChain}
+use Rattle.rowan_table.proofs.PathLemmas.{child_start-next, begins-own}
 use Rattle.rowan.specs.Ast.{casts_at, if_casts}
 use Rattle.rowan.specs.Pointer.{Pointer, pointer_to, means_kind, is_node_of, is_meant, IsFirstMeant}
 use Rattle.rowan.specs.Pointer.{resolves_from, Resolves, range_behind, range_after, carried}

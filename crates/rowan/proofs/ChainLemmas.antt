@@ -10,20 +10,20 @@ use Rattle.std.proofs.lemmas.Bool.{cases_lt, cases_order}
 use Rattle.std.proofs.lemmas.List.{append-nil}
 use Rattle.std.proofs.lemmas.Option.{slice_get_within}
 use Rattle.rowan_green.specs.declared.utility_types.NodeOrToken.TheVariants.{Node, Token}
-use Rattle.rowan_green.specs.Path.{Path, term_children, subterm_of, subterm, offset, len_of, range}
+use Rattle.rowan_terms.specs.Path.{Path, term_children, subterm_of, subterm, offset, len_of, range}
 use Rattle.rowan_green.specs.Search.{child_start, child_end, HasRange, IsChildAt, has_bytes}
 use Rattle.rowan_green.specs.Sizes.{term_size}
 use Rattle.rowan_green.specs.Span.{Span}
 use Rattle.rowan_green.specs.Term.{NodeTerm, Term, term_len, sum_of_lens}
-use Rattle.rowan_green.proofs.OffsetLemmas.{offset-join, range-within}
+use Rattle.rowan_terms.proofs.OffsetLemmas.{offset-join, range-within}
 use Rattle.rowan_green.proofs.SearchLemmas.{bounds, has-range, one_child-at, inside-node}
 use Rattle.rowan_green.proofs.SearchLemmas.{child-at-place, child_start-le}
-use Rattle.rowan_cursor.specs.Moves.{children_of, is_node, is_node_at}
-use Rattle.rowan_cursor.specs.Search.{IsRangeChild, IsChain}
-use Rattle.rowan_cursor.proofs.PathLemmas.{subterm-child, subterm_of-append, offset-child}
-use Rattle.rowan_cursor.proofs.PathLemmas.{child_start-next}
+use Rattle.rowan_table.specs.Moves.{children_of, is_node, is_node_at}
+use Rattle.rowan_table.specs.Search.{IsRangeChild, IsChain}
+use Rattle.rowan_table.proofs.PathLemmas.{subterm-child, subterm_of-append, offset-child}
+use Rattle.rowan_table.proofs.PathLemmas.{child_start-next}
 use Rattle.rowan_cursor.proofs.SizeLemmas.{child-smaller}
-use Rattle.rowan_cursor.proofs.TableLemmas.{slice_get-some}
+use Rattle.rowan_table.proofs.TableLemmas.{slice_get-some}
 
 -- ---- whether a child is at a range
 

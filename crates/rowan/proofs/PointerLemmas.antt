@@ -8,17 +8,17 @@ use Rattle.std.specs.List.{find}
 use Rattle.std.proofs.lemmas.Bool.{cases_lt, eq-eqb, true≢false}
 use Rattle.std.specs.Option.{option_map, is_some}
 use Rattle.rowan_green.specs.declared.utility_types.NodeOrToken.TheVariants.{Node, Token}
-use Rattle.rowan_green.specs.Path.{Path, subterm, range}
+use Rattle.rowan_terms.specs.Path.{Path, subterm, range}
 use Rattle.rowan_green.specs.Search.{digits}
 use Rattle.rowan_green.specs.Span.{Span}
 use Rattle.rowan_green.specs.Steps.{Tally, count_limit, one_more}
 use Rattle.rowan_green.specs.Term.{NodeTerm, node_kind, Term, term_kind}
-use Rattle.rowan_cursor.specs.Cursor.{Cursor}
-use Rattle.rowan_cursor.specs.Moves.{children_of, child_count, is_node, is_node_at, nodes_at}
-use Rattle.rowan_cursor.specs.Moves.{Element, element_if, cursor_at, parent, parent_path}
-use Rattle.rowan_cursor.specs.Search.{IsRangeChild, IsChain, StandsWhere, FindsChild}
-use Rattle.rowan_cursor.proofs.PathLemmas.{parent_path-child, last-split, subterm-child}
-use Rattle.rowan_cursor.proofs.TableLemmas.{slice_get-some}
+use Rattle.rowan_table.specs.Cursor.{Cursor}
+use Rattle.rowan_table.specs.Moves.{children_of, child_count, is_node, is_node_at, nodes_at}
+use Rattle.rowan_table.specs.Moves.{Element, element_if, cursor_at, parent, parent_path}
+use Rattle.rowan_table.specs.Search.{IsRangeChild, IsChain, StandsWhere, FindsChild}
+use Rattle.rowan_table.proofs.PathLemmas.{parent_path-child, last-split, subterm-child}
+use Rattle.rowan_table.proofs.TableLemmas.{slice_get-some}
 use Rattle.rowan.specs.Pointer.{Pointer, means_kind, is_node_of, is_meant, up_to, digits_at}
 use Rattle.rowan.specs.Pointer.{IsFirstMeant, CountsVisits, resolves_from, counts_from, Resolves}
 use Rattle.rowan.specs.Pointer.{CountsResolving}

@@ -9,11 +9,11 @@ use Rattle.std.proofs.lemmas.List.{reverse-append}
 use Rattle.std.proofs.lemmas.Option.{same_Some}
 use Rattle.rowan_green.specs.declared.utility_types.Direction.TheVariants.{Next, Prev}
 use Rattle.rowan_green.specs.declared.utility_types.NodeOrToken.TheVariants.{Node}
-use Rattle.rowan_green.specs.Path.{Path, LeafAt, stands_before, node_leaves, leaves_from, below_place}
+use Rattle.rowan_terms.specs.Path.{Path, LeafAt, stands_before, node_leaves, leaves_from, below_place}
 use Rattle.rowan_green.specs.Term.{NodeTerm, node, Forest, empty, node_then, token_then}
-use Rattle.rowan_cursor.specs.Cursor.{Cursor}
-use Rattle.rowan_cursor.specs.Moves.{cursor_at, leaf_paths, next_token, prev_token}
-use Rattle.rowan_green.proofs.OffsetLemmas.{before_at_less, before_at_same, before_at_greater}
+use Rattle.rowan_table.specs.Cursor.{Cursor}
+use Rattle.rowan_table.specs.Moves.{cursor_at, leaf_paths, next_token, prev_token}
+use Rattle.rowan_terms.proofs.OffsetLemmas.{before_at_less, before_at_same, before_at_greater}
 use Rattle.rowan.specs.Around.{other_tokens, tokens_from}
 
 -- ---- the order of paths

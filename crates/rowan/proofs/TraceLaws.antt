@@ -4,13 +4,13 @@ use Rattle.std.specs.Prelude.{Option, Some, None, slice_get}
 use Rattle.std.specs.List.{last_or}
 use Rattle.std.specs.Option.{option_map}
 use Rattle.rowan_green.specs.declared.utility_types.NodeOrToken.TheVariants.{Node, Token}
-use Rattle.rowan_green.specs.Path.{Path}
-use Rattle.rowan_green.specs.Replacements.{Makes}
+use Rattle.rowan_terms.specs.Path.{Path}
+use Rattle.rowan_terms.specs.Replacements.{Makes}
 use Rattle.rowan_green.specs.Term.{NodeTerm}
-use Rattle.rowan_cursor.specs.Cursor.{Cursor}
-use Rattle.rowan_cursor.specs.Moves.{Element, place_of, element_at, cursor_at}
-use Rattle.rowan_cursor.specs.Search.{StandsWhere, touching}
-use Rattle.rowan_cursor.proofs.CoverLemmas.{place_of-element, place_of-stands}
+use Rattle.rowan_table.specs.Cursor.{Cursor}
+use Rattle.rowan_table.specs.Moves.{Element, place_of, element_at, cursor_at}
+use Rattle.rowan_table.specs.Search.{StandsWhere, touching}
+use Rattle.rowan_table.proofs.CoverLemmas.{place_of-element, place_of-stands}
 use Rattle.rowan_script.specs.declared.script.steps.Report.{Report}
 use Rattle.rowan_script.specs.declared.script.steps.Report.TheVariants.{Moved, Nowhere, Replaced, Refused}
 use Rattle.rowan_script.specs.declared.script.steps.Step.{Step}

@@ -5,14 +5,14 @@ use Rattle.std.proofs.Common.{◌∙◌, ap, subst, arith, true, Bool}
 use Rattle.std.specs.Option.{option_and_then}
 use Rattle.rowan_green.specs.declared.utility_types.NodeOrToken.TheVariants.{Node}
 use Rattle.rowan_green.specs.Fits.{Fits}
-use Rattle.rowan_green.specs.Path.{Path, subterm, range, put, separate}
-use Rattle.rowan_green.specs.Replacements.{Replacement, SeparateFromAll}
+use Rattle.rowan_terms.specs.Path.{Path, subterm, range, put, separate}
+use Rattle.rowan_terms.specs.Replacements.{Replacement, SeparateFromAll}
 use Rattle.rowan_green.specs.Term.{NodeTerm, node_len, Term, term_len}
-use Rattle.rowan_green.proofs.PutLemmas.{subterm-apart}
-use Rattle.rowan_green.proofs.PutOrders.{subterm-made}
+use Rattle.rowan_terms.proofs.PutLemmas.{subterm-apart}
+use Rattle.rowan_terms.proofs.PutOrders.{subterm-made}
 use Rattle.rowan_green.proofs.Terms.{Fits-len}
-use Rattle.rowan_cursor.specs.Cursor.{Cursor}
-use Rattle.rowan_cursor.specs.Moves.{Element, place_of, cursor_at}
+use Rattle.rowan_table.specs.Cursor.{Cursor}
+use Rattle.rowan_table.specs.Moves.{Element, place_of, cursor_at}
 use Rattle.rowan_script.specs.declared.script.steps.Report.{Report}
 use Rattle.rowan_script.specs.declared.script.steps.Report.TheVariants.{Moved, Nowhere, Replaced, Refused}
 use Rattle.rowan_script.specs.declared.script.steps.Step.{Step}

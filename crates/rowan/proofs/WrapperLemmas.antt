@@ -7,10 +7,10 @@ use Rattle.std.specs.List.{find}
 use Rattle.std.specs.Option.{option_map, option_map_or}
 use Rattle.rowan_green.specs.declared.fault.Fault.{Fault}
 use Rattle.rowan_green.specs.declared.utility_types.NodeOrToken.TheVariants.{Node, Token}
-use Rattle.rowan_cursor.specs.Cursor.{Cursor, kind}
+use Rattle.rowan_table.specs.Cursor.{Cursor, kind}
 use Rattle.rowan_cursor.specs.Kinds.{tokens_in}
-use Rattle.rowan_cursor.specs.Moves.{Element}
-use Rattle.rowan_cursor.specs.Yields.{Rest, YieldsOrRefuses, count_of}
+use Rattle.rowan_table.specs.Moves.{Element}
+use Rattle.rowan_table.specs.Yields.{Rest, YieldsOrRefuses, count_of}
 use Rattle.rowan.specs.Ast.{if_casts, YieldsWrappers, is_token_of}
 use Rattle.rowan.proofs.ChainLemmas.{none-some}
 

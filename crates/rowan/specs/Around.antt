@@ -5,11 +5,11 @@ use Rattle.std.specs.List.{find}
 use Rattle.rowan_green.specs.declared.utility_types.Direction.{Direction}
 use Rattle.rowan_green.specs.declared.utility_types.Direction.TheVariants.{Next, Prev}
 use Rattle.rowan_green.specs.declared.utility_types.NodeOrToken.TheVariants.{Node, Token}
-use Rattle.rowan_green.specs.Path.{Path, stands_before}
+use Rattle.rowan_terms.specs.Path.{Path, stands_before}
 use Rattle.rowan_green.specs.Term.{NodeTerm}
-use Rattle.rowan_cursor.specs.Cursor.{Cursor, text_range}
-use Rattle.rowan_cursor.specs.Moves.{Element, parent_ancestors, siblings_with_tokens, cursor_at}
-use Rattle.rowan_cursor.specs.Moves.{leaf_paths}
+use Rattle.rowan_table.specs.Cursor.{Cursor, text_range}
+use Rattle.rowan_table.specs.Moves.{Element, parent_ancestors, siblings_with_tokens, cursor_at}
+use Rattle.rowan_table.specs.Moves.{leaf_paths}
 
 -- the number of bytes of a node's text
 abbrev pub len_at : Cursor → ℕ

@@ -1,8 +1,8 @@
 -- The nodes around the tokens at an offset, from the innermost on.
 use Rattle.std.specs.Prelude.{ltb, Bool, true, false, cond, List, [], ◌∷◌, Option, Some, None}
 use Rattle.std.specs.Option.{option_map, option_map_or}
-use Rattle.rowan_cursor.specs.Cursor.{Cursor}
-use Rattle.rowan_cursor.specs.Moves.{ancestors, parent_ancestors}
+use Rattle.rowan_table.specs.Cursor.{Cursor}
+use Rattle.rowan_table.specs.Moves.{ancestors, parent_ancestors}
 use Rattle.rowan_api.specs.Refs.{node_place}
 use Rattle.rowan.specs.Around.{len_at}
 use Rattle.rowan.specs.declared.ast.ancestors_at_offset.AncestorsAtOffset.{AncestorsAtOffset}

@@ -7,9 +7,9 @@ use Rattle.std.specs.Option.{option_map, option_map_or}
 use Rattle.rowan_green.specs.declared.fault.Fault.{Fault}
 use Rattle.rowan_green.specs.declared.fault.Fault.TheVariants.{Memory}
 use Rattle.rowan_green.specs.declared.utility_types.NodeOrToken.TheVariants.{Node, Token}
-use Rattle.rowan_cursor.specs.Cursor.{Cursor, kind}
-use Rattle.rowan_cursor.specs.Moves.{Element}
-use Rattle.rowan_cursor.specs.Yields.{Rest}
+use Rattle.rowan_table.specs.Cursor.{Cursor, kind}
+use Rattle.rowan_table.specs.Moves.{Element}
+use Rattle.rowan_table.specs.Yields.{Rest}
 use Rattle.rowan_api.specs.Refs.{rest_of_nodes}
 use Rattle.rowan.specs.declared.ast.children_ref.AstChildrenRef.{AstChildrenRef}
 use Rattle.rowan.specs.declared.ast.nodes_ref.AstNodesRef.{AstNodesRef}

@@ -5,9 +5,9 @@ use Rattle.std.specs.declared.cmp.PartialEq as PartialEq
 use Rattle.std.specs.declared.cmp.PartialOrd as PartialOrd
 use Rattle.std.specs.declared.fmt.Debug as Debug
 use Rattle.std.specs.declared.hash.Hash as Hash
-use Rattle.rowan_cursor.specs.Cursor.{Cursor}
+use Rattle.rowan_table.specs.Cursor.{Cursor}
 use Rattle.rowan_api.specs.Refs.{node_place}
-use Rattle.rowan_api.specs.declared.api.language.Language as Language
+use Rattle.rowan_print.specs.declared.language.Language as Language
 use Rattle.rowan.specs.declared.ast.node_of_ref.NodeOfRef.{NodeOfRef}
 
 -- where the node of a borrowed wrapper stands

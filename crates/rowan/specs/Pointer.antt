@@ -9,15 +9,15 @@ use Rattle.std.specs.List.{find}
 use Rattle.std.specs.Option.{option_map, option_and_then}
 use Rattle.rowan_green.specs.declared.utility_types.NodeOrToken.TheVariants.{Node, Token}
 use Rattle.rowan_green.specs.Fits.{byte_limit}
-use Rattle.rowan_green.specs.Path.{Path, subterm, begins, range, put, shifted}
-use Rattle.rowan_green.specs.Replacements.{Replacement}
+use Rattle.rowan_terms.specs.Path.{Path, subterm, begins, range, put, shifted}
+use Rattle.rowan_terms.specs.Replacements.{Replacement}
 use Rattle.rowan_green.specs.Search.{digits}
 use Rattle.rowan_green.specs.Span.{Span}
 use Rattle.rowan_green.specs.Steps.{Tally, count_limit}
 use Rattle.rowan_green.specs.Term.{NodeTerm, node_kind, Term, term_len}
-use Rattle.rowan_cursor.specs.Cursor.{Cursor, kind, text_range}
-use Rattle.rowan_cursor.specs.Moves.{child_count, nodes_at, cursor_at}
-use Rattle.rowan_cursor.specs.Search.{IsChain}
+use Rattle.rowan_table.specs.Cursor.{Cursor, kind, text_range}
+use Rattle.rowan_table.specs.Moves.{child_count, nodes_at, cursor_at}
+use Rattle.rowan_table.specs.Search.{IsChain}
 
 pub record Pointer (K : Type 0) : Type 0 where
   pub kind : K

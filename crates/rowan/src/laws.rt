@@ -3,21 +3,21 @@
 ghost use Rattle.std.specs.Prelude.{◌≡◌, ℕ, ◌+◌, ◌<◌, ◌≤◌, Bool, true, List, [], ◌∷◌, ◌++◌, length};
 ghost use Rattle.std.specs.Prelude.{Option, Some, IsPermutation};
 ghost use Rattle.std.specs.Option.{option_and_then, option_map_or};
-ghost use Rattle.rowan_green.specs.Builder.{BuilderValue};
-ghost use Rattle.rowan_green.specs.Cache.{first_seen};
+ghost use Rattle.rowan_builder.specs.Builder.{BuilderValue};
+ghost use Rattle.rowan_builder.specs.Cache.{first_seen};
 ghost use Rattle.rowan_green.specs.Fits.{byte_limit};
-ghost use Rattle.rowan_green.specs.Path.{Path, subterm, range, tokens, put, separate};
-ghost use Rattle.rowan_green.specs.Replacements.{Replacement, Makes, SeparateFromAll};
-ghost use Rattle.rowan_green.specs.Replacements.{PairwiseSeparate, moved_in_turn};
+ghost use Rattle.rowan_terms.specs.Path.{Path, subterm, range, tokens, put, separate};
+ghost use Rattle.rowan_terms.specs.Replacements.{Replacement, Makes, SeparateFromAll};
+ghost use Rattle.rowan_terms.specs.Replacements.{PairwiseSeparate, moved_in_turn};
 ghost use Rattle.rowan_green.specs.Span.{Span};
-ghost use Rattle.rowan_green.specs.Stream.{intern_all, BuildsOn};
+ghost use Rattle.rowan_builder.specs.Stream.{intern_all, BuildsOn};
 ghost use Rattle.rowan_green.specs.Term.{NodeTerm, node_len, Term, term_len};
 ghost use Rattle.rowan_green.specs.Word.{Symbol, IsFinished, word_text, word_tokens};
 ghost use Rattle.rowan_green.specs.declared.utility_types.Direction.TheVariants.{Next, Prev};
 ghost use Rattle.rowan_green.specs.declared.utility_types.NodeOrToken.TheVariants.{Node};
-ghost use Rattle.rowan_cursor.specs.Cursor.{Cursor};
-ghost use Rattle.rowan_cursor.specs.Moves.{Element, nodes_at, cursor_at, next_token, prev_token};
-ghost use Rattle.rowan_cursor.specs.Search.{IsChain};
+ghost use Rattle.rowan_table.specs.Cursor.{Cursor};
+ghost use Rattle.rowan_table.specs.Moves.{Element, nodes_at, cursor_at, next_token, prev_token};
+ghost use Rattle.rowan_table.specs.Search.{IsChain};
 ghost use Rattle.rowan.specs.Around.{other_tokens, tokens_from};
 ghost use Rattle.rowan.specs.Pointer.{Pointer, pointer_to, means_kind, is_meant, up_to, Resolves};
 ghost use Rattle.rowan.specs.Pointer.{LeadsAbove, carried, carried_in_turn};
@@ -32,8 +32,9 @@ ghost use Rattle.rowan_script.specs.Trace.{Trace, root_of, tree_of, last_root, l
 
 use crate::api::Language;
 pub use rowan_api::laws as api;
+pub use rowan_builder::laws as cache;
 pub use rowan_cursor::laws as cursor;
-pub use rowan_green::laws as green;
+pub use rowan_terms::laws as green;
 
 /// A run asks its cache for the terms of its stream, in their order. So where the cache kept what
 /// is first seen of some terms, as each cache does, it keeps what is first seen of these followed

@@ -26,8 +26,9 @@ pub use green::{
 };
 pub use node_cache::NodeCache;
 pub use rowan_api::api;
+pub use rowan_builder::{builder, node_cache};
 pub use rowan_cursor::{cursor, syntax_text};
-pub use rowan_green::{builder, fault, green, node_cache, steps, text, utility_types};
+pub use rowan_green::{fault, green, steps, text, utility_types};
 pub use rowan_script::script;
 pub use serde_json;
 pub use steps::Steps;

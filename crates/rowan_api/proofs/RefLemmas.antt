@@ -5,9 +5,9 @@ use Rattle.std.specs.Prelude.{filter, MatchOption}
 use Rattle.std.specs.List.{find}
 use Rattle.std.specs.Option.{option_map}
 use Rattle.rowan_green.specs.declared.utility_types.Direction.TheVariants.{Next}
-use Rattle.rowan_cursor.specs.Cursor.{Cursor}
+use Rattle.rowan_table.specs.Cursor.{Cursor}
 use Rattle.rowan_cursor.specs.Kinds.{nodes_behind}
-use Rattle.rowan_cursor.specs.Moves.{cursor_at, following, is_node_at, nodes_at, siblings}
+use Rattle.rowan_table.specs.Moves.{cursor_at, following, is_node_at, nodes_at, siblings}
 
 -- the siblings of a node from itself on are the node and those behind it
 pub siblings-behind : (c : Cursor) → is_node_at c.root c.path ≡ true

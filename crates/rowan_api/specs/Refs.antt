@@ -9,9 +9,9 @@ use Rattle.rowan_cursor.specs.declared.cursor.descendants_ref.DescendantsRef.{De
 use Rattle.rowan_cursor.specs.declared.cursor.descendants_ref.DescendantsWithTokensRef.{DescendantsWithTokensRef}
 use Rattle.rowan_cursor.specs.declared.cursor.element_children_ref.SyntaxElementChildrenRef.{SyntaxElementChildrenRef}
 use Rattle.rowan_cursor.specs.declared.cursor.node_children_ref.SyntaxNodeChildrenRef.{SyntaxNodeChildrenRef}
-use Rattle.rowan_cursor.specs.Cursor.{Cursor}
-use Rattle.rowan_cursor.specs.Moves.{Element}
-use Rattle.rowan_cursor.specs.Preorder.{event_map}
+use Rattle.rowan_table.specs.Cursor.{Cursor}
+use Rattle.rowan_table.specs.Moves.{Element}
+use Rattle.rowan_table.specs.Preorder.{event_map}
 use Rattle.rowan_cursor.specs.Refs as raw
 use Rattle.rowan_cursor.specs.RefWalks as raw_walks
 use Rattle.rowan_api.specs.declared.api.elements_ref.TypedElementsRef.{TypedElementsRef}

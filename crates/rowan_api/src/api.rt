@@ -21,19 +21,14 @@ macro_rules! for_both {
 mod element;
 mod element_ref;
 mod elements_ref;
-mod json_text;
-mod json_value;
-mod language;
 mod node;
 mod node_ref;
 mod nodes_by_kind_ref;
 mod nodes_ref;
-mod open_node;
 mod preorder;
 mod preorder_ref;
 mod preorder_with_tokens;
 mod preorder_with_tokens_ref;
-mod printed;
 mod token;
 mod token_ref;
 mod typed_elements;
@@ -44,7 +39,6 @@ pub use element_ref::{SyntaxElementRef, TypedElementRefCalls};
 pub use elements_ref::{
     DescendantsWithTokensRef, SiblingsWithTokensRef, SyntaxElementChildrenRef, TypedElementsRef,
 };
-pub use language::Language;
 pub use node::SyntaxNode;
 pub use node_ref::SyntaxNodeRef;
 pub use nodes_by_kind_ref::NodesByKindRef;
@@ -55,6 +49,7 @@ pub use preorder::Preorder;
 pub use preorder_ref::PreorderRef;
 pub use preorder_with_tokens::PreorderWithTokens;
 pub use preorder_with_tokens_ref::PreorderWithTokensRef;
+pub use rowan_print::Language;
 pub use token::SyntaxToken;
 pub use token_ref::SyntaxTokenRef;
 pub use typed_elements::{

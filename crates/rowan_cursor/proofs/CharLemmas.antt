@@ -15,8 +15,8 @@ use Rattle.std.proofs.lemmas.Str.{IsUtf8-drop, IsCharBoundary-start, encode_same
 use Rattle.std.proofs.lemmas.Str.{encodes_same}
 use Rattle.std.proofs.Math.Seq.{drop-append-add}
 use Rattle.rowan_green.specs.Fits.{byte_limit}
-use Rattle.rowan_cursor.specs.Chunks.{IsByteIn}
-use Rattle.rowan_cursor.specs.SyntaxText.{HasChar, BeginsFirst, LacksChar, ReadsChar}
+use Rattle.rowan_table.specs.Chunks.{IsByteIn}
+use Rattle.rowan_table.specs.SyntaxText.{HasChar, BeginsFirst, LacksChar, ReadsChar}
 
 -- no character begins behind the end
 pub char_past : (text : List ℕ) (offset c : ℕ) → length text ≤ offset → HasChar text offset c → ⊥

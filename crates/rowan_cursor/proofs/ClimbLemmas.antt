@@ -2,13 +2,13 @@
 use Rattle.std.proofs.Common.{◌≡◌, ℕ, List, [], ◌∷◌, ◌++◌, map, refl, sym, ◌∙◌, ap}
 use Rattle.std.specs.Prelude.{Option, Some, None}
 use Rattle.std.specs.Option.{option_map, option_map_or}
-use Rattle.rowan_green.specs.Path.{Path}
+use Rattle.rowan_terms.specs.Path.{Path}
 use Rattle.rowan_green.specs.Term.{NodeTerm}
-use Rattle.rowan_cursor.specs.declared.table.Table.{Table}
-use Rattle.rowan_cursor.specs.Cursor.{Cursor}
-use Rattle.rowan_cursor.specs.Moves.{cursor_at, ancestor_paths, parent_path, ancestors}
-use Rattle.rowan_cursor.specs.Moves.{parent_ancestors}
-use Rattle.rowan_cursor.specs.TableView.{root_of, path_at, cursor_of}
+use Rattle.rowan_table.specs.declared.table.Table.{Table}
+use Rattle.rowan_table.specs.Cursor.{Cursor}
+use Rattle.rowan_table.specs.Moves.{cursor_at, ancestor_paths, parent_path, ancestors}
+use Rattle.rowan_table.specs.Moves.{parent_ancestors}
+use Rattle.rowan_table.specs.TableView.{root_of, path_at, cursor_of}
 
 -- a path that is not empty has a parent
 parent-some : (i : ℕ) (p : Path) → (q : Path) × (parent_path (i ∷ p) ≡ Some q)

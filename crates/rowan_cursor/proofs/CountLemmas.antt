@@ -9,9 +9,9 @@ use Rattle.std.proofs.lemmas.List.FromFn.{length-range_with_len}
 use Rattle.rowan_green.specs.declared.utility_types.Direction.{Direction}
 use Rattle.rowan_green.specs.declared.utility_types.Direction.TheVariants.{Next, Prev}
 use Rattle.rowan_cursor.specs.declared.cursor.row.Row.{Row}
-use Rattle.rowan_cursor.specs.declared.table.Table.{Table}
-use Rattle.rowan_cursor.specs.Moves.{numbers}
-use Rattle.rowan_cursor.specs.TableView.{cursor_of, element_of, stands_for_node}
+use Rattle.rowan_table.specs.declared.table.Table.{Table}
+use Rattle.rowan_table.specs.Moves.{numbers}
+use Rattle.rowan_table.specs.TableView.{cursor_of, element_of, stands_for_node}
 use Rattle.rowan_cursor.specs.Walks.{numbers_between, row_numbers, node_numbers, row_nodes}
 use Rattle.rowan_cursor.specs.Walks.{row_elements}
 

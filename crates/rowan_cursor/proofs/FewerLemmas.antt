@@ -5,7 +5,7 @@ use Rattle.std.specs.Option.{unwrap_or}
 use Rattle.std.proofs.lemmas.Option.{none-some, same_Some}
 use Rattle.rowan_green.specs.declared.utility_types.WalkEvent.{WalkEvent}
 use Rattle.rowan_green.specs.declared.utility_types.WalkEvent.TheVariants.{Enter, Leave}
-use Rattle.rowan_cursor.specs.Preorder.{from_leave, skip}
+use Rattle.rowan_table.specs.Preorder.{from_leave, skip}
 
 from_leave-fewer : {A : Type 0} (n : ℕ) (es fs : List (WalkEvent A)) → from_leave n es ≡ Some fs
     → length fs ≤ length es

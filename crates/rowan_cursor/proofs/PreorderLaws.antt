@@ -14,18 +14,18 @@ use Rattle.rowan_green.specs.declared.utility_types.WalkEvent.{WalkEvent}
 use Rattle.rowan_green.specs.declared.utility_types.WalkEvent.TheVariants.{Enter, Leave}
 use Rattle.rowan_green.specs.WalkEvent.{event_value}
 use Rattle.rowan_green.specs.Term.{NodeTerm, node, Forest, empty, node_then, token_then, Term}
-use Rattle.rowan_green.specs.Path.{Path, term_children, subterm_of, subterm, begins}
-use Rattle.rowan_cursor.specs.Cursor.{Cursor}
-use Rattle.rowan_cursor.specs.Moves.{cursor_at, element_at, is_node_at, nodes_at}
-use Rattle.rowan_cursor.specs.Pass.{of_some, element_list, node_elements, elements_from}
-use Rattle.rowan_cursor.specs.Preorder.{event_map, node_events, forest_events, term_events}
-use Rattle.rowan_cursor.specs.Preorder.{path_events, events_of_nodes, entered_by, descendant_paths}
-use Rattle.rowan_cursor.specs.Preorder.{preorder_with_tokens, preorder, descendants}
-use Rattle.rowan_cursor.specs.Preorder.{descendants_with_tokens, from_leave, skip}
+use Rattle.rowan_terms.specs.Path.{Path, term_children, subterm_of, subterm, begins}
+use Rattle.rowan_table.specs.Cursor.{Cursor}
+use Rattle.rowan_table.specs.Moves.{cursor_at, element_at, is_node_at, nodes_at}
+use Rattle.rowan_table.specs.Pass.{of_some, element_list, node_elements, elements_from}
+use Rattle.rowan_table.specs.Preorder.{event_map, node_events, forest_events, term_events}
+use Rattle.rowan_table.specs.Preorder.{path_events, events_of_nodes, entered_by, descendant_paths}
+use Rattle.rowan_table.specs.Preorder.{preorder_with_tokens, preorder, descendants}
+use Rattle.rowan_table.specs.Preorder.{descendants_with_tokens, from_leave, skip}
 use Rattle.rowan_cursor.specs.PreorderRuns.{WalkCall, Take, Skip, output_of, rest_after, LeavesAll}
-use Rattle.rowan_cursor.proofs.LeafLemmas.{element_list-term, filter-below_children, filter_all}
-use Rattle.rowan_cursor.proofs.LeafLemmas.{map_below}
-use Rattle.rowan_cursor.proofs.PathLemmas.{begins-same, not-begins}
+use Rattle.rowan_table.proofs.LeafLemmas.{element_list-term, filter-below_children, filter_all}
+use Rattle.rowan_table.proofs.LeafLemmas.{map_below}
+use Rattle.rowan_table.proofs.PathLemmas.{begins-same, not-begins}
 
 -- ---- what is entered is left
 

@@ -7,11 +7,11 @@ use Rattle.rowan_green.specs.Fits.{byte_limit}
 use Rattle.rowan_cursor.specs.declared.syntax_text.chunks.SyntaxTextChunks.{SyntaxTextChunks}
 use Rattle.rowan_cursor.specs.declared.syntax_text.text_ref.SyntaxTextRef.{SyntaxTextRef}
 use Rattle.rowan_cursor.specs.RefTexts.{text_slice, rest_of_chunks}
-use Rattle.rowan_cursor.specs.SyntaxText.{slice_text, slice_len, chunks}
-use Rattle.rowan_cursor.specs.TableView.{entries_of}
-use Rattle.rowan_cursor.proofs.PartLemmas.{slice_ends}
-use Rattle.rowan_cursor.proofs.SliceLemmas.{chunks-joined, slice_text-len}
-use Rattle.rowan_cursor.proofs.TokenLemmas.{stands_at}
+use Rattle.rowan_table.specs.SyntaxText.{slice_text, slice_len, chunks}
+use Rattle.rowan_table.specs.TableView.{entries_of}
+use Rattle.rowan_table.proofs.PartLemmas.{slice_ends}
+use Rattle.rowan_table.proofs.SliceLemmas.{chunks-joined, slice_text-len}
+use Rattle.rowan_table.proofs.TokenLemmas.{stands_at}
 
 -- the chunks of a text, one after the other, are its bytes
 pub text_joined : (r : SyntaxTextRef) → concat (chunks (text_slice r)) ≡ slice_text (text_slice r)

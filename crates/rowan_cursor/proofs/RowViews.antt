@@ -4,17 +4,17 @@ use Rattle.std.proofs.Common.{map, refl, ◌∙◌, ap, arith}
 use Rattle.std.specs.Prelude.{reverse}
 use Rattle.std.specs.List.{filter}
 use Rattle.std.proofs.lemmas.List.{reverse-append}
-use Rattle.rowan_green.specs.Path.{Path}
+use Rattle.rowan_terms.specs.Path.{Path}
 use Rattle.rowan_green.specs.declared.utility_types.Direction.{Direction}
 use Rattle.rowan_green.specs.declared.utility_types.Direction.TheVariants.{Next, Prev}
-use Rattle.rowan_cursor.specs.declared.table.Table.{Table}
-use Rattle.rowan_cursor.specs.Moves.{numbers, cursor_at, element_at, nodes_at, following}
-use Rattle.rowan_cursor.specs.Moves.{preceding, sibling_paths}
+use Rattle.rowan_table.specs.declared.table.Table.{Table}
+use Rattle.rowan_table.specs.Moves.{numbers, cursor_at, element_at, nodes_at, following}
+use Rattle.rowan_table.specs.Moves.{preceding, sibling_paths}
 use Rattle.rowan_cursor.specs.Walks.{numbers_between}
-use Rattle.rowan_cursor.specs.Table.{IsRow, IsRowBack}
-use Rattle.rowan_cursor.specs.TableView.{root_of, path_at, cursor_of, element_of, stands_for_node}
-use Rattle.rowan_cursor.specs.TableView.{entries_of}
-use Rattle.rowan_cursor.proofs.RowLemmas.{numbers-last, map-reverse, first_split, last_split}
+use Rattle.rowan_table.specs.Table.{IsRow, IsRowBack}
+use Rattle.rowan_table.specs.TableView.{root_of, path_at, cursor_of, element_of, stands_for_node}
+use Rattle.rowan_table.specs.TableView.{entries_of}
+use Rattle.rowan_table.proofs.RowLemmas.{numbers-last, map-reverse, first_split, last_split}
 
 elements-at : (t : Table) (ns : List ℕ) → map (element_of t) ns
     ≡ map (element_at (root_of t)) (map (path_at t) ns)

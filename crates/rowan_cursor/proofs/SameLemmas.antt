@@ -3,8 +3,8 @@ use Rattle.std.proofs.Common.{◌≡◌, ℕ, ◌<◌, Bool, true, false, List, 
 use Rattle.std.proofs.Common.{◌∙◌, ap, arith, length-append}
 use Rattle.std.specs.Cmp.Lexicographic.{bytes_decides}
 use Rattle.std.proofs.lemmas.List.{append-nil, append_cancel_left, take_at}
-use Rattle.rowan_cursor.specs.SyntaxText.{TextSlice, slice_text, same_text}
-use Rattle.rowan_cursor.proofs.SliceLemmas.{empty_text}
+use Rattle.rowan_table.specs.SyntaxText.{TextSlice, slice_text, same_text}
+use Rattle.rowan_table.proofs.SliceLemmas.{empty_text}
 
 pub same : (s t : TextSlice) → slice_text s ≡ slice_text t → true ≡ same_text s t
 same s t e = sym ((bytes_decides (slice_text s) (slice_text t)).1 e)

@@ -4,11 +4,11 @@ use Rattle.std.proofs.Common.{arith}
 use Rattle.std.specs.Prelude.{Option, Some, None, slice_get}
 use Rattle.rowan_green.specs.declared.utility_types.NodeOrToken.TheVariants.{Node, Token}
 use Rattle.rowan_green.specs.Term.{Term, node_children}
-use Rattle.rowan_green.specs.Path.{Path, subterm_of, term_children}
+use Rattle.rowan_terms.specs.Path.{Path, subterm_of, term_children}
 use Rattle.rowan_green.specs.Sizes.{term_size, terms_size}
 use Rattle.rowan_green.proofs.Drops.{terms_size-node_children}
-use Rattle.rowan_cursor.specs.Cursor.{Cursor, term_at}
-use Rattle.rowan_cursor.proofs.PathLemmas.{subterm_of-append}
+use Rattle.rowan_table.specs.Cursor.{Cursor, term_at}
+use Rattle.rowan_table.proofs.PathLemmas.{subterm_of-append}
 
 get-size : (ts : List Term) (i : ℕ) (v : Term) → slice_get ts i ≡ Some v
     → term_size v ≤ terms_size ts

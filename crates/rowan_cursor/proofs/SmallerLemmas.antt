@@ -4,15 +4,15 @@ use Rattle.std.proofs.Common.{◌∷◌, ◌++◌, map, length, refl, arith}
 use Rattle.std.specs.Prelude.{Option, Some, None, slice_get}
 use Rattle.std.specs.Option.{option_map_or}
 use Rattle.rowan_green.specs.declared.utility_types.NodeOrToken.TheVariants.{Node, Token}
-use Rattle.rowan_green.specs.Path.{Path, subterm, term_children}
+use Rattle.rowan_terms.specs.Path.{Path, subterm, term_children}
 use Rattle.rowan_green.specs.Sizes.{term_size}
 use Rattle.rowan_green.specs.Term.{NodeTerm, Term}
-use Rattle.rowan_cursor.specs.Cursor.{Cursor}
-use Rattle.rowan_cursor.specs.Moves.{cursor_at, element_if, element_at, place_of, children}
-use Rattle.rowan_cursor.specs.Moves.{children_with_tokens, children_of, child_count, nodes_at}
-use Rattle.rowan_cursor.specs.Moves.{is_node_at, below, numbers}
+use Rattle.rowan_table.specs.Cursor.{Cursor}
+use Rattle.rowan_table.specs.Moves.{cursor_at, element_if, element_at, place_of, children}
+use Rattle.rowan_table.specs.Moves.{children_with_tokens, children_of, child_count, nodes_at}
+use Rattle.rowan_table.specs.Moves.{is_node_at, below, numbers}
 use Rattle.rowan_cursor.specs.Sizes.{size_at, AreSmaller}
-use Rattle.rowan_cursor.proofs.PathLemmas.{subterm-child}
+use Rattle.rowan_table.proofs.PathLemmas.{subterm-child}
 use Rattle.rowan_cursor.proofs.SizeLemmas.{child-smaller}
 
 positive : (t : Term) → 0 < term_size t

@@ -3,22 +3,22 @@ use Rattle.std.proofs.Common.{◌≡◌, ◌≢◌, ℕ, ◌<◌, Bool, true, Li
 use Rattle.std.proofs.Common.{refl, sym, ◌∙◌, ap, subst, arith}
 use Rattle.rowan_green.specs.declared.utility_types.WalkEvent.{WalkEvent}
 use Rattle.rowan_green.specs.declared.utility_types.WalkEvent.TheVariants.{Enter, Leave}
-use Rattle.rowan_green.specs.Path.{Path}
+use Rattle.rowan_terms.specs.Path.{Path}
 use Rattle.rowan_cursor.specs.declared.cursor.traversal.Traversal.{Traversal}
-use Rattle.rowan_cursor.specs.declared.table.Table.{Table}
-use Rattle.rowan_cursor.specs.Events.{NextStays, event_of, remaining_events}
-use Rattle.rowan_cursor.specs.Moves.{cursor_at, element_at, is_node_at, parent_path}
-use Rattle.rowan_cursor.specs.Preorder.{event_map, events_of_nodes, entered_by, descendant_paths}
-use Rattle.rowan_cursor.specs.Preorder.{skip}
-use Rattle.rowan_cursor.specs.TablePass.{StandsInside}
-use Rattle.rowan_cursor.specs.TableView.{root_of, path_at, stands_for_node}
-use Rattle.rowan_cursor.specs.TableView.{entries_of}
+use Rattle.rowan_table.specs.declared.table.Table.{Table}
+use Rattle.rowan_table.specs.Events.{NextStays, event_of, remaining_events}
+use Rattle.rowan_table.specs.Moves.{cursor_at, element_at, is_node_at, parent_path}
+use Rattle.rowan_table.specs.Preorder.{event_map, events_of_nodes, entered_by, descendant_paths}
+use Rattle.rowan_table.specs.Preorder.{skip}
+use Rattle.rowan_table.specs.TablePass.{StandsInside}
+use Rattle.rowan_table.specs.TableView.{root_of, path_at, stands_for_node}
+use Rattle.rowan_table.specs.TableView.{entries_of}
 use Rattle.rowan_cursor.specs.TraversalView.{remaining_path_events, remaining_node_path_events}
 use Rattle.rowan_cursor.specs.TraversalView.{traversal_events, traversal_node_events, HasTraversal}
-use Rattle.rowan_cursor.proofs.TokenLemmas.{apart_paths, parent-inside}
+use Rattle.rowan_table.proofs.TokenLemmas.{apart_paths, parent-inside}
 use Rattle.rowan_cursor.proofs.PreorderLaws.{kept, all_kept, entered-descendants}
-use Rattle.rowan_cursor.proofs.EventLemmas.{whole, skip-start, skip-enter, skip-map}
-use Rattle.rowan_cursor.proofs.EventLemmas.{no_parent-inside}
+use Rattle.rowan_table.proofs.EventLemmas.{whole, skip-start, skip-enter, skip-map}
+use Rattle.rowan_table.proofs.EventLemmas.{no_parent-inside}
 
 -- ---- a walk that is to enter its start
 

@@ -8,16 +8,16 @@ use Rattle.rowan_green.specs.declared.utility_types.WalkEvent.{WalkEvent}
 use Rattle.rowan_green.specs.declared.utility_types.WalkEvent.TheVariants.{Enter, Leave}
 use Rattle.rowan_green.specs.Term.{NodeTerm, node, Forest, empty, node_then, token_then, Term}
 use Rattle.rowan_green.specs.Term.{terms, node_children}
-use Rattle.rowan_green.specs.Path.{Path, subterm}
+use Rattle.rowan_terms.specs.Path.{Path, subterm}
 use Rattle.rowan_green.specs.Word.{Symbol, Open, node_word, forest_word, term_word}
-use Rattle.rowan_cursor.specs.Cursor.{Cursor, term_at}
-use Rattle.rowan_cursor.specs.Moves.{children_of, element_at}
-use Rattle.rowan_cursor.specs.Preorder.{event_map, node_events, forest_events, term_events}
-use Rattle.rowan_cursor.specs.Preorder.{path_events, preorder_with_tokens, opening, closing}
-use Rattle.rowan_cursor.specs.Preorder.{event_symbols}
-use Rattle.rowan_cursor.proofs.CoverLemmas.{place_of-element}
-use Rattle.rowan_cursor.proofs.OffsetLemmas.{drop-first}
-use Rattle.rowan_cursor.proofs.PathLemmas.{subterm-child}
+use Rattle.rowan_table.specs.Cursor.{Cursor, term_at}
+use Rattle.rowan_table.specs.Moves.{children_of, element_at}
+use Rattle.rowan_table.specs.Preorder.{event_map, node_events, forest_events, term_events}
+use Rattle.rowan_table.specs.Preorder.{path_events, preorder_with_tokens, opening, closing}
+use Rattle.rowan_table.specs.Preorder.{event_symbols}
+use Rattle.rowan_table.proofs.CoverLemmas.{place_of-element}
+use Rattle.rowan_table.proofs.OffsetLemmas.{drop-first}
+use Rattle.rowan_table.proofs.PathLemmas.{subterm-child}
 
 -- the symbol of an event at a path
 abbrev symbols_at : NodeTerm → WalkEvent Path → List Symbol

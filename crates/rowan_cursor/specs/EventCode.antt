@@ -4,10 +4,10 @@ use Rattle.std.specs.Coded.{Coded, code_by, coded_list, coded_result, coded⊎}
 use Rattle.std.proofs.Common.{inl, inr}
 use Rattle.rowan_green.specs.declared.utility_types.WalkEvent.{WalkEvent}
 use Rattle.rowan_green.specs.declared.utility_types.WalkEvent.TheVariants.{Enter, Leave}
-use Rattle.rowan_cursor.specs.Cursor.{Cursor}
+use Rattle.rowan_table.specs.Cursor.{Cursor}
 use Rattle.rowan_cursor.specs.CursorCode.{coded_cursor}
-use Rattle.rowan_cursor.specs.Moves.{Element}
-use Rattle.rowan_cursor.specs.Yields.{Rest}
+use Rattle.rowan_table.specs.Moves.{Element}
+use Rattle.rowan_table.specs.Yields.{Rest}
 use Rattle.rowan_cursor.specs.YieldsCode.{coded_element, coded_fault}
 
 abbrev event_cases : {A : Type 0} → WalkEvent A → A ⊎ A

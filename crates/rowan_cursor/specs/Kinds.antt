@@ -3,9 +3,9 @@ use Rattle.std.specs.Prelude.{ℕ, ◌==◌, Bool, false, List, [], ◌∷◌, m
 use Rattle.std.specs.List.{find, filter}
 use Rattle.std.specs.Option.{option_map_or}
 use Rattle.rowan_green.specs.declared.utility_types.NodeOrToken.TheVariants.{Node, Token}
-use Rattle.rowan_cursor.specs.Cursor.{Cursor, kind}
-use Rattle.rowan_cursor.specs.Moves.{Element, cursor_at, children, children_with_tokens}
-use Rattle.rowan_cursor.specs.Moves.{nodes_at, following}
+use Rattle.rowan_table.specs.Cursor.{Cursor, kind}
+use Rattle.rowan_table.specs.Moves.{Element, cursor_at, children, children_with_tokens}
+use Rattle.rowan_table.specs.Moves.{nodes_at, following}
 
 -- whether what stands at a cursor is of a kind
 abbrev pub is_of_kind : ℕ → Cursor → Bool

@@ -2,7 +2,7 @@
 use Rattle.std.specs.Prelude.{◌≡◌, List, [], ◌∷◌}
 use Rattle.rowan_green.specs.declared.utility_types.WalkEvent.{WalkEvent}
 use Rattle.rowan_green.specs.declared.utility_types.WalkEvent.TheVariants.{Enter, Leave}
-use Rattle.rowan_cursor.specs.Preorder.{skip}
+use Rattle.rowan_table.specs.Preorder.{skip}
 
 pub data WalkCall : Type 0 where
   Take : WalkCall

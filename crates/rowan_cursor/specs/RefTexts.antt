@@ -2,8 +2,8 @@
 use Rattle.std.specs.Prelude.{ℕ, List}
 use Rattle.rowan_cursor.specs.declared.syntax_text.chunks.SyntaxTextChunks.{SyntaxTextChunks}
 use Rattle.rowan_cursor.specs.declared.syntax_text.text_ref.SyntaxTextRef.{SyntaxTextRef}
-use Rattle.rowan_cursor.specs.Chunks.{slice_of, remaining_chunks}
-use Rattle.rowan_cursor.specs.SyntaxText.{TextSlice}
+use Rattle.rowan_table.specs.Chunks.{slice_of, remaining_chunks}
+use Rattle.rowan_table.specs.SyntaxText.{TextSlice}
 
 -- the slice of text that is borrowed
 abbrev pub text_slice : SyntaxTextRef → TextSlice

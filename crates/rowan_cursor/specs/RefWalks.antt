@@ -8,9 +8,9 @@ use Rattle.rowan_cursor.specs.declared.cursor.node_ref.SyntaxNodeRef.{SyntaxNode
 use Rattle.rowan_cursor.specs.declared.cursor.preorder_ref.PreorderRef.{PreorderRef}
 use Rattle.rowan_cursor.specs.declared.cursor.preorder_ref.PreorderWithTokensRef.{PreorderWithTokensRef}
 use Rattle.rowan_cursor.specs.declared.cursor.token_ref.SyntaxTokenRef.{SyntaxTokenRef}
-use Rattle.rowan_cursor.specs.Cursor.{Cursor}
-use Rattle.rowan_cursor.specs.Moves.{Element}
-use Rattle.rowan_cursor.specs.Preorder.{event_map}
+use Rattle.rowan_table.specs.Cursor.{Cursor}
+use Rattle.rowan_table.specs.Moves.{Element}
+use Rattle.rowan_table.specs.Preorder.{event_map}
 use Rattle.rowan_cursor.specs.Refs.{node_place, element_place}
 use Rattle.rowan_cursor.specs.TraversalView.{traversal_events, traversal_node_events}
 use Rattle.rowan_cursor.specs.TraversalView.{traversal_elements, traversal_nodes}

@@ -13,10 +13,10 @@ use Rattle.rowan_cursor.specs.declared.cursor.node_children_ref.SyntaxNodeChildr
 use Rattle.rowan_cursor.specs.declared.cursor.node_ref.SyntaxNodeRef.{SyntaxNodeRef}
 use Rattle.rowan_cursor.specs.declared.cursor.token_ref.SyntaxTokenRef.{SyntaxTokenRef}
 use Rattle.rowan_cursor.specs.declared.cursor.nodes_by_kind_ref.NodesByKindRef.{NodesByKindRef}
-use Rattle.rowan_cursor.specs.Cursor.{Cursor}
+use Rattle.rowan_table.specs.Cursor.{Cursor}
 use Rattle.rowan_cursor.specs.Kinds.{those_of_kind}
-use Rattle.rowan_cursor.specs.Moves.{Element}
-use Rattle.rowan_cursor.specs.TableView.{cursor_of}
+use Rattle.rowan_table.specs.Moves.{Element}
+use Rattle.rowan_table.specs.TableView.{cursor_of}
 use Rattle.rowan_cursor.specs.Walks.{row_nodes, row_elements, climb_nodes}
 
 -- where a borrowed node stands

@@ -3,8 +3,8 @@
 use Rattle.std.specs.Prelude.{ℕ, ◌<◌, List, [], ◌∷◌, map}
 use Rattle.std.specs.Option.{option_map_or}
 use Rattle.rowan_green.specs.Sizes.{term_size}
-use Rattle.rowan_cursor.specs.Cursor.{Cursor, term_at}
-use Rattle.rowan_cursor.specs.Moves.{Element, place_of}
+use Rattle.rowan_table.specs.Cursor.{Cursor, term_at}
+use Rattle.rowan_table.specs.Moves.{Element, place_of}
 
 -- how large what stands at a cursor is: 2 for each node at and below it, and 1 for each token
 abbrev pub size_at : Cursor → ℕ

@@ -1,9 +1,9 @@
 -- A slice of text is stored as its node and the ends of its range.
 use Rattle.std.specs.Prelude.{ℕ, refl}
 use Rattle.std.specs.Coded.{Coded, code_by, coded×, coded_ℕ}
-use Rattle.rowan_cursor.specs.Cursor.{Cursor}
+use Rattle.rowan_table.specs.Cursor.{Cursor}
 use Rattle.rowan_cursor.specs.CursorCode.{coded_cursor}
-use Rattle.rowan_cursor.specs.SyntaxText.{TextSlice}
+use Rattle.rowan_table.specs.SyntaxText.{TextSlice}
 
 abbrev pub coded_slice : Coded TextSlice
 coded_slice =

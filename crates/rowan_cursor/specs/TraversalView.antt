@@ -2,15 +2,15 @@
 use Rattle.std.specs.Prelude.{List, map}
 use Rattle.std.proofs.Props.{props}
 use Rattle.rowan_green.specs.declared.utility_types.WalkEvent.{WalkEvent}
-use Rattle.rowan_green.specs.Path.{Path}
+use Rattle.rowan_terms.specs.Path.{Path}
 use Rattle.rowan_cursor.specs.declared.cursor.traversal.Traversal.{Traversal}
-use Rattle.rowan_cursor.specs.declared.table.Table.{Table}
-use Rattle.rowan_cursor.specs.Cursor.{Cursor}
-use Rattle.rowan_cursor.specs.Events.{remaining_events, NextStays, LeavesNoToken, NextStays-prop}
-use Rattle.rowan_cursor.specs.Events.{LeavesNoToken-prop}
-use Rattle.rowan_cursor.specs.Moves.{Element, cursor_at, element_at, nodes_at}
-use Rattle.rowan_cursor.specs.Preorder.{event_map, events_of_nodes, entered_by}
-use Rattle.rowan_cursor.specs.TableView.{root_of, IsNodeIn}
+use Rattle.rowan_table.specs.declared.table.Table.{Table}
+use Rattle.rowan_table.specs.Cursor.{Cursor}
+use Rattle.rowan_table.specs.Events.{remaining_events, NextStays, LeavesNoToken, NextStays-prop}
+use Rattle.rowan_table.specs.Events.{LeavesNoToken-prop}
+use Rattle.rowan_table.specs.Moves.{Element, cursor_at, element_at, nodes_at}
+use Rattle.rowan_table.specs.Preorder.{event_map, events_of_nodes, entered_by}
+use Rattle.rowan_table.specs.TableView.{root_of, IsNodeIn}
 
 -- a traversal of the table starts at a node, and what comes next is at or below it
 pub record HasTraversal (t : Table) (walk : Traversal) : Type 0 where

@@ -11,12 +11,12 @@ use Rattle.rowan_cursor.specs.declared.cursor.remainder.Remainder.{Remainder}
 use Rattle.rowan_cursor.specs.declared.cursor.remainder.Remainder.TheVariants.{Walk, Refusal}
 use Rattle.rowan_cursor.specs.declared.cursor.remainder.Remainder.TheVariants.{Nothing}
 use Rattle.rowan_cursor.specs.declared.cursor.row.Row.{Row}
-use Rattle.rowan_cursor.specs.declared.table.Table.{Table}
-use Rattle.rowan_cursor.specs.Cursor.{Cursor}
-use Rattle.rowan_cursor.specs.Moves.{Element, ancestors, numbers}
-use Rattle.rowan_cursor.specs.TableView.{cursor_of, element_of, stands_for_node, EndsWithin}
-use Rattle.rowan_cursor.specs.TableView.{IsNodeIn}
-use Rattle.rowan_cursor.specs.Yields.{Rest}
+use Rattle.rowan_table.specs.declared.table.Table.{Table}
+use Rattle.rowan_table.specs.Cursor.{Cursor}
+use Rattle.rowan_table.specs.Moves.{Element, ancestors, numbers}
+use Rattle.rowan_table.specs.TableView.{cursor_of, element_of, stands_for_node, EndsWithin}
+use Rattle.rowan_table.specs.TableView.{IsNodeIn}
+use Rattle.rowan_table.specs.Yields.{Rest}
 
 -- what an iterator still gives: the items of its walk, or a refusal, or nothing
 abbrev pub rest_of : {W A : Type 0} → (Table → W → List A) → Remainder W → Rest A

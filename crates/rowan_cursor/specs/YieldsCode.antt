@@ -10,10 +10,10 @@ use Rattle.rowan_green.specs.declared.fault.Fault.TheVariants.{OtherKind, NotFou
 use Rattle.rowan_green.specs.declared.fault.Fault.TheVariants.{UnknownMark, NotOneList}
 use Rattle.rowan_green.specs.declared.utility_types.NodeOrToken.TheVariants.{Node, Token}
 use Rattle.rowan_green.specs.Fault.{fault_number}
-use Rattle.rowan_cursor.specs.Cursor.{Cursor}
+use Rattle.rowan_table.specs.Cursor.{Cursor}
 use Rattle.rowan_cursor.specs.CursorCode.{coded_cursor}
-use Rattle.rowan_cursor.specs.Moves.{Element}
-use Rattle.rowan_cursor.specs.Yields.{Rest}
+use Rattle.rowan_table.specs.Moves.{Element}
+use Rattle.rowan_table.specs.Yields.{Rest}
 
 -- the refusals, each at its number
 abbrev faults : List Fault

@@ -3,22 +3,22 @@ ghost use Rattle.std.specs.Prelude.{◌≡◌, ℕ, ◌<◌, false, List, [], �
 ghost use Rattle.std.specs.Prelude.{None, length};
 ghost use Rattle.std.specs.List.{concat, flat_map};
 ghost use Rattle.rowan_green.specs.declared.utility_types.NodeOrToken.TheVariants.{Node};
-ghost use Rattle.rowan_green.specs.Path.{Path, offset};
+ghost use Rattle.rowan_terms.specs.Path.{Path, offset};
 ghost use Rattle.rowan_green.specs.Span.{Span};
 ghost use Rattle.rowan_green.specs.Term.{Term};
 ghost use Rattle.rowan_green.specs.Word.{term_word};
-ghost use Rattle.rowan_cursor.specs.Cursor.{Cursor, term_at, text_at, text_range};
-ghost use Rattle.rowan_cursor.specs.Equal.{same_place, start_of};
-ghost use Rattle.rowan_cursor.specs.Preorder.{preorder_with_tokens, preorder};
-ghost use Rattle.rowan_cursor.specs.Preorder.{descendants_with_tokens, descendants, entered_by};
-ghost use Rattle.rowan_cursor.specs.Preorder.{event_symbols};
+ghost use Rattle.rowan_table.specs.Cursor.{Cursor, term_at, text_at, text_range};
+ghost use Rattle.rowan_table.specs.Equal.{same_place, start_of};
+ghost use Rattle.rowan_table.specs.Preorder.{preorder_with_tokens, preorder};
+ghost use Rattle.rowan_table.specs.Preorder.{descendants_with_tokens, descendants, entered_by};
+ghost use Rattle.rowan_table.specs.Preorder.{event_symbols};
 ghost use Rattle.rowan_cursor.specs.PreorderRuns.{WalkCall, output_of, rest_after, LeavesAll};
-ghost use Rattle.rowan_cursor.specs.Moves.{Element, place_of, cursor_at};
-ghost use Rattle.rowan_cursor.specs.Moves.{children, children_with_tokens};
+ghost use Rattle.rowan_table.specs.Moves.{Element, place_of, cursor_at};
+ghost use Rattle.rowan_table.specs.Moves.{children, children_with_tokens};
 ghost use Rattle.rowan_cursor.specs.Sizes.{size_at, AreSmaller, AreSmallerElements};
-ghost use Rattle.rowan_cursor.specs.Search.{LiesIn, IsCovering, FindsChild, IsLeafOver, tokens_at};
-ghost use Rattle.rowan_cursor.specs.SyntaxText.{TextSlice, IsTextSlice, chunks, slice_len};
-ghost use Rattle.rowan_cursor.specs.SyntaxText.{slice_text, token_texts};
+ghost use Rattle.rowan_table.specs.Search.{LiesIn, IsCovering, FindsChild, IsLeafOver, tokens_at};
+ghost use Rattle.rowan_table.specs.SyntaxText.{TextSlice, IsTextSlice, chunks, slice_len};
+ghost use Rattle.rowan_table.specs.SyntaxText.{slice_text, token_texts};
 
 /// Two cursors are equal exactly if the same stands there, and its text starts at the same offset.
 pub fn cursors_are_equal_by_value_and_start()

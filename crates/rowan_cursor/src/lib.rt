@@ -5,4 +5,3 @@
 pub mod cursor;
 pub mod laws;
 pub mod syntax_text;
-mod table;

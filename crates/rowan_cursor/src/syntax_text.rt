@@ -7,17 +7,17 @@ mod text_ref;
 
 ghost use Rattle.std.specs.Prelude.{◌≡◌, ◌↔◌, ◌≤◌, ℕ, IfOk, IfErr, IsTrue, string_bytes};
 ghost use Rattle.std.specs.Str.{IsCharBoundary};
-ghost use Rattle.rowan_cursor.specs.Chunks.{slice_of, IsSliceOf};
+ghost use Rattle.rowan_table.specs.Chunks.{slice_of, IsSliceOf};
 ghost use Rattle.rowan_cursor.specs.Folds.{FoldsUntilErr, VisitsUntilErr, VisitsAll};
-ghost use Rattle.rowan_cursor.specs.SyntaxText.{slice_text, slice_len, chunks, part_of};
-ghost use Rattle.rowan_cursor.specs.SyntaxText.{first_of, last_of, CanCut, HasChar, FindsChar};
-ghost use Rattle.rowan_cursor.specs.SyntaxText.{ReadsChar};
+ghost use Rattle.rowan_table.specs.SyntaxText.{slice_text, slice_len, chunks, part_of};
+ghost use Rattle.rowan_table.specs.SyntaxText.{first_of, last_of, CanCut, HasChar, FindsChar};
+ghost use Rattle.rowan_table.specs.SyntaxText.{ReadsChar};
 
-use crate::table::{Slice, Table};
 pub use chunks::SyntaxTextChunks;
 pub use range::SyntaxTextRange;
 use rowan_green::fault::Fault;
 use rowan_green::text::TextSize;
+use rowan_table::table::{Slice, Table};
 use std::alloc::AllocError;
 use std::fmt;
 use std::marker::Model;
@@ -33,14 +33,14 @@ pub struct SyntaxText {
 }
 
 impl Model for SyntaxText {
-    ghost use Rattle.rowan_cursor.specs.SyntaxText.{TextSlice};
+    ghost use Rattle.rowan_table.specs.SyntaxText.{TextSlice};
     ghost use Rattle.rowan_cursor.specs.TextCode.{coded_slice};
 
     ghost Value = { TextSlice };
 
     ghost coded = { coded_slice };
 
-    ghost use Rattle.rowan_cursor.specs.Chunks.{slice_of, IsSliceOf};
+    ghost use Rattle.rowan_table.specs.Chunks.{slice_of, IsSliceOf};
 
     ghost view = { λ t. slice_of t.table.value t.slice };
 
@@ -181,7 +181,7 @@ impl Clone for SyntaxText {
 
 impl PartialEq for SyntaxText {
     ghost use Rattle.std.specs.Cmp.{partial_equiv_from_equiv};
-    ghost use Rattle.rowan_cursor.specs.SyntaxText.{same_text, same_text-laws};
+    ghost use Rattle.rowan_table.specs.SyntaxText.{same_text, same_text-laws};
 
     ghost eq = { same_text };
 
@@ -193,14 +193,14 @@ impl PartialEq for SyntaxText {
 }
 
 impl Eq for SyntaxText {
-    ghost use Rattle.rowan_cursor.specs.SyntaxText.{same_text-laws};
+    ghost use Rattle.rowan_table.specs.SyntaxText.{same_text-laws};
 
     ghost laws = { same_text-laws };
 }
 
 impl fmt::Display for SyntaxText {
     ghost use Rattle.std.specs.Prelude.{Some};
-    ghost use Rattle.rowan_cursor.specs.SyntaxText.{slice_text};
+    ghost use Rattle.rowan_table.specs.SyntaxText.{slice_text};
 
     ghost output = { λ text. Some (slice_text text) };
 

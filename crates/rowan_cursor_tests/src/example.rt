@@ -1,6 +1,7 @@
 //! The example of README.md.
+use rowan_builder::GreenNodeBuilder;
 use rowan_cursor::cursor::{ElementCalls, SyntaxNode};
-use rowan_green::{Fault, GreenNode, GreenNodeBuilder, SyntaxKind, TextRange, TextSize};
+use rowan_green::{Fault, GreenNode, SyntaxKind, TextRange, TextSize};
 use std::alloc::Global;
 use std::test::Fail;
 

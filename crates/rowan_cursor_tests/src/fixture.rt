@@ -1,8 +1,9 @@
 //! Trees for the tests, and what cursors show of themselves.
+use rowan_builder::GreenNodeBuilder;
+use rowan_builder::builder::CacheHome;
 use rowan_cursor::cursor::{ElementCalls, SyntaxElement, SyntaxNode, SyntaxToken};
-use rowan_green::builder::CacheHome;
 use rowan_green::text::TextRange;
-use rowan_green::{Fault, GreenNode, GreenNodeBuilder, NodeOrToken, SyntaxKind};
+use rowan_green::{Fault, GreenNode, NodeOrToken, SyntaxKind};
 use std::alloc::Global;
 
 pub const ROOT: u16 = 0;

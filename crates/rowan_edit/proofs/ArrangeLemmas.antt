@@ -10,11 +10,11 @@ use Rattle.std.specs.Ordering.{nat_cmp}
 use Rattle.std.specs.declared.cmp.Ordering.TheVariants.{Less, Equal, Greater}
 use Rattle.std.proofs.lemmas.List.{map-append, append-nil, reverse-append}
 use Rattle.rowan_green.specs.declared.utility_types.NodeOrToken.TheVariants.{Node}
-use Rattle.rowan_green.specs.Path.{Path, subterm, subterm_of}
+use Rattle.rowan_terms.specs.Path.{Path, subterm, subterm_of}
 use Rattle.rowan_green.specs.Term.{NodeTerm, node_children}
-use Rattle.rowan_green.proofs.Paths.{subterm_of-append}
-use Rattle.rowan_cursor.specs.Moves.{children_of}
-use Rattle.rowan_edit.specs.declared.edit.Splice.{Splice}
+use Rattle.rowan_terms.proofs.Paths.{subterm_of-append}
+use Rattle.rowan_table.specs.Moves.{children_of}
+use Rattle.rowan_changes.specs.declared.edit.Splice.{Splice}
 use Rattle.rowan_edit.specs.declared.plain_edits.Halves.{Halves}
 use Rattle.rowan_edit.specs.declared.plain_edits.Parted.{Parted}
 use Rattle.rowan_edit.specs.Arrangements.{AreFree, gap}
@@ -22,15 +22,15 @@ use Rattle.rowan_edit.specs.Arrangements.{Arrangement, Excludes, IsArrangementOf
 use Rattle.rowan_edit.specs.Arrangements.{edits_outside}
 use Rattle.rowan_edit.specs.ArrangementsKept.{AreReady, IsAt, IsParted, AreEditsAt}
 use Rattle.rowan_edit.specs.ArrangementsKept.{splices_in}
-use Rattle.rowan_edit.specs.Changes.{range_of}
-use Rattle.rowan_edit.specs.Edit.{Edit, ends_before, lies_before, place}
-use Rattle.rowan_edit.specs.GreenEditor.{edit_of, edits_of, HaveRanges, AreListed}
+use Rattle.rowan_changes.specs.Changes.{range_of}
+use Rattle.rowan_changes.specs.Edit.{Edit, ends_before, lies_before, place}
+use Rattle.rowan_changes.specs.GreenEditor.{edit_of, edits_of, HaveRanges, AreListed}
 use Rattle.rowan_edit.specs.Inside.{rest_behind, with_path, edits_inside}
-use Rattle.rowan_edit.specs.Plan.{IsOf, EndInTurn, AreInOrder, added}
+use Rattle.rowan_changes.specs.Plan.{IsOf, EndInTurn, AreInOrder, added}
 use Rattle.rowan_edit.proofs.ExcludeLemmas.{IsBeyond, all-behind-gap, among-greater, beyond}
 use Rattle.rowan_edit.proofs.ExcludeLemmas.{beyond-late, beyond-next, beyond-outside}
 use Rattle.rowan_edit.proofs.ExcludeLemmas.{early-outside, less-before, path-equal, rest-splits}
-use Rattle.rowan_edit.proofs.Places.{Before, before-true, true-before, before-trans}
+use Rattle.rowan_changes.proofs.Places.{Before, before-true, true-before, before-trans}
 use Rattle.rowan_edit.proofs.PlanLemmas.{EachEndsBefore, EndsBeforeEach, all-both, all-joined}
 use Rattle.rowan_edit.proofs.PlanLemmas.{added-behind, ends-trans, order-added}
 

@@ -19,9 +19,9 @@ use Rattle.std.proofs.lemmas.Bool.{and_from, and_parts}
 use Rattle.std.proofs.lemmas.Map.Lookups.{exact_bytes}
 use Rattle.rowan_green.specs.declared.fault.Fault.{Fault}
 use Rattle.rowan_green.specs.declared.utility_types.NodeOrToken.TheVariants.{Node}
-use Rattle.rowan_green.specs.Path.{Path}
+use Rattle.rowan_terms.specs.Path.{Path}
 use Rattle.rowan_green.specs.Term.{NodeTerm, Term, node_children}
-use Rattle.rowan_edit.specs.declared.edit.Splice.{Splice}
+use Rattle.rowan_changes.specs.declared.edit.Splice.{Splice}
 use Rattle.rowan_edit.specs.declared.pieces.Piece.{Piece}
 use Rattle.rowan_edit.specs.declared.plain_edits.Halves.{Halves}
 use Rattle.rowan_edit.specs.ArrangedLimits.{PassesLimitOf, PassesLimitBefore}
@@ -34,13 +34,13 @@ use Rattle.rowan_edit.specs.ArrangementsKept.{arrangement_in, arrangements_in, i
 use Rattle.rowan_edit.specs.ArrangementsKept.{HasBetween, HasNoneBetween, AreClear, AreReady, HasChildren}
 use Rattle.rowan_edit.specs.ArrangementsKept.{splices_in}
 use Rattle.rowan_edit.specs.Edges.{range_edit}
-use Rattle.rowan_edit.specs.Edit.{Edit, ends_before}
-use Rattle.rowan_edit.specs.GreenEditor.{edits_of, AreListed}
+use Rattle.rowan_changes.specs.Edit.{Edit, ends_before}
+use Rattle.rowan_changes.specs.GreenEditor.{edits_of, AreListed}
 use Rattle.rowan_edit.specs.Inside.{edits_inside}
-use Rattle.rowan_edit.specs.declared.refusal.Refusal.{Refusal}
+use Rattle.rowan_changes.specs.declared.refusal.Refusal.{Refusal}
 use Rattle.rowan_edit.specs.Pieces.{is_within}
-use Rattle.rowan_edit.specs.Plan.{Plan, AreInOrder, added, with_edit as plan_with}
-use Rattle.rowan_edit.specs.Sites.{is_among}
+use Rattle.rowan_changes.specs.Plan.{Plan, AreInOrder, added, with_edit as plan_with}
+use Rattle.rowan_changes.specs.Sites.{is_among}
 use Rattle.rowan_edit.proofs.ExcludeLemmas.{all-added, among-from, among-if, among-overlap}
 use Rattle.rowan_edit.proofs.ExcludeLemmas.{path-equal, less-is, equal-is}
 

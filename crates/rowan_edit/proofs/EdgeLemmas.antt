@@ -1,28 +1,21 @@
 -- Edits at an edge of a child, from those of the children of its parent; and which tree they are of.
 use Rattle.std.proofs.Common.{◌≡◌, ℕ, ◌+◌, List, Option, Some, refl, ◌∙◌, ap, subst}
 use Rattle.rowan_green.specs.declared.utility_types.NodeOrToken.TheVariants.{Node}
-use Rattle.rowan_green.specs.Path.{Path}
+use Rattle.rowan_terms.specs.Path.{Path}
 use Rattle.rowan_green.specs.Term.{NodeTerm, Term}
-use Rattle.rowan_cursor.specs.Cursor.{Cursor, StandsAt, index}
-use Rattle.rowan_cursor.specs.Moves.{parent, tree_top}
-use Rattle.rowan_edit.specs.declared.refusal.Refusal.{Refusal}
-use Rattle.rowan_edit.specs.declared.refusal.Refusal.TheVariants.{Conflict, NotFound, Root}
-use Rattle.rowan_edit.specs.declared.refusal.Refusal.TheVariants.{OtherTree, Memory}
+use Rattle.rowan_table.specs.Cursor.{Cursor, StandsAt, index}
+use Rattle.rowan_table.specs.Moves.{parent, tree_top}
+use Rattle.rowan_changes.specs.declared.refusal.Refusal.{Refusal}
+use Rattle.rowan_changes.specs.declared.refusal.Refusal.TheVariants.{Conflict, NotFound, Root}
+use Rattle.rowan_changes.specs.declared.refusal.Refusal.TheVariants.{OtherTree, Memory}
 use Rattle.rowan_edit.specs.declared.syntax_editor.Edge.{Edge}
 use Rattle.rowan_edit.specs.declared.syntax_editor.Edge.TheVariants.{Start, Whole, End}
 use Rattle.rowan_edit.specs.ArrangedCursors.{WhyNotTaken, WhyNotTakenAt}
 use Rattle.rowan_edit.specs.Arrangements.{ArrangedPlan, with_edit, WhyRefused}
 use Rattle.rowan_edit.specs.Cursors.{AtChild}
 use Rattle.rowan_edit.specs.Edges.{at_edge, range_edit, IsAtEdge}
-use Rattle.rowan_edit.specs.Edit.{Edit}
+use Rattle.rowan_changes.specs.Edit.{Edit}
 use Rattle.rowan_edit.proofs.EditorLemmas.{at-child}
-
--- the node at the root of a cursor's tree
-pub top-root : (c top : Cursor) (n : NodeTerm) → top ≡ tree_top c → StandsAt top n → c.root ≡ n
-top-root c top n e h =
-    let at_root : ◌≡◌ {A = Option Term} (Some (Node c.root)) (Some (Node n)) =
-    subst (λ (t : Cursor). StandsAt t n) e h in
-    cc
 
 pub edge-edit : (edge : Edge) (i s e : ℕ) (new : List Term) (p : Path) → IsAtEdge edge i s e
     → range_edit p new s e ≡ at_edge edge new p i

@@ -11,16 +11,16 @@ use Rattle.std.specs.declared.cmp.Ordering.TheVariants.{Less, Equal, Greater}
 use Rattle.std.proofs.lemmas.Bool.{and_from, and_parts, le-leb, lt-ltb, leb-true, ltb-true, ne_eqb}
 use Rattle.std.proofs.lemmas.Bool.{cases_Bool, cases_eq, cases_order}
 use Rattle.std.proofs.lemmas.Bool.Decides.{Decides-eqb}
-use Rattle.rowan_green.specs.Path.{Path}
+use Rattle.rowan_terms.specs.Path.{Path}
 use Rattle.rowan_edit.specs.Arrangements.{AreFree, gap}
 use Rattle.rowan_edit.specs.Arrangements.{Excludes}
-use Rattle.rowan_edit.specs.Edit.{Edit, Overlap, conflicts, ends_before, place}
+use Rattle.rowan_changes.specs.Edit.{Edit, Overlap, conflicts, ends_before, place}
 use Rattle.rowan_edit.specs.Inside.{rest_behind}
-use Rattle.rowan_edit.specs.Plan.{added}
-use Rattle.rowan_edit.specs.Sites.{is_among, is_taken_at, site_of}
-use Rattle.rowan_edit.specs.Zipper.{Fork}
+use Rattle.rowan_changes.specs.Plan.{added}
+use Rattle.rowan_changes.specs.Sites.{is_among, is_taken_at, site_of}
+use Rattle.rowan_changes.specs.Zipper.{Fork}
 use Rattle.rowan_edit.proofs.OverlapLemmas.{conflict-overlaps}
-use Rattle.rowan_edit.proofs.Places.{Before, true-before, before-trans}
+use Rattle.rowan_changes.proofs.Places.{Before, true-before, before-trans}
 use Rattle.rowan_edit.proofs.PlanLemmas.{conflict-is}
 
 -- ---- what an edit takes away

@@ -4,14 +4,14 @@ use Rattle.rowan_green.specs.declared.utility_types.NodeOrToken.TheVariants.{Nod
 use Rattle.rowan_green.specs.Fits.{FitsNode, byte_limit}
 use Rattle.rowan_green.specs.Term.{NodeTerm, Term, term_len}
 use Rattle.rowan_green.proofs.Terms.{Fits-len}
-use Rattle.rowan_edit.specs.declared.changes.Change.{Change}
-use Rattle.rowan_edit.specs.declared.edit.Splice.{Splice}
-use Rattle.rowan_edit.specs.Changes.{changes_of, old_bytes, new_bytes}
-use Rattle.rowan_edit.specs.ChangesKept.{Follow, last_end}
-use Rattle.rowan_edit.specs.Edit.{edited}
-use Rattle.rowan_edit.specs.GreenEditor.{edits_of, AreListed, ArePairs}
-use Rattle.rowan_edit.specs.Plan.{Plan}
-use Rattle.rowan_edit.proofs.ChangeLemmas.{pairs-are}
+use Rattle.rowan_changes.specs.declared.changes.Change.{Change}
+use Rattle.rowan_changes.specs.declared.edit.Splice.{Splice}
+use Rattle.rowan_changes.specs.Changes.{changes_of, old_bytes, new_bytes}
+use Rattle.rowan_changes.specs.ChangesKept.{Follow, last_end}
+use Rattle.rowan_changes.specs.Edit.{edited}
+use Rattle.rowan_changes.specs.GreenEditor.{edits_of, AreListed, ArePairs}
+use Rattle.rowan_changes.specs.Plan.{Plan}
+use Rattle.rowan_changes.proofs.ChangeLemmas.{pairs-are}
 use Rattle.rowan_edit.proofs.RangeLaw.{follow-start, last-within, old-within, total}
 
 -- the list has the changes of the plan, and they are within the limits

@@ -2,7 +2,7 @@
 use Rattle.std.proofs.Common.{◌≡◌, ℕ, Bool, true, List, ◌∷◌, Some, sym, subst, inl}
 use Rattle.std.specs.Option.{option_map}
 use Rattle.rowan_green.specs.Term.{NodeTerm}
-use Rattle.rowan_cursor.specs.Cursor.{Cursor, StandsAt, kind}
+use Rattle.rowan_table.specs.Cursor.{Cursor, StandsAt, kind}
 use Rattle.rowan_edit.specs.FromText.{IsFirstWanted, AreUnwanted}
 
 module _ {K : Type 0} (meaning : ℕ → K) (wants : K → Bool → Type 0) (cs ds : List Cursor) where

@@ -5,18 +5,18 @@ use Rattle.std.specs.Prelude.{not, cond, reverse}
 use Rattle.std.specs.List.{AllByRecursion}
 use Rattle.std.specs.Option.{is_some}
 use Rattle.std.proofs.lemmas.List.{map-append, append-nil, reverse-append}
-use Rattle.rowan_green.specs.Path.{Path}
-use Rattle.rowan_edit.specs.declared.edit.Splice.{Splice}
+use Rattle.rowan_terms.specs.Path.{Path}
+use Rattle.rowan_changes.specs.declared.edit.Splice.{Splice}
 use Rattle.rowan_edit.specs.declared.plain_edits.Halves.{Halves}
 use Rattle.rowan_edit.specs.declared.plain_edits.Parted.{Parted}
 use Rattle.rowan_edit.specs.Arrangements.{gap}
 use Rattle.rowan_edit.specs.Arrangements.{edits_outside}
 use Rattle.rowan_edit.specs.ArrangementsKept.{IsAt, IsParted}
-use Rattle.rowan_edit.specs.Edit.{ends_before}
-use Rattle.rowan_edit.specs.GreenEditor.{edit_of, edits_of}
+use Rattle.rowan_changes.specs.Edit.{ends_before}
+use Rattle.rowan_changes.specs.GreenEditor.{edit_of, edits_of}
 use Rattle.rowan_edit.specs.Inside.{rest_behind, with_path, edits_inside}
 use Rattle.rowan_edit.proofs.ArrangeLemmas.{inside-append, outside-append}
-use Rattle.rowan_edit.proofs.Untouched.{edit_at}
+use Rattle.rowan_changes.proofs.Untouched.{edit_at}
 
 last-same : {A : Type 0} (xs ys : List A) (x y : A) → xs ++ x ∷ [] ≡ ys ++ y ∷ [] → x ≡ y
 last-same xs ys x y h =

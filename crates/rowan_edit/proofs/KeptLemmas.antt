@@ -8,16 +8,16 @@ use Rattle.std.proofs.lemmas.Bool.{lt-ltb, le-ltb, ne_eqb, cases_lt, cases_eq, c
 use Rattle.std.proofs.lemmas.Bool.Decides.{Decides-eqb}
 use Rattle.std.proofs.Common.{take, drop, append_assoc}
 use Rattle.rowan_green.specs.declared.utility_types.NodeOrToken.TheVariants.{Node}
-use Rattle.rowan_green.specs.Path.{Path, subterm, put}
+use Rattle.rowan_terms.specs.Path.{Path, subterm, put}
 use Rattle.rowan_green.specs.Term.{NodeTerm, Term, node_of, node_kind, node_children}
-use Rattle.rowan_green.proofs.EditLaws.{replaced-within}
-use Rattle.rowan_green.proofs.PutLemmas.{put-child}
-use Rattle.rowan_edit.specs.Edit.{Edit, edited, edited_once, put_spliced, place, ends_before}
-use Rattle.rowan_edit.specs.Moved.{moved_path, moved_by, IsUntouched, IsUntouchedBy}
-use Rattle.rowan_edit.specs.Plan.{Plan, EndInTurn, added, with_edit}
-use Rattle.rowan_edit.proofs.Places.{Before, true-before}
+use Rattle.rowan_terms.proofs.EditLaws.{replaced-within}
+use Rattle.rowan_terms.proofs.PutLemmas.{put-child}
+use Rattle.rowan_changes.specs.Edit.{Edit, edited, edited_once, put_spliced, place, ends_before}
+use Rattle.rowan_changes.specs.Moved.{moved_path, moved_by, IsUntouched, IsUntouchedBy}
+use Rattle.rowan_changes.specs.Plan.{Plan, EndInTurn, added, with_edit}
+use Rattle.rowan_changes.proofs.Places.{Before, true-before}
 use Rattle.rowan_edit.proofs.PlanLemmas.{ends-trans}
-use Rattle.rowan_edit.proofs.Untouched.{subterm-kept}
+use Rattle.rowan_changes.proofs.Untouched.{subterm-kept}
 
 -- what an edit does not touch it does not touch once a later edit is made
 untouched-moved : (p : Path) (s e : ℕ) (q : Path) (start end len : ℕ) (z : Path)

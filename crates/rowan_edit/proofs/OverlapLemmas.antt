@@ -3,9 +3,9 @@ use Rattle.std.proofs.Common.{◌≡◌, ℕ, Bool, true, false, [], ◌∷◌, 
 use Rattle.std.proofs.Common.{arith}
 use Rattle.std.specs.Prelude.{◌⊎◌, ◌↔◌, not}
 use Rattle.std.proofs.lemmas.Bool.{and_parts, cases_lt, cases_order, cases_Bool}
-use Rattle.rowan_green.specs.Path.{Path}
-use Rattle.rowan_edit.specs.Edit.{Edit, place, ends_before, conflicts, Overlap, EditsOverlap}
-use Rattle.rowan_edit.proofs.Places.{Before, true-before, before-true}
+use Rattle.rowan_terms.specs.Path.{Path}
+use Rattle.rowan_changes.specs.Edit.{Edit, place, ends_before, conflicts, Overlap, EditsOverlap}
+use Rattle.rowan_changes.proofs.Places.{Before, true-before, before-true}
 use Rattle.rowan_edit.proofs.PlanLemmas.{conflict-is}
 
 -- of the children from s to e of the node at p and those from t to f of the node at q

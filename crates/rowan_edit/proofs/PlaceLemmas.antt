@@ -2,18 +2,18 @@
 use Rattle.std.proofs.Common.{◌≡◌, ℕ, ◌+◌, ◌≤◌, List, [], ◌∷◌, ◌++◌, length, length-append, Some}
 use Rattle.std.proofs.Common.{sym, ◌∙◌, ap, arith}
 use Rattle.rowan_green.specs.declared.utility_types.NodeOrToken.TheVariants.{Node}
-use Rattle.rowan_green.specs.Path.{Path, subterm, offset}
+use Rattle.rowan_terms.specs.Path.{Path, subterm, offset}
 use Rattle.rowan_green.specs.Search.{child_start}
 use Rattle.rowan_green.specs.Span.{Span}
 use Rattle.rowan_green.specs.Term.{NodeTerm, Term, node_children}
-use Rattle.rowan_cursor.proofs.PathLemmas.{offset-node_child}
-use Rattle.rowan_cursor.specs.Cursor.{last_index}
+use Rattle.rowan_table.proofs.PathLemmas.{offset-node_child}
+use Rattle.rowan_table.specs.Cursor.{last_index}
 use Rattle.rowan_edit.specs.declared.ranked.Body.{Body}
 use Rattle.rowan_edit.specs.declared.ranked.Rank.{Rank}
-use Rattle.rowan_edit.specs.Changes.{range_of}
+use Rattle.rowan_changes.specs.Changes.{range_of}
 use Rattle.rowan_edit.specs.Ranked.{without_last, edit_in, IsEditIn}
 use Rattle.rowan_edit.proofs.RankLemmas.{front-of, last-of}
-use Rattle.rowan_edit.proofs.Untouched.{edit_at}
+use Rattle.rowan_changes.proofs.Untouched.{edit_at}
 
 -- where children lie whose node starts at an offset
 abbrev pub lie_at : ℕ → List Term → ℕ → ℕ → Span

@@ -18,16 +18,16 @@ use Rattle.std.proofs.lemmas.List.{length-map}
 use Rattle.std.proofs.lemmas.Map.Lookups.{exact_bytes}
 use Rattle.std.proofs.lemmas.Slice.Eq.{slice_eq-Decides}
 use Rattle.rowan_green.specs.declared.utility_types.NodeOrToken.TheVariants.{Node}
-use Rattle.rowan_green.specs.Path.{Path, subterm}
+use Rattle.rowan_terms.specs.Path.{Path, subterm}
 use Rattle.rowan_green.specs.Term.{NodeTerm, node_children}
-use Rattle.rowan_cursor.specs.Cursor.{last_index}
-use Rattle.rowan_edit.specs.declared.refusal.Refusal.{Refusal}
-use Rattle.rowan_edit.specs.declared.refusal.Refusal.TheVariants.{Conflict, NotFound, Root}
-use Rattle.rowan_edit.specs.declared.refusal.Refusal.TheVariants.{OtherTree, Memory as NoRoom}
+use Rattle.rowan_table.specs.Cursor.{last_index}
+use Rattle.rowan_changes.specs.declared.refusal.Refusal.{Refusal}
+use Rattle.rowan_changes.specs.declared.refusal.Refusal.TheVariants.{Conflict, NotFound, Root}
+use Rattle.rowan_changes.specs.declared.refusal.Refusal.TheVariants.{OtherTree, Memory as NoRoom}
 use Rattle.rowan_edit.specs.Arrangements.{AreFree, HasExcluding, gap}
 use Rattle.rowan_edit.specs.ArrangementsKept.{HasChildren}
-use Rattle.rowan_edit.specs.Edit.{Edit, conflicts}
-use Rattle.rowan_edit.specs.Plan.{IsOf, HasConflict, WhyRefused}
+use Rattle.rowan_changes.specs.Edit.{Edit, conflicts}
+use Rattle.rowan_changes.specs.Plan.{IsOf, HasConflict, WhyRefused}
 use Rattle.rowan_edit.specs.declared.ranked.Body.{Body}
 use Rattle.rowan_edit.specs.declared.ranked.Rank.{Rank}
 use Rattle.rowan_edit.specs.Ranked.{rank_cmp, HasEditAt, HasNoEditAt, edit_in, edits_in, IsRanked}

@@ -7,19 +7,19 @@ use Rattle.std.specs.List.{AllByRecursion}
 use Rattle.std.proofs.lemmas.List.{map-append, append-nil}
 use Rattle.rowan_green.specs.declared.fault.Fault.{Fault}
 use Rattle.rowan_green.specs.declared.utility_types.NodeOrToken.TheVariants.{Node}
-use Rattle.rowan_green.specs.Path.{Path}
+use Rattle.rowan_terms.specs.Path.{Path}
 use Rattle.rowan_green.specs.Term.{NodeTerm, Term, node_children}
-use Rattle.rowan_edit.specs.declared.edit.Splice.{Splice}
-use Rattle.rowan_edit.specs.declared.zipper.Zipper.{Zipper}
-use Rattle.rowan_edit.specs.Edit.{Edit, edited, edited_once, place, ends_before, conflicts}
-use Rattle.rowan_edit.specs.Edit.{lies_before}
-use Rattle.rowan_edit.specs.GreenEditor.{edit_of, edits_of}
-use Rattle.rowan_edit.specs.Limits.{PassesLimitAt, PassesLimitIn}
-use Rattle.rowan_edit.specs.Plan.{IsOf, EndInTurn, AreInOrder, added}
-use Rattle.rowan_edit.specs.Zipper.{tree_of, path_of, place_of, HasPlace, Fork, PassesBelow}
-use Rattle.rowan_edit.proofs.Places.{Before, true-before, before-true, before-trans, fork-before}
-use Rattle.rowan_edit.proofs.Untouched.{still-passes, edit_at}
-use Rattle.rowan_edit.proofs.Ways.{room-all}
+use Rattle.rowan_changes.specs.declared.edit.Splice.{Splice}
+use Rattle.rowan_changes.specs.declared.zipper.Zipper.{Zipper}
+use Rattle.rowan_changes.specs.Edit.{Edit, edited, edited_once, place, ends_before, conflicts}
+use Rattle.rowan_changes.specs.Edit.{lies_before}
+use Rattle.rowan_changes.specs.GreenEditor.{edit_of, edits_of}
+use Rattle.rowan_changes.specs.Limits.{PassesLimitAt, PassesLimitIn}
+use Rattle.rowan_changes.specs.Plan.{IsOf, EndInTurn, AreInOrder, added}
+use Rattle.rowan_changes.specs.Zipper.{tree_of, path_of, place_of, HasPlace, Fork, PassesBelow}
+use Rattle.rowan_changes.proofs.Places.{Before, true-before, before-true, before-trans, fork-before}
+use Rattle.rowan_changes.proofs.Untouched.{still-passes, edit_at}
+use Rattle.rowan_changes.proofs.Ways.{room-all}
 
 abbrev pub EachEndsBefore : List Edit → Edit → Type 0
 EachEndsBefore es e = AllByRecursion (λ f. ends_before f e ≡ true) es

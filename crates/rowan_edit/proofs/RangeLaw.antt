@@ -10,25 +10,25 @@ use Rattle.std.proofs.lemmas.Bool.{cases_order}
 use Rattle.std.proofs.lemmas.Bool.Decides.{Decides-eqb}
 use Rattle.rowan_green.specs.declared.utility_types.NodeOrToken.TheVariants.{Node}
 use Rattle.rowan_green.specs.Fits.{Fits, byte_limit}
-use Rattle.rowan_green.specs.Path.{Path, subterm, offset, leaves, len_of, range, shifted}
+use Rattle.rowan_terms.specs.Path.{Path, subterm, offset, leaves, len_of, range, shifted}
 use Rattle.rowan_green.specs.Span.{Span}
 use Rattle.rowan_green.specs.Term.{NodeTerm, Term, term_len, sum_of_lens}
-use Rattle.rowan_green.proofs.OffsetLemmas.{lens_before, offset-lens, range-within}
-use Rattle.rowan_green.proofs.OffsetLemmas.{offset_of-within}
+use Rattle.rowan_terms.proofs.OffsetLemmas.{lens_before, offset-lens, range-within}
+use Rattle.rowan_terms.proofs.OffsetLemmas.{offset_of-within}
 use Rattle.rowan_green.proofs.Terms.{Fits-len}
-use Rattle.rowan_edit.specs.declared.changes.Change.{Change}
-use Rattle.rowan_edit.specs.Changes.{end_place, range_of, change_of, changes_of}
-use Rattle.rowan_edit.specs.Changes.{edits_before, old_bytes, new_bytes}
-use Rattle.rowan_edit.specs.Changes.{is_ahead, overlaps, within_limit, moved_through}
-use Rattle.rowan_edit.specs.ChangesKept.{Follow, last_end}
-use Rattle.rowan_edit.specs.Edit.{Edit, edited, edited_once, place, ends_before, lies_before}
-use Rattle.rowan_edit.specs.Moved.{moved_path, moved_by, IsUntouched, IsUntouchedBy}
-use Rattle.rowan_edit.specs.Plan.{IsOf, EndInTurn, AreInOrder}
+use Rattle.rowan_changes.specs.declared.changes.Change.{Change}
+use Rattle.rowan_changes.specs.Changes.{end_place, range_of, change_of, changes_of}
+use Rattle.rowan_changes.specs.Changes.{edits_before, old_bytes, new_bytes}
+use Rattle.rowan_changes.specs.Changes.{is_ahead, overlaps, within_limit, moved_through}
+use Rattle.rowan_changes.specs.ChangesKept.{Follow, last_end}
+use Rattle.rowan_changes.specs.Edit.{Edit, edited, edited_once, place, ends_before, lies_before}
+use Rattle.rowan_changes.specs.Moved.{moved_path, moved_by, IsUntouched, IsUntouchedBy}
+use Rattle.rowan_changes.specs.Plan.{IsOf, EndInTurn, AreInOrder}
 use Rattle.rowan_edit.proofs.KeptLemmas.{untouched-by, elements-kept}
-use Rattle.rowan_edit.proofs.Places.{Before, true-before, before-true, before-trans}
-use Rattle.rowan_edit.proofs.ShiftLemmas.{reach, behind-element, grown, shifts}
-use Rattle.rowan_edit.proofs.TextLaw.{before-less, all-before, place-in, stays-all}
-use Rattle.rowan_edit.proofs.Untouched.{moved-before}
+use Rattle.rowan_changes.proofs.Places.{Before, true-before, before-true, before-trans}
+use Rattle.rowan_changes.proofs.ShiftLemmas.{reach, behind-element, grown, shifts}
+use Rattle.rowan_changes.proofs.TextLaw.{before-less, all-before, place-in, stays-all}
+use Rattle.rowan_changes.proofs.Untouched.{moved-before}
 
 -- ---- on which side of an edit an element lies
 

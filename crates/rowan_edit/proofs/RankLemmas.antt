@@ -15,15 +15,15 @@ use Rattle.std.specs.declared.ops.Bound.TheVariants.{Included, Excluded, Unbound
 use Rattle.std.proofs.lemmas.Bool.{cases_Bool, cases_order}
 use Rattle.std.proofs.lemmas.Cmp.{nat_cmp_total, nat_list_cmp_total, on_total, then_total, tied_itself}
 use Rattle.std.proofs.lemmas.Map.Lookups.{exact_bytes, exact_unsigned}
-use Rattle.rowan_green.specs.Path.{Path}
-use Rattle.rowan_cursor.specs.Cursor.{last_index}
+use Rattle.rowan_terms.specs.Path.{Path}
+use Rattle.rowan_table.specs.Cursor.{last_index}
 use Rattle.rowan_edit.specs.declared.ranked.Body.{Body}
 use Rattle.rowan_edit.specs.declared.ranked.Rank.{Rank}
-use Rattle.rowan_edit.specs.Edit.{Edit, ends_before, lies_before, place}
-use Rattle.rowan_edit.specs.Plan.{EndInTurn, HasConflict}
+use Rattle.rowan_changes.specs.Edit.{Edit, ends_before, lies_before, place}
+use Rattle.rowan_changes.specs.Plan.{EndInTurn, HasConflict}
 use Rattle.rowan_edit.specs.Ranked.{without_last, rank_cmp, edit_in, edits_in, ends_first, IsRanked}
 use Rattle.rowan_edit.specs.Ranked.{IsNext, Cut, HasRoom}
-use Rattle.rowan_edit.proofs.Places.{Before, true-before}
+use Rattle.rowan_changes.proofs.Places.{Before, true-before}
 use Rattle.rowan_edit.proofs.PlanLemmas.{EndsBeforeEach, ends-trans}
 use Rattle.rowan_edit.proofs.PlanLemmas.{ends-before-rest, conflict-is}
 

@@ -8,13 +8,13 @@ use Rattle.std.specs.declared.cmp.Ordering.TheVariants.{Less, Greater}
 use Rattle.std.proofs.lemmas.List.{map-append, append-nil}
 use Rattle.rowan_green.specs.declared.utility_types.NodeOrToken.TheVariants.{Node}
 use Rattle.rowan_green.specs.Term.{NodeTerm}
-use Rattle.rowan_edit.specs.declared.edit.Splice.{Splice}
+use Rattle.rowan_changes.specs.declared.edit.Splice.{Splice}
 use Rattle.rowan_edit.specs.declared.ranked.Body.{Body}
 use Rattle.rowan_edit.specs.declared.ranked.Rank.{Rank}
-use Rattle.rowan_edit.specs.Changes.{range_of}
-use Rattle.rowan_edit.specs.Edit.{Edit, ends_before, conflicts}
-use Rattle.rowan_edit.specs.GreenEditor.{edits_of, HaveRanges, AreListed}
-use Rattle.rowan_edit.specs.Plan.{Plan, IsOf, AreInOrder, added}
+use Rattle.rowan_changes.specs.Changes.{range_of}
+use Rattle.rowan_changes.specs.Edit.{Edit, ends_before, conflicts}
+use Rattle.rowan_changes.specs.GreenEditor.{edits_of, HaveRanges, AreListed}
+use Rattle.rowan_changes.specs.Plan.{Plan, IsOf, AreInOrder, added}
 use Rattle.rowan_edit.specs.Ranked.{rank_cmp, edit_in, edits_in, ends_first, IsRanked, IsNext}
 use Rattle.rowan_edit.specs.Ranked.{HasRoom, HasRange, IsEditIn, AreKept, IsSpliceOf}
 use Rattle.rowan_edit.specs.Ranked.{AreSplicesOf}

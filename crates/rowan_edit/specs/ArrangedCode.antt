@@ -6,7 +6,7 @@ use Rattle.rowan_green.specs.Term.{NodeTerm, Term}
 use Rattle.rowan_edit.specs.declared.pieces.Piece.{Piece}
 use Rattle.rowan_edit.specs.declared.pieces.Piece.TheVariants.{New, Old}
 use Rattle.rowan_edit.specs.Arrangements.{Arrangement, ArrangedPlan}
-use Rattle.rowan_edit.specs.Edit.{Edit}
+use Rattle.rowan_changes.specs.Edit.{Edit}
 use Rattle.rowan_edit.specs.PlanCode.{coded_edit}
 
 abbrev pub piece_parts : Piece → Option Term × ℕ

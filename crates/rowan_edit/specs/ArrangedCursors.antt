@@ -1,15 +1,15 @@
 -- Edits and arrangements at cursors, and why they are not taken. `Cursors` has the same of plans
 -- without arrangements.
 use Rattle.std.specs.Prelude.{◌≡◌, ◌≢◌, ℕ, None}
-use Rattle.rowan_green.specs.Path.{Path}
-use Rattle.rowan_cursor.specs.Cursor.{Cursor}
-use Rattle.rowan_cursor.specs.Moves.{parent}
-use Rattle.rowan_edit.specs.declared.refusal.Refusal.{Refusal}
-use Rattle.rowan_edit.specs.declared.refusal.Refusal.TheVariants.{Conflict, NotFound, Root}
-use Rattle.rowan_edit.specs.declared.refusal.Refusal.TheVariants.{OtherTree, Memory}
+use Rattle.rowan_terms.specs.Path.{Path}
+use Rattle.rowan_table.specs.Cursor.{Cursor}
+use Rattle.rowan_table.specs.Moves.{parent}
+use Rattle.rowan_changes.specs.declared.refusal.Refusal.{Refusal}
+use Rattle.rowan_changes.specs.declared.refusal.Refusal.TheVariants.{Conflict, NotFound, Root}
+use Rattle.rowan_changes.specs.declared.refusal.Refusal.TheVariants.{OtherTree, Memory}
 use Rattle.rowan_edit.specs.Arrangements.{Arrangement, ArrangedPlan, WhyRefused, WhyNotArranged}
 use Rattle.rowan_edit.specs.Cursors.{AtChild}
-use Rattle.rowan_edit.specs.Edit.{Edit}
+use Rattle.rowan_changes.specs.Edit.{Edit}
 
 -- why an edit of the children of the node at a cursor is not taken
 abbrev pub WhyNotTaken : ArrangedPlan → Cursor → Edit → Refusal → Type 0

@@ -6,9 +6,9 @@ use Rattle.rowan_green.specs.declared.utility_types.NodeOrToken.TheVariants.{Nod
 use Rattle.rowan_green.specs.Term.{NodeTerm, Term}
 use Rattle.rowan_edit.specs.Arrangements.{Arrangement, ArrangedPlan, all_arranged, edited_at}
 use Rattle.rowan_edit.specs.Arrangements.{plain_edits}
-use Rattle.rowan_edit.specs.Edit.{Edit, edited}
+use Rattle.rowan_changes.specs.Edit.{Edit, edited}
 use Rattle.rowan_edit.specs.Inside.{edits_inside}
-use Rattle.rowan_edit.specs.Limits.{PassesLimitIn}
+use Rattle.rowan_changes.specs.Limits.{PassesLimitIn}
 
 -- a node of the term, if there is one, passes this limit
 abbrev pub PassesLimitOf : Option Term → Fault → Type 0

@@ -5,13 +5,13 @@ use Rattle.std.specs.List.{AllByRecursion, filter}
 use Rattle.std.specs.Ordering.{nat_cmp}
 use Rattle.std.specs.declared.cmp.Ordering.TheVariants.{Less}
 use Rattle.rowan_green.specs.declared.utility_types.NodeOrToken.TheVariants.{Node, Token}
-use Rattle.rowan_green.specs.Path.{Path, subterm, put}
+use Rattle.rowan_terms.specs.Path.{Path, subterm, put}
 use Rattle.rowan_green.specs.Term.{Term, node_of, node_kind, node_children}
 use Rattle.rowan_edit.specs.declared.pieces.Piece.{Piece}
 use Rattle.rowan_edit.specs.Arrangements.{Arrangement, ArrangedPlan, IsArrangementOf, AreFree, gap}
-use Rattle.rowan_edit.specs.Edit.{Edit, edited, ends_before}
+use Rattle.rowan_changes.specs.Edit.{Edit, edited, ends_before}
 use Rattle.rowan_edit.specs.Pieces.{named_in}
-use Rattle.rowan_edit.specs.Plan.{AreInOrder}
+use Rattle.rowan_changes.specs.Plan.{AreInOrder}
 
 -- the node with what pieces are among its children in place of these; a token has none
 abbrev pub with_pieces : Term → List Piece → Term

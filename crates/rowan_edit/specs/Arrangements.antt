@@ -9,18 +9,18 @@ use Rattle.std.specs.List.{AllByRecursion, Contains, filter, list_all}
 use Rattle.std.specs.Option.{is_some, option_map}
 use Rattle.std.specs.Ordering.{nat_cmp, match_ordering}
 use Rattle.rowan_green.specs.declared.utility_types.NodeOrToken.TheVariants.{Node}
-use Rattle.rowan_green.specs.Path.{Path, subterm}
+use Rattle.rowan_terms.specs.Path.{Path, subterm}
 use Rattle.rowan_green.specs.Term.{NodeTerm, Term, node_children}
-use Rattle.rowan_cursor.specs.Moves.{child_count, children_of}
+use Rattle.rowan_table.specs.Moves.{child_count, children_of}
 use Rattle.rowan_edit.specs.declared.pieces.Piece.{Piece}
-use Rattle.rowan_edit.specs.declared.refusal.Refusal.{Refusal}
-use Rattle.rowan_edit.specs.declared.refusal.Refusal.TheVariants.{Conflict, NotFound, Root}
-use Rattle.rowan_edit.specs.declared.refusal.Refusal.TheVariants.{OtherTree, Memory}
-use Rattle.rowan_edit.specs.Edit.{Edit, edited}
+use Rattle.rowan_changes.specs.declared.refusal.Refusal.{Refusal}
+use Rattle.rowan_changes.specs.declared.refusal.Refusal.TheVariants.{Conflict, NotFound, Root}
+use Rattle.rowan_changes.specs.declared.refusal.Refusal.TheVariants.{OtherTree, Memory}
+use Rattle.rowan_changes.specs.Edit.{Edit, edited}
 use Rattle.rowan_edit.specs.Inside.{rest_behind, edits_inside}
 use Rattle.rowan_edit.specs.Pieces.{is_within, named_in}
-use Rattle.rowan_edit.specs.Plan.{IsOf, HasConflict, added}
-use Rattle.rowan_edit.specs.Sites.{is_taken_at, site_of}
+use Rattle.rowan_changes.specs.Plan.{IsOf, HasConflict, added}
+use Rattle.rowan_changes.specs.Sites.{is_taken_at, site_of}
 
 -- the node at a path gets these pieces as its children
 pub record Arrangement : Type 0 where

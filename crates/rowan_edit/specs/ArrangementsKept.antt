@@ -5,17 +5,17 @@ use Rattle.std.specs.Cmp.Lexicographic.{slice_cmp}
 use Rattle.std.specs.List.{AllByRecursion, Contains}
 use Rattle.std.specs.Ordering.{nat_cmp, is_le}
 use Rattle.rowan_green.specs.declared.utility_types.NodeOrToken.TheVariants.{Node}
-use Rattle.rowan_green.specs.Path.{Path, subterm}
+use Rattle.rowan_terms.specs.Path.{Path, subterm}
 use Rattle.rowan_green.specs.Term.{NodeTerm, node_children}
-use Rattle.rowan_edit.specs.declared.edit.Splice.{Splice}
+use Rattle.rowan_changes.specs.declared.edit.Splice.{Splice}
 use Rattle.rowan_edit.specs.declared.pieces.Piece.{Piece}
 use Rattle.rowan_edit.specs.declared.plain_edits.Halves.{Halves}
 use Rattle.rowan_edit.specs.declared.plain_edits.Parted.{Parted}
 use Rattle.rowan_edit.specs.Arrangements.{Arrangement, IsArrangementOf, AreFree, edits_outside, gap}
-use Rattle.rowan_edit.specs.Edit.{Edit, ends_before}
-use Rattle.rowan_edit.specs.GreenEditor.{edit_of, edits_of, AreListed}
+use Rattle.rowan_changes.specs.Edit.{Edit, ends_before}
+use Rattle.rowan_changes.specs.GreenEditor.{edit_of, edits_of, AreListed}
 use Rattle.rowan_edit.specs.Inside.{rest_behind, edits_inside}
-use Rattle.rowan_edit.specs.Plan.{AreInOrder}
+use Rattle.rowan_changes.specs.Plan.{AreInOrder}
 
 abbrev pub arrangement_in : {Z Y : Type 0} → Vec ℕ Z × Vec Piece Y → Arrangement
 arrangement_in e = record { path = e.0.items; pieces = e.1.items }

@@ -1,13 +1,13 @@
 -- Edits at cursors, and why an editor of the tree of a cursor does not take one.
 use Rattle.std.specs.Prelude.{◌≡◌, ◌≢◌, ℕ, None, MatchOption}
-use Rattle.rowan_green.specs.Path.{Path}
-use Rattle.rowan_cursor.specs.Cursor.{Cursor, index}
-use Rattle.rowan_cursor.specs.Moves.{parent}
-use Rattle.rowan_edit.specs.declared.refusal.Refusal.{Refusal}
-use Rattle.rowan_edit.specs.declared.refusal.Refusal.TheVariants.{Conflict, NotFound, Root}
-use Rattle.rowan_edit.specs.declared.refusal.Refusal.TheVariants.{OtherTree, Memory}
-use Rattle.rowan_edit.specs.Edit.{Edit}
-use Rattle.rowan_edit.specs.Plan.{Plan, WhyRefused}
+use Rattle.rowan_terms.specs.Path.{Path}
+use Rattle.rowan_table.specs.Cursor.{Cursor, index}
+use Rattle.rowan_table.specs.Moves.{parent}
+use Rattle.rowan_changes.specs.declared.refusal.Refusal.{Refusal}
+use Rattle.rowan_changes.specs.declared.refusal.Refusal.TheVariants.{Conflict, NotFound, Root}
+use Rattle.rowan_changes.specs.declared.refusal.Refusal.TheVariants.{OtherTree, Memory}
+use Rattle.rowan_changes.specs.Edit.{Edit}
+use Rattle.rowan_changes.specs.Plan.{Plan, WhyRefused}
 
 -- the cursor stands at a child, and P holds of the path of its parent and of its index
 abbrev pub AtChild : Cursor → (Path → ℕ → Type 0) → Type 0

@@ -1,10 +1,10 @@
 -- Which edge of a child an edit is at, or whether it takes the child away.
 use Rattle.std.specs.Prelude.{◌≡◌, ℕ, ◌+◌, List}
-use Rattle.rowan_green.specs.Path.{Path}
+use Rattle.rowan_terms.specs.Path.{Path}
 use Rattle.rowan_green.specs.Term.{Term}
 use Rattle.rowan_edit.specs.declared.syntax_editor.Edge.{Edge}
 use Rattle.rowan_edit.specs.declared.syntax_editor.Edge.TheVariants.{Start, Whole, End}
-use Rattle.rowan_edit.specs.Edit.{Edit}
+use Rattle.rowan_changes.specs.Edit.{Edit}
 use Rattle.rowan_edit.specs.Positions.{in_place, in_gap}
 
 -- terms in the place of the children from one index to another

@@ -2,7 +2,7 @@
 use Rattle.std.specs.Prelude.{ℕ, List, [], ◌∷◌, Option, Some, None}
 use Rattle.rowan_green.specs.declared.utility_types.NodeOrToken.TheVariants.{Node, Token}
 use Rattle.rowan_green.specs.Term.{Term, token_of}
-use Rattle.rowan_cursor.specs.Cursor.{Cursor, term_at}
+use Rattle.rowan_table.specs.Cursor.{Cursor, term_at}
 
 abbrev pub one_or_none : Option Term → List Term
 one_or_none None = []

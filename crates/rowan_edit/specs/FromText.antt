@@ -6,11 +6,11 @@ use Rattle.rowan_green.specs.declared.fault.Fault.{Fault}
 use Rattle.rowan_green.specs.declared.fault.Fault.TheVariants.{Memory}
 use Rattle.rowan_green.specs.declared.utility_types.NodeOrToken.TheVariants.{Node}
 use Rattle.rowan_green.specs.Term.{NodeTerm, Term}
-use Rattle.rowan_cursor.specs.Cursor.{Cursor, StandsAt, kind}
-use Rattle.rowan_cursor.specs.Preorder.{descendants}
-use Rattle.rowan_edit.specs.declared.edit_error.EditError.{EditError}
-use Rattle.rowan_edit.specs.declared.edit_error.EditError.TheVariants.{Refused, Failed}
-use Rattle.rowan_edit.specs.declared.edit_error.EditError.TheVariants.{TextHasErrors, NoSuchNode}
+use Rattle.rowan_table.specs.Cursor.{Cursor, StandsAt, kind}
+use Rattle.rowan_table.specs.Preorder.{descendants}
+use Rattle.rowan_changes.specs.declared.edit_error.EditError.{EditError}
+use Rattle.rowan_changes.specs.declared.edit_error.EditError.TheVariants.{Refused, Failed}
+use Rattle.rowan_changes.specs.declared.edit_error.EditError.TheVariants.{TextHasErrors, NoSuchNode}
 
 -- the nodes of a tree, from the root on, each before those below it
 abbrev pub nodes_of : NodeTerm → List Cursor

@@ -1,7 +1,7 @@
 -- The edits inside of an element, as edits of that element alone.
 use Rattle.std.specs.Prelude.{nat_eq, if◌then◌else◌, List, [], ◌∷◌, Option, Some, None}
-use Rattle.rowan_green.specs.Path.{Path}
-use Rattle.rowan_edit.specs.Edit.{Edit}
+use Rattle.rowan_terms.specs.Path.{Path}
+use Rattle.rowan_changes.specs.Edit.{Edit}
 
 -- how a path goes on behind another one, if it begins with that
 abbrev pub rest_behind : Path → Path → Option Path

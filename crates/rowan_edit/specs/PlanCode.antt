@@ -3,8 +3,8 @@ use Rattle.std.specs.Prelude.{ℕ, List, refl}
 use Rattle.std.specs.Coded.{Coded, code_by, coded×, coded_ℕ, coded_list}
 use Rattle.rowan_green.specs.Coding.{coded_node, coded_term}
 use Rattle.rowan_green.specs.Term.{NodeTerm, Term}
-use Rattle.rowan_edit.specs.Edit.{Edit}
-use Rattle.rowan_edit.specs.Plan.{Plan}
+use Rattle.rowan_changes.specs.Edit.{Edit}
+use Rattle.rowan_changes.specs.Plan.{Plan}
 
 abbrev pub coded_edit : Coded Edit
 coded_edit =

@@ -1,18 +1,18 @@
 -- Edits at borrowed elements and in the gaps between the children of borrowed nodes.
 use Rattle.std.specs.Prelude.{◌≡◌, ℕ, ◌+◌, List}
-use Rattle.rowan_green.specs.Path.{Path}
+use Rattle.rowan_terms.specs.Path.{Path}
 use Rattle.rowan_green.specs.Term.{Term}
-use Rattle.rowan_cursor.specs.Cursor.{Cursor}
-use Rattle.rowan_cursor.specs.Moves.{Element, place_of, child_count}
+use Rattle.rowan_table.specs.Cursor.{Cursor}
+use Rattle.rowan_table.specs.Moves.{Element, place_of, child_count}
 use Rattle.rowan_api.specs.Refs.{node_place, element_place}
 use Rattle.rowan_edit.specs.declared.position.Position.{Position}
 use Rattle.rowan_edit.specs.declared.position.Position.TheVariants.{BeforeElement, AfterElement}
 use Rattle.rowan_edit.specs.declared.position.Position.TheVariants.{FirstChild, LastChild}
-use Rattle.rowan_edit.specs.declared.refusal.Refusal.{Refusal}
+use Rattle.rowan_changes.specs.declared.refusal.Refusal.{Refusal}
 use Rattle.rowan_edit.specs.ArrangedCursors.{WhyNotTaken, WhyNotTakenAt}
 use Rattle.rowan_edit.specs.Arrangements.{ArrangedPlan}
 use Rattle.rowan_edit.specs.Cursors.{AtChild}
-use Rattle.rowan_edit.specs.Edit.{Edit}
+use Rattle.rowan_changes.specs.Edit.{Edit}
 
 -- terms in the place of the child at an index, and in the gap before it
 abbrev pub in_place : List Term → Path → ℕ → Edit

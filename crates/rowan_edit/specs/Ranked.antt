@@ -6,16 +6,16 @@ use Rattle.std.specs.Ordering.{nat_cmp, on, then_cmp}
 use Rattle.std.specs.declared.cmp.Ordering.{Ordering}
 use Rattle.std.specs.declared.cmp.Ordering.TheVariants.{Less, Greater}
 use Rattle.rowan_green.specs.declared.utility_types.NodeOrToken.TheVariants.{Node}
-use Rattle.rowan_green.specs.Path.{Path}
+use Rattle.rowan_terms.specs.Path.{Path}
 use Rattle.rowan_green.specs.Term.{NodeTerm}
-use Rattle.rowan_cursor.specs.Cursor.{last_index}
-use Rattle.rowan_edit.specs.declared.edit.Splice.{Splice}
+use Rattle.rowan_table.specs.Cursor.{last_index}
+use Rattle.rowan_changes.specs.declared.edit.Splice.{Splice}
 use Rattle.rowan_edit.specs.declared.ranked.Body.{Body}
 use Rattle.rowan_edit.specs.declared.ranked.Rank.{Rank}
-use Rattle.rowan_edit.specs.Changes.{range_of}
-use Rattle.rowan_edit.specs.Edit.{Edit, lies_before}
-use Rattle.rowan_edit.specs.GreenEditor.{edit_of}
-use Rattle.rowan_edit.specs.Plan.{IsOf, AreInOrder, EndInTurn}
+use Rattle.rowan_changes.specs.Changes.{range_of}
+use Rattle.rowan_changes.specs.Edit.{Edit, lies_before}
+use Rattle.rowan_changes.specs.GreenEditor.{edit_of}
+use Rattle.rowan_changes.specs.Plan.{IsOf, AreInOrder, EndInTurn}
 
 -- a path without its last index
 abbrev pub without_last : Path → Path

@@ -13,13 +13,13 @@ ghost use Rattle.rowan_edit.specs.Arrangements.{with_edit, with_arrangement, pla
 ghost use Rattle.rowan_edit.specs.Arrangements.{Excludes, HasExcluded, WhyRefused, WhyNotArranged};
 ghost use Rattle.rowan_edit.specs.ArrangementsKept.{arrangements_in, HasBetween, HasNoneBetween};
 ghost use Rattle.rowan_edit.specs.Edges.{range_edit};
-ghost use Rattle.rowan_edit.specs.TextEdits.{IsEdited};
+ghost use Rattle.rowan_changes.specs.TextEdits.{IsEdited};
 
-use crate::changes::Edited;
 use crate::green_editor::{GreenEditor, edited_tree};
 use crate::pieces::{Piece, are_within};
 use crate::plain_edits::{Arrangements, plain_edits};
-use crate::refusal::Refusal;
+use rowan_changes::changes::Edited;
+use rowan_changes::refusal::Refusal;
 use rowan_green::fault::Fault;
 use rowan_green::green::{GreenElement, GreenNode};
 use std::alloc::{AllocError, Global};

@@ -1,6 +1,6 @@
 //! What names an element of a tree.
 ghost use Rattle.std.specs.Prelude.{◌≡◌};
-ghost use Rattle.rowan_cursor.specs.Moves.{Element};
+ghost use Rattle.rowan_table.specs.Moves.{Element};
 ghost use Rattle.rowan_api.specs.Refs.{element_place};
 
 use rowan::{

@@ -3,20 +3,20 @@ ghost use Rattle.std.specs.Prelude.{◌≡◌, ◌≢◌, ◌+◌, ℕ, true, fa
 ghost use Rattle.std.specs.Prelude.{OnErr};
 ghost use Rattle.rowan_green.specs.declared.utility_types.NodeOrToken.TheVariants.{Node};
 ghost use Rattle.rowan_green.specs.Fits.{FitsNode};
-ghost use Rattle.rowan_green.specs.Path.{Path};
-ghost use Rattle.rowan_cursor.specs.Cursor.{index};
-ghost use Rattle.rowan_cursor.specs.Moves.{place_of, parent, child_count};
+ghost use Rattle.rowan_terms.specs.Path.{Path};
+ghost use Rattle.rowan_table.specs.Cursor.{index};
+ghost use Rattle.rowan_table.specs.Moves.{place_of, parent, child_count};
 ghost use Rattle.rowan_cursor.specs.Refs.{node_place, element_place};
-ghost use Rattle.rowan_edit.specs.Changes.{changes_of};
+ghost use Rattle.rowan_changes.specs.Changes.{changes_of};
 ghost use Rattle.rowan_edit.specs.Cursors.{AtChild, WhyNotTaken, WhyNotTakenAt};
-ghost use Rattle.rowan_edit.specs.Edit.{Edit, edited};
-ghost use Rattle.rowan_edit.specs.Limits.{WhyNotEdited};
-ghost use Rattle.rowan_edit.specs.Plan.{with_edit, WhyRefused};
-ghost use Rattle.rowan_edit.specs.TextEdits.{IsEdited};
+ghost use Rattle.rowan_changes.specs.Edit.{Edit, edited};
+ghost use Rattle.rowan_changes.specs.Limits.{WhyNotEdited};
+ghost use Rattle.rowan_changes.specs.Plan.{with_edit, WhyRefused};
+ghost use Rattle.rowan_changes.specs.TextEdits.{IsEdited};
 
-use crate::changes::Edited;
 use crate::green_editor::GreenEditor;
-use crate::refusal::Refusal;
+use rowan_changes::changes::Edited;
+use rowan_changes::refusal::Refusal;
 use rowan_cursor::cursor::{
     ElementRefCalls, SyntaxElement, SyntaxElementRef, SyntaxNode, SyntaxNodeRef,
 };
@@ -36,7 +36,7 @@ pub struct Editor {
 }
 
 impl Model for Editor {
-    ghost use Rattle.rowan_edit.specs.Plan.{Plan};
+    ghost use Rattle.rowan_changes.specs.Plan.{Plan};
     ghost use Rattle.rowan_edit.specs.PlanCode.{coded_plan};
 
     ghost Value = { Plan };

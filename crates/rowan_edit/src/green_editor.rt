@@ -4,26 +4,26 @@ ghost use Rattle.std.specs.Prelude.{◌≢◌, ◌≤◌, ◌+◌, true, Some, I
 ghost use Rattle.std.specs.List.{AllByRecursion};
 ghost use Rattle.rowan_green.specs.declared.utility_types.NodeOrToken.TheVariants.{Node};
 ghost use Rattle.rowan_green.specs.Fits.{FitsNode, byte_limit};
-ghost use Rattle.rowan_green.specs.Path.{subterm, offset};
+ghost use Rattle.rowan_terms.specs.Path.{subterm, offset};
 ghost use Rattle.rowan_green.specs.Search.{child_start};
 ghost use Rattle.rowan_green.specs.Term.{NodeTerm, node_children, node_len};
 ghost use Rattle.rowan_edit.specs.Arrangements.{AreFree};
 ghost use Rattle.rowan_edit.specs.Arrangements.{HasExcluding};
 ghost use Rattle.rowan_edit.specs.ArrangementsKept.{HasChildren};
-ghost use Rattle.rowan_edit.specs.Changes.{changes_of};
-ghost use Rattle.rowan_edit.specs.Edit.{Edit, edited, conflicts};
-ghost use Rattle.rowan_edit.specs.Plan.{with_edit, IsOf, WhyRefused, AreInOrder};
-ghost use Rattle.rowan_edit.specs.GreenEditor.{edits_of, AreListed};
+ghost use Rattle.rowan_changes.specs.Changes.{changes_of};
+ghost use Rattle.rowan_changes.specs.Edit.{Edit, edited, conflicts};
+ghost use Rattle.rowan_changes.specs.Plan.{with_edit, IsOf, WhyRefused, AreInOrder};
+ghost use Rattle.rowan_changes.specs.GreenEditor.{edits_of, AreListed};
 ghost use Rattle.rowan_edit.specs.Ranked.{IsEditIn};
-ghost use Rattle.rowan_edit.specs.Limits.{WhyNotEdited};
-ghost use Rattle.rowan_edit.specs.TextEdits.{IsEdited};
+ghost use Rattle.rowan_changes.specs.Limits.{WhyNotEdited};
+ghost use Rattle.rowan_changes.specs.TextEdits.{IsEdited};
 
-use crate::changes::{Changes, Edited};
-use crate::edit::{Splice, changes_of};
-use crate::edit_sites::EditSites;
 use crate::ranked::{Body, Rank, RankedEdits, has_edit_of, has_room, in_order};
-use crate::refusal::Refusal;
-use crate::zipper::Zipper;
+use rowan_changes::changes::{Changes, Edited};
+use rowan_changes::edit::{Splice, changes_of};
+use rowan_changes::edit_sites::EditSites;
+use rowan_changes::refusal::Refusal;
+use rowan_changes::zipper::Zipper;
 use rowan_green::fault::Fault;
 use rowan_green::green::{GreenElement, GreenNode};
 use rowan_green::text::{TextRange, TextSize};
@@ -46,7 +46,7 @@ pub struct GreenEditor {
 }
 
 impl Model for GreenEditor {
-    ghost use Rattle.rowan_edit.specs.Plan.{Plan};
+    ghost use Rattle.rowan_changes.specs.Plan.{Plan};
     ghost use Rattle.rowan_edit.specs.PlanCode.{coded_plan};
 
     ghost Value = { Plan };

@@ -92,7 +92,7 @@ impl<L> IntoElements for SyntaxTokenRef<'_, L> {
 }
 
 impl<L> IntoElements for SyntaxElementRef<'_, L> {
-    ghost use Rattle.rowan_cursor.specs.Moves.{place_of};
+    ghost use Rattle.rowan_table.specs.Moves.{place_of};
     ghost use Rattle.rowan_api.specs.Refs.{element_place};
     ghost use Rattle.rowan_edit.specs.Elements.{terms_at};
 

@@ -5,14 +5,14 @@ ghost use Rattle.rowan_green.specs.declared.utility_types.NodeOrToken.TheVariant
 ghost use Rattle.rowan_green.specs.Fits.{byte_limit, WhyNoNode};
 ghost use Rattle.rowan_green.specs.Term.{token_of, node_of};
 ghost use Rattle.rowan_green.specs.Word.{WhyNoToken};
-ghost use Rattle.rowan_cursor.specs.Preorder.{descendants};
+ghost use Rattle.rowan_table.specs.Preorder.{descendants};
 ghost use Rattle.rowan_api.specs.Refs.{node_place};
-ghost use Rattle.rowan_edit.specs.declared.edit_error.EditError.TheVariants.{Failed};
-ghost use Rattle.rowan_edit.specs.EditErrors.{IsFailure};
+ghost use Rattle.rowan_changes.specs.declared.edit_error.EditError.TheVariants.{Failed};
+ghost use Rattle.rowan_changes.specs.EditErrors.{IsFailure};
 ghost use Rattle.rowan_edit.specs.FromText.{IsFirstOfText, WhyNoneOfText, IsFirstWanted, AreUnwanted};
 
-use crate::edit_error::EditError;
 use rowan::{Language, SyntaxNode, SyntaxNodeRef};
+use rowan_changes::edit_error::EditError;
 use rowan_green::fault::Fault;
 use rowan_green::green::{GreenElement, GreenNode, GreenToken, SyntaxKind};
 use rowan_green::utility_types::NodeOrToken;

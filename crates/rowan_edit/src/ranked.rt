@@ -1,12 +1,12 @@
 //! Edits in the order of their places, as an editor keeps them.
 ghost use Rattle.std.specs.Prelude.{◌≡◌, ◌<◌, ◌≤◌, ℕ, true, false, [], ◌∷◌, ◌++◌, length, IfOk, IfErr};
 ghost use Rattle.std.specs.List.{AllByRecursion};
-ghost use Rattle.rowan_edit.specs.Plan.{HasConflict};
+ghost use Rattle.rowan_changes.specs.Plan.{HasConflict};
 ghost use Rattle.rowan_edit.specs.Ranked.{edit_in, edits_in, ends_first, IsRanked, IsNext, Cut};
 ghost use Rattle.rowan_edit.specs.Ranked.{HasRoom, HasEditAt, HasNoEditAt};
 ghost use Rattle.rowan_edit.specs.Ranked.{IsSpliceOf, AreSplicesOf};
 
-use crate::edit::{Splice, lies_before};
+use rowan_changes::edit::{Splice, lies_before};
 use rowan_green::fault::Fault;
 use rowan_green::green::GreenElement;
 use rowan_green::text::TextRange;

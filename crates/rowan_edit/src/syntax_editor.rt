@@ -4,14 +4,14 @@ ghost use Rattle.std.specs.Prelude.{IfOk, IfErr, OnOk, OnErr, Err};
 ghost use Rattle.std.specs.Fn.{FnOnceReturnsAt};
 ghost use Rattle.rowan_green.specs.declared.utility_types.NodeOrToken.TheVariants.{Node, Token};
 ghost use Rattle.rowan_green.specs.Fits.{FitsNode, WhyNoNode, byte_limit};
-ghost use Rattle.rowan_green.specs.Path.{Path};
+ghost use Rattle.rowan_terms.specs.Path.{Path};
 ghost use Rattle.rowan_green.specs.Term.{token_of, node_of};
 ghost use Rattle.rowan_green.specs.Word.{WhyNoToken};
-ghost use Rattle.rowan_cursor.specs.Cursor.{index, text_at};
-ghost use Rattle.rowan_cursor.specs.Moves.{place_of, parent};
+ghost use Rattle.rowan_table.specs.Cursor.{index, text_at};
+ghost use Rattle.rowan_table.specs.Moves.{place_of, parent};
 ghost use Rattle.rowan_api.specs.Refs.{node_place, token_place, element_place};
-ghost use Rattle.rowan_edit.specs.declared.edit_error.EditError.TheVariants.{Failed};
-ghost use Rattle.rowan_edit.specs.Changes.{changes_of};
+ghost use Rattle.rowan_changes.specs.declared.edit_error.EditError.TheVariants.{Failed};
+ghost use Rattle.rowan_changes.specs.Changes.{changes_of};
 ghost use Rattle.rowan_edit.specs.ArrangedCursors.{WhyNotTaken, WhyNotTakenAt, WhyNotReplaced};
 ghost use Rattle.rowan_edit.specs.ArrangedLimits.{WhyNotMade};
 ghost use Rattle.rowan_edit.specs.ArrangedTree.{IsPlanned};
@@ -19,23 +19,24 @@ ghost use Rattle.rowan_edit.specs.Arrangements.{with_edit, with_arrangement, pla
 ghost use Rattle.rowan_edit.specs.Arrangements.{WhyRefused, WhyNotArranged};
 ghost use Rattle.rowan_edit.specs.Cursors.{AtChild};
 ghost use Rattle.rowan_edit.specs.Edges.{at_edge, range_edit, IsAtEdge};
-ghost use Rattle.rowan_edit.specs.Edit.{Edit, edited};
-ghost use Rattle.rowan_edit.specs.EditErrors.{IsRefused, IsRefusedFor, IsFailure};
+ghost use Rattle.rowan_changes.specs.Edit.{Edit, edited};
+ghost use Rattle.rowan_changes.specs.EditErrors.{IsRefused, IsRefusedFor, IsFailure};
 ghost use Rattle.rowan_edit.specs.Elements.{with_text, with_kind};
 ghost use Rattle.rowan_edit.specs.FromText.{IsFirstOfText, WhyNoneOfText};
-ghost use Rattle.rowan_edit.specs.TextEdits.{IsEdited};
+ghost use Rattle.rowan_changes.specs.TextEdits.{IsEdited};
 ghost use Rattle.rowan_edit.specs.Positions.{in_place, in_gap, AtGap, cursor_of, WhyNotInserted};
 
 use crate::arranging_editor::ArrangingEditor;
 use crate::as_element::AsElement;
-use crate::changes::Edited;
-use crate::edit_error::EditError;
 use crate::into_elements::IntoElements;
 use crate::make::Make;
 use crate::pieces::Piece;
 use crate::position::Position;
-use crate::refusal::Refusal;
 use rowan::{Language, SyntaxElementRef, SyntaxNodeRef, SyntaxTokenRef, TypedElementRefCalls};
+use rowan_changes::changes::Edited;
+use rowan_changes::edit_error::EditError;
+use rowan_changes::path_to;
+use rowan_changes::refusal::Refusal;
 use rowan_green::fault::Fault;
 use rowan_green::green::{GreenElement, GreenNode};
 use rowan_green::utility_types::NodeOrToken;
@@ -419,21 +420,4 @@ impl<L: Language> SyntaxEditor<L> {
     {
         self.make.from_text(text, parse, wanted)
     }
-}
-
-/// The path of a node: the indexes on the way down to it.
-pub(crate) fn path_to<L: Language>(
-    alloc: Global,
-    node: SyntaxNodeRef<'_, L>,
-) -> Result<Vec<usize>, AllocError>
-    ensures { IfOk result (λ path. path.items ≡ (node_place node.entry).path) }
-{
-    let mut path = Vec::new(alloc);
-    let mut at = node;
-    while let Some(parent) = at.parent() {
-        path.push(at.index())?;
-        at = parent;
-    }
-    path.reverse();
-    Ok(path)
 }

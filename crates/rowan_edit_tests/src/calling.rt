@@ -2,12 +2,12 @@
 ghost use Rattle.std.specs.Prelude.{◌≡◌, ◌==◌, not, Bool, [], ◌∷◌, IfOk, IfSome};
 ghost use Rattle.std.specs.List.{filter};
 ghost use Rattle.rowan_green.specs.declared.utility_types.NodeOrToken.TheVariants.{Node};
-ghost use Rattle.rowan_green.specs.Path.{Path, tokens};
+ghost use Rattle.rowan_terms.specs.Path.{Path, tokens};
 ghost use Rattle.rowan_green.specs.Term.{TokenTerm};
-ghost use Rattle.rowan_cursor.specs.Cursor.{Cursor};
-ghost use Rattle.rowan_cursor.specs.Moves.{child_count};
-ghost use Rattle.rowan_cursor.specs.Replacement.{with_replacement};
-ghost use Rattle.rowan_cursor.specs.Search.{IsLeafOver};
+ghost use Rattle.rowan_table.specs.Cursor.{Cursor};
+ghost use Rattle.rowan_table.specs.Moves.{child_count};
+ghost use Rattle.rowan_table.specs.Replacement.{with_replacement};
+ghost use Rattle.rowan_table.specs.Search.{IsLeafOver};
 ghost use Rattle.rowan_api.specs.Refs.{node_place};
 ghost use Rattle.rowan_edit.specs.Edit.{Edit, edited};
 ghost use Rattle.rowan_edit.specs.Rewriting.{Keeps};
@@ -16,9 +16,9 @@ ghost use Rattle.rowan_edit.specs.TokenAts.{token_in};
 
 use rowan::{Fault, GreenElement, GreenNode, GreenToken, Language, SyntaxNodeRef, TextSize};
 use rowan_edit::{
-    EditError, GreenEditor, Position, Rewrite, SyntaxEditor, TokenAt, TreeCursor, laws,
-    rewrite_tokens,
+    EditError, GreenEditor, Position, Rewrite, SyntaxEditor, TokenAt, TreeCursor, rewrite_tokens,
 };
+use rowan_edit_laws::laws;
 use std::alloc::Global;
 
 /// The tree with one more element before the first child of the root. Refused where the tree would

@@ -54,6 +54,9 @@ impl Checker<'_> {
         for shown in grammar.parsing.shown.iter() {
             self.say(shown.range, message)?;
         }
+        for attached in grammar.parsing.attached.iter() {
+            self.say(attached.trivia.range, message)?;
+        }
         Ok(())
     }
 

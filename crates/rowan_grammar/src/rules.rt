@@ -253,7 +253,9 @@ impl Rules {
         Ok(true)
     }
 
-    /// The rule of parts one behind the other; nothing where there are none.
+    /// The rule of parts one behind the other; nothing where there are none. The first part stands
+    /// innermost: so all parts behind it are on the parser's stack while it is parsed, and no token
+    /// with which one of them begins is skipped there.
     fn sequence(&mut self, alloc: Global, parts: &[At]) -> Result<Option<At>, AllocError> {
         let mut left: Vec<At> = Vec::new(alloc);
         for part in parts.iter() {
@@ -265,13 +267,15 @@ impl Rules {
                 left.push(*part)?;
             }
         }
-        let mut whole = left.pop();
-        for _ in 0..parts.len() {
-            let (Some(first), Some(behind)) = (left.pop(), whole) else {
-                break;
+        let mut whole: Option<At> = None;
+        for part in left.iter() {
+            whole = match whole {
+                None => Some(*part),
+                Some(first) => {
+                    let range = cover(first.range, part.range);
+                    Some(self.push(Rule::Seq(first.rule, part.rule), Of::Part, range)?)
+                }
             };
-            let range = cover(first.range, behind.range);
-            whole = Some(self.push(Rule::Seq(first.rule, behind.rule), Of::Part, range)?);
         }
         Ok(whole)
     }

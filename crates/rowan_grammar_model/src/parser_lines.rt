@@ -9,6 +9,7 @@ pub struct ParserLines {
     pub parser: Option<TextRange>,
     pub lexer: Option<LexerPath>,
     pub shown: Vec<Shown>,
+    pub attached: Vec<Attached>,
 }
 
 /// The path of what cuts a text into tokens.
@@ -29,12 +30,29 @@ pub struct Shown {
     pub item: Option<usize>,
 }
 
+/// Trivia that belong to the nodes behind them.
+#[derive(Drop)]
+pub struct Attached {
+    pub trivia: Named,
+    pub nodes: Vec<Named>,
+}
+
+/// A name in a line of the head.
+#[derive(Drop)]
+pub struct Named {
+    pub range: TextRange,
+    pub name: String,
+    /// The number of what has this name.
+    pub item: Option<usize>,
+}
+
 impl ParserLines {
     pub fn new(alloc: Global) -> ParserLines {
         ParserLines {
             parser: None,
             lexer: None,
             shown: Vec::new(alloc),
+            attached: Vec::new(alloc),
         }
     }
 

@@ -73,11 +73,11 @@ fn rule(p: &mut Parser<Grammars>) -> Kind {
 }
 
 /// A line of the head: its word, the name behind it, for a token maybe its text, for a lexer its path,
-/// and for a set or a trait what is in it.
+/// for a set or a trait what is in it, and for attached trivia the nodes.
 fn head(p: &mut Parser<Grammars>) -> Kind {
     let may_have_text = matches!(p.text(), "token" | "trivia" | "shown");
     let may_have_path = p.text() == "lexer";
-    let has_parts = matches!(p.text(), "set" | "trait");
+    let has_parts = matches!(p.text(), "set" | "trait" | "attached");
     p.bump_as(Kind::Keyword);
     p.bump();
     if may_have_text {
@@ -141,6 +141,7 @@ fn is_head(word: &str) -> bool {
             | "parser"
             | "lexer"
             | "shown"
+            | "attached"
             | "error"
             | "trivia"
             | "token"

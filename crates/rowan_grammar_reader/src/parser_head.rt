@@ -1,9 +1,10 @@
 //! From the lines of the head of a grammar that ask for a parser to what they say.
 use crate::reader::Reader;
+use crate::rules::only_name;
 use crate::syntax::{Grammars, Kind};
 use rowan::{NodeOrToken, SyntaxNodeRef, SyntaxTokenRef, TextRange};
 use rowan_grammar_model::grammar::Sort;
-use rowan_grammar_model::parser_lines::{LexerPath, Shown};
+use rowan_grammar_model::parser_lines::{Attached, LexerPath, Named, Shown};
 use std::alloc::{AllocError, Global};
 use std::mem;
 
@@ -28,6 +29,7 @@ impl Reader {
                 let old = mem::replace(&mut self.grammar.parsing.lexer, Some(lexer));
                 self.check_once(old.map(|lexer| lexer.range), range)
             }
+            "attached" => self.attached_line(head, name),
             _ => {
                 let name = String::from_str(self.alloc, name.text())?;
                 let words = head.first_token_of_kind(Kind::Literal);
@@ -40,6 +42,58 @@ impl Reader {
                 Ok(())
             }
         }
+    }
+
+    /// Trivia, and the nodes behind them to which they belong.
+    fn attached_line(
+        &mut self,
+        head: SyntaxNodeRef<'_, Grammars>,
+        name: SyntaxTokenRef<'_, Grammars>,
+    ) -> Result<(), AllocError> {
+        let mut nodes: Vec<Named> = Vec::new(self.alloc);
+        if let Some(choice) = head.first_child_by_kind(Kind::Choice) {
+            for sequence in choice.children() {
+                match only_name(sequence) {
+                    Some(node) => nodes.push(named(self.alloc, node)?)?,
+                    None => self.problem(
+                        sequence.text_range(),
+                        "the name of a node is wanted here",
+                    )?,
+                }
+            }
+        }
+        let trivia = named(self.alloc, name)?;
+        self.grammar
+            .parsing
+            .attached
+            .push(Attached { trivia, nodes })?;
+        Ok(())
+    }
+
+    /// Looks up trivia and the nodes to which they belong.
+    pub fn read_attached(&mut self) -> Result<(), AllocError> {
+        let mut lines = mem::replace(&mut self.grammar.parsing.attached, Vec::new(self.alloc));
+        for line in lines.iter_mut() {
+            self.look_up(&mut line.trivia, Sort::Trivia, "trivia")?;
+            for node in line.nodes.iter_mut() {
+                self.look_up(node, Sort::Node, "node")?;
+            }
+        }
+        self.grammar.parsing.attached = lines;
+        Ok(())
+    }
+
+    /// Finds what has a name, and complains where that is nothing of a sort.
+    fn look_up(&mut self, named: &mut Named, sort: Sort, what: &str) -> Result<(), AllocError> {
+        let name = named.name.as_str();
+        match self.names.get(name).copied() {
+            Some(number) if self.grammar.sort(number) == sort => named.item = Some(number),
+            _ => {
+                let message = format!(in self.alloc; "no {what} is called `{name}`")?;
+                self.error(named.range, message)?;
+            }
+        }
+        Ok(())
     }
 
     /// Looks up the tokens that messages name in words.
@@ -98,4 +152,12 @@ fn path_of(alloc: Global, head: SyntaxNodeRef<'_, Grammars>) -> Result<String, A
         }
     }
     Ok(path)
+}
+
+fn named(alloc: Global, name: SyntaxTokenRef<'_, Grammars>) -> Result<Named, AllocError> {
+    Ok(Named {
+        range: name.text_range(),
+        name: String::from_str(alloc, name.text())?,
+        item: None,
+    })
 }

@@ -64,6 +64,7 @@ impl Reader {
         self.read_contents()?;
         self.read_rules(rules.as_slice())?;
         self.read_shown()?;
+        self.read_attached()?;
         self.read_forms()
     }
 
@@ -128,7 +129,9 @@ impl Reader {
             "owned" => self.add_wrap(name, Form::Owned)?,
             "borrowed" => self.add_wrap(name, Form::Borrowed)?,
             "wrappers" => self.set_forms(name)?,
-            word @ ("parser" | "lexer" | "shown") => self.parser_line(word, head, name)?,
+            word @ ("parser" | "lexer" | "shown" | "attached") => self.parser_line(
+                word, head, name,
+            )?,
             word => self.line(word, head, name.text_range())?,
         }
         Ok(false)

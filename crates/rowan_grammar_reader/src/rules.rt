@@ -357,7 +357,7 @@ fn label_of<'tree>(
 }
 
 /// The name that an alternative is alone.
-fn only_name<'tree>(
+pub(crate) fn only_name<'tree>(
     sequence: SyntaxNodeRef<'tree, Grammars>,
 ) -> Option<SyntaxTokenRef<'tree, Grammars>> {
     only_token(sequence).filter(|token| token.kind() == Kind::Word)

@@ -5,18 +5,19 @@ use crate::signs::plain;
 use crate::texts::text_of;
 use crate::writer::{ARGUMENTS, Scope, Text, WIDTH, add_signature, fill};
 use rowan_grammar_model::grammar::Sort;
+use rowan_grammar_model::parser_lines::Named;
 use rowan_grammar_model::place::text_at;
 
 const HEAD: &str = "\
 //! The parser of $language: the rules of its grammar, by which `rowan_predictive` goes.
-ghost use Rattle.std.specs.Prelude.{◌≡◌, ◌<◌, [], length, IfOk, IfErr};
+ghost use Rattle.std.specs.Prelude.{◌≡◌, ◌<◌,$empty length, IfOk, IfErr};
 ghost use Rattle.rowan.specs.Fits.{byte_limit};
 ghost use Rattle.rowan.specs.Term.{node_kind, node_text};
 ghost use Rattle.rowan_parser.specs.Parsing.{WhyNoTree};
 ghost use Rattle.rowan_predictive.specs.Causes.{WhyNoGrammar};
 ghost use Rattle.rowan_predictive.specs.Parsing.{HasTree, IsTreeBy};
 ghost use Rattle.rowan_predictive.specs.View.{rules_in, rules_prop};
-ghost use Rattle.$crate.specs.declared.parser.TheConstants.{RULES, SKIPPED};
+ghost use Rattle.$crate.specs.declared.parser.TheConstants.{$constants};
 
 ";
 
@@ -29,11 +30,10 @@ use std::alloc::Global;
 ";
 
 /// What stands behind the tokens that may stand anywhere.
-const PARSER: &str = "];
-
+const PARSER: &str = "
 const TRIVIA: Trivia<'static> = Trivia {
     kinds: SKIPPED,
-    attached: &[],
+    attached: &$attached,
 };
 
 /// What a text is parsed as: a `$node`.
@@ -72,7 +72,7 @@ $head
         ensures text { IfOk result (λ parse. node_text parse.green ≡ text.now) }
         ensures kind { IfOk result (λ parse. node_kind parse.green ≡ $root) }
         ensures tree { IfOk result (λ parse.
-            HasTree RULES SKIPPED [] $root $start text.now parse.errors.items parse.green) }
+            HasTree RULES SKIPPED $attached $root $start text.now parse.errors.items parse.green) }
         ensures err { IfErr result (WhyNoTree text.now) }
         ensures too_long { byte_limit < length text.now → result ≡ Err Fault.TextTooLong }
     {
@@ -93,7 +93,7 @@ $head
         ensures text { IfOk result (λ parse. node_text parse.green ≡ text.now) }
         ensures kind { IfOk result (λ parse. node_kind parse.green ≡ $root) }
         ensures tree { IfOk result (λ parse. IsTreeBy X.says lexer
-            RULES SKIPPED [] $root $start text.now parse.errors.items parse.green) }
+            RULES SKIPPED $attached $root $start text.now parse.errors.items parse.green) }
         ensures err { IfErr result (WhyNoTree text.now) }
         ensures too_long { byte_limit < length text.now → result ≡ Err Fault.TextTooLong }
     {
@@ -113,15 +113,30 @@ pub fn add_parser_code(out: &mut Text, scope: &Scope<'_>) {
             out.add("\n/// The tokens that may stand anywhere.\n");
             out.add("const SKIPPED: TokenSet = token_set![");
             trivia.add_to(out);
+            out.add("];\n");
+            add_attached(out, scope);
             add_parser(out, scope, rules.start, lexer.path.as_str());
         }
         _ => {}
     }
 }
 
+/// Whether trivia belong to some nodes behind them.
+fn has_attached(scope: &Scope<'_>) -> bool {
+    !scope.grammar.parsing.attached.is_empty()
+}
+
 /// What stands before the rules.
 fn add_head(out: &mut Text, scope: &Scope<'_>, has_trivia: bool) {
+    let (constants, empty) = match has_attached(scope) {
+        true => ("ATTACHED, RULES, SKIPPED", ""),
+        false => ("RULES, SKIPPED", " [],"),
+    };
     let values = [
+        "constants",
+        constants,
+        "empty",
+        empty,
         "language",
         scope.language,
         "crate",
@@ -136,13 +151,45 @@ fn add_head(out: &mut Text, scope: &Scope<'_>, has_trivia: bool) {
     out.add(USES);
 }
 
+/// Adds the nodes to which trivia before them belong, if there are some, each with the trivia.
+fn add_attached(out: &mut Text, scope: &Scope<'_>) {
+    let lines = scope.grammar.parsing.attached.as_slice();
+    if lines.is_empty() {
+        return;
+    }
+    let mut count = 0usize;
+    for line in lines.iter() {
+        count = count.saturating_add(line.nodes.len());
+    }
+    out.add("\n/// Nodes, each with the trivia that belong to it where they stand before it.\n");
+    out.add("const ATTACHED: [(SyntaxKind, TokenSet); ");
+    out.add_number(count);
+    out.add("] = [\n");
+    for line in lines.iter() {
+        for node in line.nodes.iter() {
+            out.add("    (SyntaxKind(");
+            out.add_number(kind_of(scope, node));
+            out.add("), token_set![Kind::");
+            out.add(scope.grammar.name(line.trivia.item.unwrap_or(0)));
+            out.add("]),\n");
+        }
+    }
+    out.add("];\n");
+}
+
 /// The parser: its rules are tested by `new`, and begin at this one.
 fn add_parser(out: &mut Text, scope: &Scope<'_>, start: usize, lexer: &str) {
     let root = scope.number(number_of(scope, scope.root));
     let error = scope.number(number_of(scope, scope.error));
     let start = scope.number(start);
     let making = making_of(scope);
+    let attached = match has_attached(scope) {
+        true => "ATTACHED",
+        false => "[]",
+    };
     let values = [
+        "attached",
+        attached,
         "language",
         scope.language,
         "root",
@@ -169,6 +216,12 @@ fn making_of(scope: &Scope<'_>) -> Text {
     let gives = out.read(&gives);
     add_signature(&mut out, "    pub fn ", "new", "alloc: Global", gives);
     out
+}
+
+/// The raw kind of what a line of the head names.
+fn kind_of(scope: &Scope<'_>, named: &Named) -> usize {
+    let is_named = |index: &usize| named.item == Some(*index);
+    scope.kinds.iter().position(is_named).unwrap_or(0)
 }
 
 /// The raw kind of what has this name.

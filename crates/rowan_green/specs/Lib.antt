@@ -1,9 +1,3 @@
-pub mod Builder
-pub mod BuilderCoding
-pub mod Bytes
-pub mod Cache
-pub mod Chains
-pub mod CacheCoding
 pub mod Coding
 pub mod Edits
 pub mod Falls
@@ -13,18 +7,13 @@ pub mod Fits
 pub mod Gives
 pub mod Lent
 pub mod Link
-pub mod Loan
 pub mod NodeBlock
-pub mod Path
-pub mod Replacements
 pub mod Runs
 pub mod Same
 pub mod Search
 pub mod Sizes
 pub mod Span
 pub mod Steps
-pub mod Stream
-pub mod Tables
 pub mod Term
 pub mod TokenAtOffset
 pub mod TokenData
@@ -32,5 +21,4 @@ pub mod Unread
 pub mod View
 pub mod Waiting
 pub mod WalkEvent
-pub mod Weave
 pub mod Word

@@ -3,7 +3,7 @@ use Rattle.std.specs.Prelude.{◌≡◌, ℕ, ◌<◌, List, [], map, take, Opti
 use Rattle.std.specs.Prelude.{vec_capacity}
 use Rattle.rowan_green.specs.declared.green.node.GreenChild.{GreenChild}
 use Rattle.rowan_green.specs.declared.green.node.block.ChildBlock.{ChildBlock}
-use Rattle.rowan_green.specs.declared.node_cache.finished.FinishedElements.{FinishedElements}
+use Rattle.rowan_green.specs.declared.green.waiting.FinishedElements.{FinishedElements}
 use Rattle.rowan_green.specs.Term.{Term}
 use Rattle.rowan_green.specs.View.{child_term}
 

@@ -8,16 +8,20 @@ mod search;
 mod short_text;
 mod token;
 mod token_data;
+mod waiting;
 
 pub use crate::steps::Steps;
 pub use children::Children;
 pub use element::{GreenElement, GreenElementRef};
-pub(crate) use node::{ChildBlock, GreenChild};
+#[doc(hidden)]
+pub use node::{ChildBlock, GreenChild};
 pub use node::{GreenNode, GreenNodeData};
 pub use token::{GreenToken, GreenTokenData};
+#[doc(hidden)]
+pub use waiting::{FinishedElements, Interned};
 
 /// The greatest number of bytes of a text.
-pub(crate) const MAX_TEXT_LEN: usize = u32::MAX as usize;
+pub const MAX_TEXT_LEN: usize = u32::MAX as usize;
 
 /// The greatest number of children of a node.
 pub(crate) const MAX_CHILDREN: usize = u32::MAX as usize;

@@ -7,8 +7,8 @@ use Rattle.rowan_green.specs.declared.green.SyntaxKind.{SyntaxKind}
 use Rattle.rowan_parser.specs.Building.{raw}
 use Rattle.rowan_parser.specs.Events.{begun}
 use Rattle.rowan_parser.specs.Shape.{around}
-use Rattle.rowan_parser.specs.declared.event.Event.{Event}
-use Rattle.rowan_parser.specs.declared.event.Event.TheVariants as event
+use Rattle.rowan_events.specs.declared.event.Event.{Event}
+use Rattle.rowan_events.specs.declared.event.Event.TheVariants as event
 
 abbrev from_there : List Event → List ℕ
 from_there events = around 1 events

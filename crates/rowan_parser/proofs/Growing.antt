@@ -5,8 +5,8 @@ use Rattle.std.proofs.lemmas.List.{drop-drop}
 use Rattle.rowan_green.specs.Word.{Symbol, Close}
 use Rattle.rowan_parser.specs.Events.{is_trivia, past, up_to, behind, leaves, one_leaf, opening, spelled_by, after, grown, seen}
 use Rattle.rowan_parser.specs.Shape.{Step, Exit, Forest, none, token_then, joined_then, node_then, word, token_count, steps, IsPart}
-use Rattle.rowan_parser.specs.declared.event.Event.{Event}
-use Rattle.rowan_parser.specs.declared.lexer.Token.{Token}
+use Rattle.rowan_events.specs.declared.event.Event.{Event}
+use Rattle.rowan_events.specs.declared.lexer.Token.{Token}
 use Rattle.rowan_parser.specs.declared.tree.Trivia.{Trivia}
 
 -- ---- the word

@@ -4,8 +4,8 @@ use Rattle.std.proofs.lemmas.List.{take-append-drop, drop-drop, drop_all, drop_m
 use Rattle.std.proofs.Math.Seq.{take-append_seam, drop-append_seam}
 use Rattle.rowan_green.specs.Word.{Symbol}
 use Rattle.rowan_parser.specs.Events.{is_trivia, up_to, behind, one_leaf, Puts}
-use Rattle.rowan_parser.specs.Tokens.{tokens_text}
-use Rattle.rowan_parser.specs.declared.lexer.Token.{Token}
+use Rattle.rowan_events.specs.Tokens.{tokens_text}
+use Rattle.rowan_events.specs.declared.lexer.Token.{Token}
 use Rattle.rowan_parser.specs.declared.tree.Trivia.{Trivia}
 use Rattle.rowan_parser.proofs.Steps.{tokens_text-append}
 

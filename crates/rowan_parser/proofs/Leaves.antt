@@ -3,15 +3,15 @@
 use Rattle.std.proofs.Common.{◌≡◌, ℕ, zero, suc, false, List, [], ◌∷◌, ◌++◌, take, drop, refl, sym, ◌∙◌, ap, subst, append_assoc, append-nil}
 use Rattle.std.specs.Prelude.{take_while, ⊤}
 use Rattle.std.proofs.lemmas.List.{map-append, take-append-drop}
-use Rattle.rowan_green.proofs.LeafLaws.{word_tokens-append}
-use Rattle.rowan_green.proofs.Words.{word_text-append}
+use Rattle.rowan_terms.proofs.LeafLaws.{word_tokens-append}
+use Rattle.rowan_terms.proofs.Words.{word_text-append}
 use Rattle.rowan_green.specs.Word.{Symbol, Open, Close, word_text, word_tokens}
 use Rattle.rowan_parser.specs.Events.{is_trivia, outside, past, up_to, behind, leaves, one_leaf, opening, closings, spelled_by, tree_word, join_some}
 use Rattle.rowan_parser.specs.Shape.{Step, Enter, Take, TakeAs, Exit, around, enters, steps}
-use Rattle.rowan_parser.specs.Tokens.{token_term, token_terms, tokens_text}
-use Rattle.rowan_parser.specs.declared.event.Event.{Event}
-use Rattle.rowan_parser.specs.declared.event.Event.TheVariants as event
-use Rattle.rowan_parser.specs.declared.lexer.Token.{Token}
+use Rattle.rowan_events.specs.Tokens.{token_term, token_terms, tokens_text}
+use Rattle.rowan_events.specs.declared.event.Event.{Event}
+use Rattle.rowan_events.specs.declared.event.Event.TheVariants as event
+use Rattle.rowan_events.specs.declared.lexer.Token.{Token}
 use Rattle.rowan_parser.specs.declared.tree.Trivia.{Trivia}
 use Rattle.rowan_parser.proofs.Joining.{up_to-behind}
 use Rattle.rowan_parser.proofs.Trivial.{taken-past, outside-parts}

@@ -1,9 +1,7 @@
 pub mod Around
-pub mod Gluing
 pub mod Growing
 pub mod Joining
 pub mod Leaves
-pub mod Lexing
 pub mod Made
 pub mod Making
 pub mod Parses
@@ -12,10 +10,7 @@ pub mod Pieces
 pub mod Ranges
 pub mod Refusals
 pub mod Rules
-pub mod Sets
 pub mod ShapeLemmas
-pub mod Skipping
 pub mod Spelling
 pub mod Steps
-pub mod Taking
 pub mod Trivial

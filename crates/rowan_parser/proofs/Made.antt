@@ -5,13 +5,13 @@ use Rattle.std.proofs.Common.{Bool, true, false}
 use Rattle.std.specs.Prelude.{cond}
 use Rattle.std.specs.Bool.{if◌then◌else◌}
 use Rattle.std.proofs.lemmas.List.Elements.{All-push}
-use Rattle.rowan_parser.specs.declared.event.Event.{Event}
-use Rattle.rowan_parser.specs.declared.event.Event.TheVariants.{Nothing}
-use Rattle.rowan_parser.specs.declared.event.Event.TheVariants as event
-use Rattle.rowan_parser.specs.Log.{Seen, Place, Extent, Piece, Is, with_event, with_token, bumped}
-use Rattle.rowan_parser.specs.Log.{extent_of}
-use Rattle.rowan_parser.specs.Log.{complained, completed, begun_at, skipped, stops_here, recovered}
-use Rattle.rowan_parser.specs.Log.{refused_unless, ended}
+use Rattle.rowan_events.specs.declared.event.Event.{Event}
+use Rattle.rowan_events.specs.declared.event.Event.TheVariants.{Nothing}
+use Rattle.rowan_events.specs.declared.event.Event.TheVariants as event
+use Rattle.rowan_events.specs.Log.{Seen, Place, Extent, Piece, Is, with_event, with_token, bumped}
+use Rattle.rowan_events.specs.Log.{extent_of}
+use Rattle.rowan_events.specs.Log.{complained, completed, begun_at, skipped, stops_here, recovered}
+use Rattle.rowan_events.specs.Log.{refused_unless, ended}
 use Rattle.rowan_parser.specs.Shape.{Forest, none, token_then, node_then, joined}
 use Rattle.rowan_parser.specs.Making.{IsBegun, IsEnded, HasItems, HasList, IsListNode}
 use Rattle.rowan_parser.specs.Making.{IsListOf, IsMade, IsErrorNode, tokens}

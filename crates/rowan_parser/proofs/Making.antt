@@ -6,15 +6,15 @@ use Rattle.std.specs.Bool.{if◌then◌else◌}
 use Rattle.std.proofs.lemmas.List.Elements.{All-push}
 use Rattle.std.specs.Prelude.{Some, None}
 use Rattle.rowan_green.specs.declared.green.SyntaxKind.{SyntaxKind}
-use Rattle.rowan_parser.specs.declared.event.Event.{Event}
-use Rattle.rowan_parser.specs.declared.event.Event.TheVariants.{Open, Around, Close, Nothing}
-use Rattle.rowan_parser.specs.declared.event.Event.TheVariants as event
-use Rattle.rowan_parser.specs.Log.{Seen, Place, Extent, Piece, Is, with_event, with_token}
-use Rattle.rowan_parser.specs.Log.{with_joined, bumped, bumped_as, glued, completed, closed_at}
-use Rattle.rowan_parser.specs.Log.{closed_by, outer_at, begun_at, extent_of, place_around}
-use Rattle.rowan_parser.specs.Log.{noted, with_errors, missed}
-use Rattle.rowan_parser.specs.Told.{Told}
-use Rattle.rowan_parser.specs.declared.parser.Spot.TheVariants.{Behind}
+use Rattle.rowan_events.specs.declared.event.Event.{Event}
+use Rattle.rowan_events.specs.declared.event.Event.TheVariants.{Open, Around, Close, Nothing}
+use Rattle.rowan_events.specs.declared.event.Event.TheVariants as event
+use Rattle.rowan_events.specs.Log.{Seen, Place, Extent, Piece, Is, with_event, with_token}
+use Rattle.rowan_events.specs.Log.{with_joined, bumped, bumped_as, glued, completed, closed_at}
+use Rattle.rowan_events.specs.Log.{closed_by, outer_at, begun_at, extent_of, place_around}
+use Rattle.rowan_events.specs.Log.{noted, with_errors, missed}
+use Rattle.rowan_events.specs.Told.{Told}
+use Rattle.rowan_events.specs.declared.parser.Spot.TheVariants.{Behind}
 use Rattle.rowan_parser.specs.Shape.{Step, Forest, none, token_then, joined_then, node_then}
 use Rattle.rowan_parser.specs.Shape.{word, steps, joined, IsPart}
 use Rattle.rowan_parser.specs.Making.{HasNode, IsBegun, IsEnded, HasItems, HasList, IsListNode}

@@ -4,15 +4,15 @@ use Rattle.rowan_green.specs.declared.fault.Fault.{Fault}
 use Rattle.rowan_green.specs.declared.fault.Fault.TheVariants.{TextTooLong, TooManyChildren, CheckpointPast, CheckpointBefore, NothingOpen, NotOneElement, NotANode, OtherKind, NotFound, Memory, UnknownMark, NotOneList}
 use Rattle.rowan_green.specs.declared.utility_types.NodeOrToken.TheVariants.{Node}
 use Rattle.rowan_green.specs.Fits.{byte_limit}
-use Rattle.rowan_green.specs.Path.{tokens as tokens_of}
+use Rattle.rowan_terms.specs.Path.{tokens as tokens_of}
 use Rattle.rowan_green.specs.Term.{NodeTerm}
 use Rattle.rowan_green.specs.Word.{node_word}
 use Rattle.rowan_parser.specs.Building.{WhyRefused}
 use Rattle.rowan_parser.specs.Events.{tree_word, join_some}
 use Rattle.rowan_parser.specs.Parsing.{IsParsed, WhyNoTree}
-use Rattle.rowan_parser.specs.Tokens.{tokens_text, token_terms}
-use Rattle.rowan_parser.specs.declared.event.Event.{Event}
-use Rattle.rowan_parser.specs.declared.lexer.Token.{Token}
+use Rattle.rowan_events.specs.Tokens.{tokens_text, token_terms}
+use Rattle.rowan_events.specs.declared.event.Event.{Event}
+use Rattle.rowan_events.specs.declared.lexer.Token.{Token}
 use Rattle.rowan_lines.specs.declared.syntax_error.SyntaxError.{SyntaxError}
 use Rattle.rowan_parser.specs.declared.tree.Trivia.{Trivia}
 use Rattle.rowan_parser.proofs.Leaves.{tree-text}

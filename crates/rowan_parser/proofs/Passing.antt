@@ -7,8 +7,8 @@ use Rattle.std.proofs.lemmas.List.Sums.{take_while-cons}
 use Rattle.rowan_green.specs.Word.{Symbol, Leaf}
 use Rattle.rowan_parser.specs.Building.{IsAhead}
 use Rattle.rowan_parser.specs.Events.{is_trivia, past, leaves, begins_with, Puts}
-use Rattle.rowan_parser.specs.Tokens.{token_term}
-use Rattle.rowan_parser.specs.declared.lexer.Token.{Token}
+use Rattle.rowan_events.specs.Tokens.{token_term}
+use Rattle.rowan_events.specs.declared.lexer.Token.{Token}
 use Rattle.rowan_parser.specs.declared.tree.Source.{Source}
 
 -- ---- one token

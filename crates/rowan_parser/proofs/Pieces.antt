@@ -2,11 +2,11 @@
 use Rattle.std.proofs.Common.{◌≡◌, ℕ, ◌+◌, ◌≤◌, ◌||◌, Bool, true, false, cond, List, [], ◌∷◌, ◌++◌, map, length, drop, sym, ◌∙◌, ap, append_assoc, append-nil}
 use Rattle.std.proofs.lemmas.List.{map-append, drop_all}
 use Rattle.rowan_parser.specs.Events.{is_trivia}
-use Rattle.rowan_parser.specs.Log.{Piece}
+use Rattle.rowan_events.specs.Log.{Piece}
 use Rattle.rowan_parser.specs.Parsing.{has_line_end, pieces_since}
-use Rattle.rowan_parser.specs.Seen.{piece}
-use Rattle.rowan_parser.specs.declared.lexer.Token.{Token}
-use Rattle.rowan_parser.specs.declared.parser.SeenToken.{SeenToken}
+use Rattle.rowan_events.specs.Seen.{piece}
+use Rattle.rowan_events.specs.declared.lexer.Token.{Token}
+use Rattle.rowan_events.specs.declared.parser.SeenToken.{SeenToken}
 use Rattle.rowan_parser.specs.declared.tree.Trivia.{Trivia}
 
 abbrev here : Bool → ℕ → Bool → Bool → Trivia → Token → List Token → List Piece

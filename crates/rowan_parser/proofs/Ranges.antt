@@ -6,12 +6,12 @@ use Rattle.rowan_green.specs.Span.{Span}
 use Rattle.rowan_parser.specs.Events.{is_trivia}
 use Rattle.rowan_parser.specs.Parsing.{Error, error_value, error_of, lexer_error}
 use Rattle.rowan_parser.specs.Parsing.{ranges_from, range_at}
-use Rattle.rowan_parser.specs.Tokens.{tokens_text}
-use Rattle.rowan_parser.specs.Told.{Told}
-use Rattle.rowan_parser.specs.declared.lexer.LexError.{LexError}
-use Rattle.rowan_parser.specs.declared.lexer.Token.{Token}
+use Rattle.rowan_events.specs.Tokens.{tokens_text}
+use Rattle.rowan_events.specs.Told.{Told}
+use Rattle.rowan_events.specs.declared.lexer.LexError.{LexError}
+use Rattle.rowan_events.specs.declared.lexer.Token.{Token}
 use Rattle.rowan_lines.specs.declared.syntax_error.SyntaxError.{SyntaxError}
-use Rattle.rowan_parser.specs.declared.parser.Spot.{Spot}
+use Rattle.rowan_events.specs.declared.parser.Spot.{Spot}
 use Rattle.rowan_parser.specs.declared.tree.Trivia.{Trivia}
 
 abbrev pub span : ℕ → ℕ → Span

@@ -7,8 +7,8 @@ use Rattle.rowan_green.specs.declared.fault.Fault.{Fault}
 use Rattle.rowan_green.specs.declared.fault.Fault.TheVariants.{TextTooLong, TooManyChildren, CheckpointPast, CheckpointBefore, NothingOpen, NotOneElement, NotANode, OtherKind, NotFound, Memory, UnknownMark, NotOneList}
 use Rattle.rowan_green.specs.Fits.{byte_limit, PassesLimit}
 use Rattle.rowan_green.proofs.Terms.{sum_of_lens-append, length-joined_text}
-use Rattle.rowan_green.proofs.WeaveLemmas.{whole_terms-open}
-use Rattle.rowan_green.proofs.Words.{parts-unique, word_text-parts}
+use Rattle.rowan_terms.proofs.ItemLemmas.{whole_terms-open}
+use Rattle.rowan_terms.proofs.Words.{parts-unique, word_text-parts}
 use Rattle.rowan_green.specs.Term.{Term, joined_text, sum_of_lens}
 use Rattle.rowan_green.specs.Word.{Symbol, Close, Item, Bare, Whole, HasParts, word_text, whole_terms, WhyNoToken, WhyNotClosed, WhyUnfinished}
 use Rattle.rowan_green.specs.declared.utility_types.NodeOrToken.TheVariants.{Node}
@@ -16,8 +16,8 @@ use Rattle.rowan_green.specs.declared.utility_types.NodeOrToken.TheVariants as t
 use Rattle.rowan_parser.specs.Building.{WhyRefused, WhyNotPut, bare_count, IsBuilding, IsBuilt, to_come}
 use Rattle.rowan_parser.specs.Events.{closings, leaves, spelled_by}
 use Rattle.rowan_parser.specs.Shape.{Step, Exit}
-use Rattle.rowan_parser.specs.Tokens.{tokens_text}
-use Rattle.rowan_parser.specs.declared.lexer.Token.{Token}
+use Rattle.rowan_events.specs.Tokens.{tokens_text}
+use Rattle.rowan_events.specs.declared.lexer.Token.{Token}
 use Rattle.rowan_parser.specs.declared.tree.Progress.{Progress}
 use Rattle.rowan_parser.specs.declared.tree.Source.{Source}
 use Rattle.rowan_parser.proofs.Steps.{bare_count-map, tokens_text-append, IsBuilt-terms}

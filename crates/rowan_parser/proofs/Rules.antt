@@ -5,12 +5,12 @@ use Rattle.std.proofs.Common.{◌≡◌, ℕ, ◌<◌, ◌≤◌, IsTrue, List, 
 use Rattle.std.proofs.Common.{length, sym}
 use Rattle.std.proofs.Common.{subst}
 use Rattle.std.specs.Bool.{if◌then◌else◌}
-use Rattle.rowan_parser.specs.declared.event.Event.TheVariants.{Nothing}
-use Rattle.rowan_parser.specs.Log.{Seen, Place, Extent, Is, with_event, bumped, bumped_as, glued}
-use Rattle.rowan_parser.specs.Log.{completed, begun_at, extent_of, place_around, noted}
-use Rattle.rowan_parser.specs.Log.{complained, missed, told_of}
-use Rattle.rowan_parser.specs.declared.parser.Spot.{Spot}
-use Rattle.rowan_parser.specs.declared.parser.Spot.TheVariants.{Here, Behind}
+use Rattle.rowan_events.specs.declared.event.Event.TheVariants.{Nothing}
+use Rattle.rowan_events.specs.Log.{Seen, Place, Extent, Is, with_event, bumped, bumped_as, glued}
+use Rattle.rowan_events.specs.Log.{completed, begun_at, extent_of, place_around, noted}
+use Rattle.rowan_events.specs.Log.{complained, missed, told_of}
+use Rattle.rowan_events.specs.declared.parser.Spot.{Spot}
+use Rattle.rowan_events.specs.declared.parser.Spot.TheVariants.{Here, Behind}
 use Rattle.rowan_parser.specs.Shape.{Forest, none, token_then, joined_then, node_then, joined}
 use Rattle.rowan_parser.specs.Making.{IsBegun, IsEnded, HasItems, HasList, IsListNode, IsMade, init}
 use Rattle.rowan_parser.proofs.Made.{adds_made_item, adds_made_item_and, made_node, made_list}

@@ -4,10 +4,10 @@ use Rattle.std.proofs.Common.{sym, ◌∙◌, ap, arith, append_assoc, length-ap
 use Rattle.std.specs.Prelude.{Some, None, slice_set}
 use Rattle.std.proofs.Math.Seq.{set-append_seam}
 use Rattle.rowan_green.specs.declared.green.SyntaxKind.{SyntaxKind}
-use Rattle.rowan_parser.specs.declared.event.Event.{Event}
-use Rattle.rowan_parser.specs.declared.event.Event.TheVariants.{Open, Around, Close, Nothing}
-use Rattle.rowan_parser.specs.declared.event.Event.TheVariants as event
-use Rattle.rowan_parser.specs.Log.{outer_at, closed_by}
+use Rattle.rowan_events.specs.declared.event.Event.{Event}
+use Rattle.rowan_events.specs.declared.event.Event.TheVariants.{Open, Around, Close, Nothing}
+use Rattle.rowan_events.specs.declared.event.Event.TheVariants as event
+use Rattle.rowan_events.specs.Log.{outer_at, closed_by}
 use Rattle.rowan_parser.specs.Shape.{Step, Enter, Take, TakeAs, Exit, Forest, none, token_then}
 use Rattle.rowan_parser.specs.Shape.{joined_then, node_then, around, enters, steps, word, joined}
 use Rattle.rowan_parser.specs.Shape.{IsPart, IsNode, reach}

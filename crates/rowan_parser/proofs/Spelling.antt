@@ -5,7 +5,7 @@ use Rattle.std.proofs.lemmas.List.{map-append}
 use Rattle.rowan_green.specs.declared.fault.Fault.{Fault}
 use Rattle.rowan_green.specs.declared.green.SyntaxKind.{SyntaxKind}
 use Rattle.rowan_green.specs.Word.{Symbol, Open, Close}
-use Rattle.rowan_parser.specs.declared.lexer.Token.{Token}
+use Rattle.rowan_events.specs.declared.lexer.Token.{Token}
 use Rattle.rowan_parser.specs.declared.tree.Progress.{Progress}
 use Rattle.rowan_parser.specs.declared.tree.Source.{Source}
 use Rattle.rowan_parser.specs.declared.tree.Trivia.{Trivia}

@@ -6,14 +6,14 @@ use Rattle.rowan_green.specs.declared.utility_types.NodeOrToken.TheVariants.{Nod
 use Rattle.rowan_green.specs.declared.utility_types.NodeOrToken.TheVariants as term
 use Rattle.rowan_green.specs.Term.{TokenTerm, NodeTerm, Term, node_of, node_kind}
 use Rattle.rowan_green.specs.Word.{Symbol, Open, Leaf, Close, Item, Bare, Whole, HasParts, HasTerms, word_text, node_word, Closes}
-use Rattle.rowan_green.proofs.WeaveLemmas.{spelled-close}
-use Rattle.rowan_green.proofs.StreamLemmas.{HasTerms-unique}
-use Rattle.rowan_green.proofs.TextLemmas.{text-leaf, text-open, text-closes}
-use Rattle.rowan_green.proofs.Words.{parts-unique, parts-more}
-use Rattle.rowan_parser.specs.declared.lexer.Token.{Token}
+use Rattle.rowan_terms.proofs.ItemLemmas.{spelled-close}
+use Rattle.rowan_builder.proofs.StreamLemmas.{HasTerms-unique}
+use Rattle.rowan_builder.proofs.TextLemmas.{text-leaf, text-open, text-closes}
+use Rattle.rowan_terms.proofs.Words.{parts-unique, parts-more}
+use Rattle.rowan_events.specs.declared.lexer.Token.{Token}
 use Rattle.rowan_parser.specs.declared.tree.Progress.{Progress}
 use Rattle.rowan_parser.specs.declared.tree.Source.{Source}
-use Rattle.rowan_parser.specs.Tokens.{token_term, tokens_text}
+use Rattle.rowan_events.specs.Tokens.{token_term, tokens_text}
 use Rattle.rowan_parser.specs.Building.{bare_count, IsAhead, IsBuilding, IsBuilt}
 use Rattle.rowan_parser.specs.Events.{one_leaf}
 

@@ -12,8 +12,8 @@ use Rattle.rowan_parser.specs.Events.{is_trivia, is_attached, is_pair, outside, 
 use Rattle.rowan_lines.specs.Lines.{line_ends}
 use Rattle.rowan_parser.specs.Outside.{is_blank, outside_of}
 use Rattle.rowan_green.specs.declared.green.SyntaxKind.{SyntaxKind}
-use Rattle.rowan_parser.specs.declared.lexer.Token.{Token}
-use Rattle.rowan_parser.specs.declared.token_set.TokenSet.{TokenSet}
+use Rattle.rowan_events.specs.declared.lexer.Token.{Token}
+use Rattle.rowan_events.specs.declared.token_set.TokenSet.{TokenSet}
 use Rattle.rowan_parser.specs.declared.tree.Source.{Source}
 use Rattle.rowan_parser.specs.declared.tree.Trivia.{Trivia}
 use Rattle.rowan_parser.proofs.Passing.{run_length}

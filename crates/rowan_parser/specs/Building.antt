@@ -9,12 +9,12 @@ use Rattle.rowan_green.specs.Fits.{byte_limit}
 use Rattle.rowan_green.specs.Term.{NodeTerm, node_kind}
 use Rattle.rowan_green.specs.Word.{Symbol, Close, Item, Bare, Whole, HasParts, ClosingPasses}
 use Rattle.rowan_green.specs.Word.{word_text}
-use Rattle.rowan_parser.specs.declared.lexer.Token.{Token}
+use Rattle.rowan_events.specs.declared.lexer.Token.{Token}
 use Rattle.rowan_parser.specs.declared.tree.Progress.{Progress}
 use Rattle.rowan_parser.specs.declared.tree.Source.{Source}
 use Rattle.rowan_parser.specs.Events.{is_trivia, past, spelled_by}
 use Rattle.rowan_parser.specs.Shape.{Step}
-use Rattle.rowan_parser.specs.Tokens.{tokens_text}
+use Rattle.rowan_events.specs.Tokens.{tokens_text}
 
 -- ---- refusals
 

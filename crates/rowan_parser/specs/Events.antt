@@ -7,17 +7,17 @@ use Rattle.rowan_green.specs.declared.green.SyntaxKind.{SyntaxKind}
 use Rattle.rowan_green.specs.Term.{token_of}
 use Rattle.rowan_green.specs.Word.{Symbol, Leaf}
 use Rattle.rowan_green.specs.Word as word
-use Rattle.rowan_parser.specs.declared.event.Event.{Event}
-use Rattle.rowan_parser.specs.declared.event.Event.TheVariants.{Open, Around, Close, Nothing}
-use Rattle.rowan_parser.specs.declared.event.Event.TheVariants as event
-use Rattle.rowan_parser.specs.declared.lexer.Token.{Token}
-use Rattle.rowan_parser.specs.declared.token_set.TokenSet.{TokenSet}
+use Rattle.rowan_events.specs.declared.event.Event.{Event}
+use Rattle.rowan_events.specs.declared.event.Event.TheVariants.{Open, Around, Close, Nothing}
+use Rattle.rowan_events.specs.declared.event.Event.TheVariants as event
+use Rattle.rowan_events.specs.declared.lexer.Token.{Token}
+use Rattle.rowan_events.specs.declared.token_set.TokenSet.{TokenSet}
 use Rattle.rowan_parser.specs.declared.tree.Trivia.{Trivia}
 use Rattle.rowan_parser.specs.Outside.{outside_of}
-use Rattle.rowan_parser.specs.Seen.{has}
+use Rattle.rowan_events.specs.Seen.{has}
 use Rattle.rowan_parser.specs.Shape.{Step, Enter, Take, TakeAs, Exit, steps as steps_of}
 use Rattle.rowan_parser.specs.Shape.{Forest, none, token_then, joined_then, node_then}
-use Rattle.rowan_parser.specs.Tokens.{token_term, tokens_text}
+use Rattle.rowan_events.specs.Tokens.{token_term, tokens_text}
 
 -- ---- trivia
 

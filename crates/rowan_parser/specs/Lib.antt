@@ -1,11 +1,11 @@
 pub mod Building
 pub mod Events
-pub mod Log
 pub mod Making
 pub mod Outside
 pub mod Parsing
-pub mod Running
-pub mod Seen
 pub mod Shape
-pub mod Tokens
-pub mod Told
+pub use Rattle.rowan_events.specs.Log
+pub use Rattle.rowan_events.specs.Running
+pub use Rattle.rowan_events.specs.Seen
+pub use Rattle.rowan_events.specs.Tokens
+pub use Rattle.rowan_events.specs.Told

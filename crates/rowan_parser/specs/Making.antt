@@ -3,10 +3,10 @@
 -- then.
 use Rattle.std.specs.Prelude.{◌≡◌, ◌⊎◌, ℕ, zero, suc, ◌+◌, IsTrue, All, List, [], ◌∷◌, ◌++◌, length}
 use Rattle.rowan_green.specs.declared.green.SyntaxKind.{SyntaxKind}
-use Rattle.rowan_parser.specs.Log.{Seen, Place, Extent, closed_at}
+use Rattle.rowan_events.specs.Log.{Seen, Place, Extent, closed_at}
 use Rattle.rowan_parser.specs.Shape.{Forest, none, token_then, joined_then, node_then, joined}
 use Rattle.rowan_parser.specs.Shape.{IsPart, IsNode}
-use Rattle.rowan_parser.specs.declared.event.Event.{Event}
+use Rattle.rowan_events.specs.declared.event.Event.{Event}
 
 -- ---- one node
 

@@ -2,7 +2,7 @@
 use Rattle.std.specs.Prelude.{ℕ, suc, ◌&&◌, ltb, Bool, cond, not, List, [], ◌∷◌}
 use Rattle.std.specs.List.{list_any}
 use Rattle.rowan_lines.specs.Lines.{line_ends}
-use Rattle.rowan_parser.specs.declared.lexer.Token.{Token}
+use Rattle.rowan_events.specs.declared.lexer.Token.{Token}
 
 -- a blank line: two lines end in a token that is not attached
 abbrev pub is_blank : (Token → Bool) → Token → Bool

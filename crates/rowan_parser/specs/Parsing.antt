@@ -9,24 +9,24 @@ use Rattle.rowan_green.specs.declared.fault.Fault.{Fault}
 use Rattle.rowan_green.specs.declared.fault.Fault.TheVariants.{TextTooLong, TooManyChildren, Memory}
 use Rattle.rowan_green.specs.declared.utility_types.NodeOrToken.TheVariants.{Node}
 use Rattle.rowan_green.specs.Fits.{byte_limit}
-use Rattle.rowan_green.specs.Path.{tokens as tokens_of}
+use Rattle.rowan_terms.specs.Path.{tokens as tokens_of}
 use Rattle.rowan_green.specs.Span.{Span}
 use Rattle.rowan_green.specs.Term.{NodeTerm}
 use Rattle.rowan_green.specs.Word.{Symbol, node_word, word_text}
 use Rattle.rowan_parser.specs.Building.{HasTooManyChildren}
 use Rattle.rowan_parser.specs.Events.{is_trivia, tree_word, join_some}
-use Rattle.rowan_parser.specs.Log.{Seen, Piece}
-use Rattle.rowan_parser.specs.Running.{Makes}
-use Rattle.rowan_parser.specs.Seen.{started}
-use Rattle.rowan_parser.specs.Told.{Told}
-use Rattle.rowan_parser.specs.Tokens.{tokens_text, token_terms, AreSaid}
-use Rattle.rowan_parser.specs.declared.event.Event.{Event}
-use Rattle.rowan_parser.specs.declared.lexer.LexError.{LexError}
-use Rattle.rowan_parser.specs.declared.lexer.Lexeme.{Lexeme}
-use Rattle.rowan_parser.specs.declared.lexer.Token.{Token}
+use Rattle.rowan_events.specs.Log.{Seen, Piece}
+use Rattle.rowan_events.specs.Running.{Makes}
+use Rattle.rowan_events.specs.Seen.{started}
+use Rattle.rowan_events.specs.Told.{Told}
+use Rattle.rowan_events.specs.Tokens.{tokens_text, token_terms, AreSaid}
+use Rattle.rowan_events.specs.declared.event.Event.{Event}
+use Rattle.rowan_events.specs.declared.lexer.LexError.{LexError}
+use Rattle.rowan_events.specs.declared.lexer.Lexeme.{Lexeme}
+use Rattle.rowan_events.specs.declared.lexer.Token.{Token}
 use Rattle.rowan_lines.specs.declared.syntax_error.SyntaxError.{SyntaxError}
-use Rattle.rowan_parser.specs.declared.parser.Spot.{Spot}
-use Rattle.rowan_parser.specs.declared.parser.Spot.TheVariants.{Here, Behind, Given, Over}
+use Rattle.rowan_events.specs.declared.parser.Spot.{Spot}
+use Rattle.rowan_events.specs.declared.parser.Spot.TheVariants.{Here, Behind, Given, Over}
 use Rattle.rowan_parser.specs.declared.tree.Trivia.{Trivia}
 
 -- ---- what a grammar sees

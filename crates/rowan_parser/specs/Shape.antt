@@ -1,10 +1,10 @@
 -- What events make: nodes that are entered and left, tokens that are taken, and the forest that
 -- these are the word of.
 use Rattle.std.specs.Prelude.{◌≡◌, ℕ, zero, suc, ◌+◌, ◌-◌, ◌<◌, List, [], ◌∷◌, ◌++◌, length}
-use Rattle.rowan_parser.specs.Log.{outer_at}
-use Rattle.rowan_parser.specs.declared.event.Event.{Event}
-use Rattle.rowan_parser.specs.declared.event.Event.TheVariants.{Open, Around, Close, Nothing}
-use Rattle.rowan_parser.specs.declared.event.Event.TheVariants as event
+use Rattle.rowan_events.specs.Log.{outer_at}
+use Rattle.rowan_events.specs.declared.event.Event.{Event}
+use Rattle.rowan_events.specs.declared.event.Event.TheVariants.{Open, Around, Close, Nothing}
+use Rattle.rowan_events.specs.declared.event.Event.TheVariants as event
 
 pub data Step : Type 0 where
   Enter : ℕ → Step

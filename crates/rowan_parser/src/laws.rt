@@ -5,21 +5,21 @@ ghost use Rattle.rowan_green.specs.Term.{NodeTerm};
 ghost use Rattle.rowan_green.specs.Word.{node_word, word_text, word_tokens};
 ghost use Rattle.rowan_green.specs.declared.green.SyntaxKind.{SyntaxKind};
 ghost use Rattle.rowan_parser.specs.Events.{tree_word, spelled_by, grown, after, seen, join_some};
-ghost use Rattle.rowan_parser.specs.Log.{closed_by, outer_at};
+ghost use Rattle.rowan_events.specs.Log.{closed_by, outer_at};
 ghost use Rattle.rowan_parser.specs.Parsing.{IsRun, IsParsed};
 ghost use Rattle.rowan_parser.specs.Shape.{Forest, none, token_then, joined_then, node_then};
 ghost use Rattle.rowan_parser.specs.Shape.{joined, IsPart, IsNode, steps, token_count};
-ghost use Rattle.rowan_parser.specs.Tokens.{tokens_text, token_terms};
-ghost use Rattle.rowan_parser.specs.declared.event.Event.{Event};
-ghost use Rattle.rowan_parser.specs.declared.event.Event.TheVariants.{Open, Around, Close, Nothing};
-ghost use Rattle.rowan_parser.specs.declared.event.Event.TheVariants as event;
-ghost use Rattle.rowan_parser.specs.declared.lexer.Token.{Token};
+ghost use Rattle.rowan_events.specs.Tokens.{tokens_text, token_terms};
+ghost use Rattle.rowan_events.specs.declared.event.Event.{Event};
+ghost use Rattle.rowan_events.specs.declared.event.Event.TheVariants.{Open, Around, Close, Nothing};
+ghost use Rattle.rowan_events.specs.declared.event.Event.TheVariants as event;
+ghost use Rattle.rowan_events.specs.declared.lexer.Token.{Token};
 ghost use Rattle.rowan_lines.specs.declared.syntax_error.SyntaxError.{SyntaxError};
 ghost use Rattle.rowan_parser.specs.declared.tree.Trivia.{Trivia};
 
-use crate::lexer::Lexer;
-use crate::parser::Parser;
 use rowan::Language;
+use rowan_events::lexer::Lexer;
+use rowan_events::parser::Parser;
 
 /// A token that is taken is a part of what is made, and so are tokens that are joined. A marker
 /// that is given up makes nothing. Parts that follow each other are one, and a node that ended is

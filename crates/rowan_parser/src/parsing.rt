@@ -1,26 +1,26 @@
 //! From a text to its tree, by a lexer and a grammar.
 ghost use Rattle.std.specs.Prelude.{◌≡◌, ◌+◌, ◌<◌, ◌≤◌, ◌++◌, ◌∷◌, length, map};
 ghost use Rattle.std.specs.Prelude.{IfOk, IfErr, OnOk, List, false};
-ghost use Rattle.rowan_green.specs.Cache.{first_seen};
+ghost use Rattle.rowan_builder.specs.Cache.{first_seen};
 ghost use Rattle.rowan_green.specs.Fits.{byte_limit};
-ghost use Rattle.rowan_green.specs.Stream.{subterms, Grows};
+ghost use Rattle.rowan_builder.specs.Stream.{subterms, Grows};
 ghost use Rattle.rowan_green.specs.Term.{node_kind, node_text};
 ghost use Rattle.rowan_green.specs.declared.utility_types.NodeOrToken.TheVariants.{Node};
 ghost use Rattle.rowan_parser.specs.Parsing.{has_line_end, pieces_since, pieces, range_at};
 ghost use Rattle.rowan_parser.specs.Parsing.{error_value, error_of, IsRun, WhyNotRun};
 ghost use Rattle.rowan_parser.specs.Parsing.{IsParsed, WhyNotParsed, WhyNoTree};
-ghost use Rattle.rowan_parser.specs.Seen.{piece};
-ghost use Rattle.rowan_parser.specs.Tokens.{tokens_text};
-ghost use Rattle.rowan_parser.specs.declared.lexer.Token.{Token};
+ghost use Rattle.rowan_events.specs.Seen.{piece};
+ghost use Rattle.rowan_events.specs.Tokens.{tokens_text};
+ghost use Rattle.rowan_events.specs.declared.lexer.Token.{Token};
 
-use crate::event::Event;
-use crate::lexer::{Lexed, Lexer, Token, lex};
 use crate::parsed::Parse;
-use crate::parser::{Complaint, Parser, SeenToken, Spot};
 use crate::places::{empty_at, end_behind, lexer_errors, nth_range, token_ranges};
-use crate::running::{Made, run_grammar};
 use crate::tree::{Source, Trivia, build_tree_with, is_trivia};
 use rowan::{Fault, Language, NodeCache, TextRange, TextSize};
+use rowan_events::event::Event;
+use rowan_events::lexer::{Lexed, Lexer, Token, lex};
+use rowan_events::parser::{Complaint, Parser, SeenToken, Spot};
+use rowan_events::running::{Made, run_grammar};
 use rowan_lines::SyntaxError;
 use std::alloc::Global;
 

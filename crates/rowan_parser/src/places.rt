@@ -4,11 +4,11 @@ ghost use Rattle.std.specs.Prelude.{IfOk, IfErr, OnOk};
 ghost use Rattle.rowan_green.specs.Fits.{byte_limit};
 ghost use Rattle.rowan_parser.specs.Parsing.{ranges_from, empty_at, end_behind, nth_range};
 ghost use Rattle.rowan_parser.specs.Parsing.{error_value, lexer_error};
-ghost use Rattle.rowan_parser.specs.Tokens.{tokens_text, lies_within};
+ghost use Rattle.rowan_events.specs.Tokens.{tokens_text, lies_within};
 
-use crate::lexer::{LexError, Token};
 use crate::tree::{Trivia, is_trivia};
 use rowan::{Fault, TextRange, TextSize};
+use rowan_events::lexer::{LexError, Token};
 use rowan_lines::SyntaxError;
 use std::alloc::Global;
 

@@ -3,29 +3,29 @@ ghost use Rattle.std.specs.Prelude.{◌≡◌, ◌+◌, ◌-◌, ◌<◌, ◌≤
 ghost use Rattle.std.specs.Prelude.{ℕ, OnOk, OnErr, IsTrue, false, cond, take, drop, ltb};
 ghost use Rattle.std.specs.Prelude.{take_while, string_bytes};
 ghost use Rattle.std.specs.List.{list_any};
-ghost use Rattle.rowan_green.specs.Cache.{first_seen};
-ghost use Rattle.rowan_green.specs.Loan.{value_of, word_of, loan_of};
-ghost use Rattle.rowan_green.specs.Path.{tokens};
-ghost use Rattle.rowan_green.specs.Stream.{subterms, Grows, BuildsOn};
+ghost use Rattle.rowan_builder.specs.Cache.{first_seen};
+ghost use Rattle.rowan_builder.specs.Loan.{value_of, word_of, loan_of};
+ghost use Rattle.rowan_terms.specs.Path.{tokens};
+ghost use Rattle.rowan_builder.specs.Stream.{subterms, Grows, BuildsOn};
 ghost use Rattle.rowan_green.specs.Term.{node_kind, node_text};
 ghost use Rattle.rowan_green.specs.Word.{Open, Close, node_word};
 ghost use Rattle.rowan_green.specs.declared.utility_types.NodeOrToken.TheVariants.{Node};
-ghost use Rattle.rowan_parser.specs.Tokens.{tokens_text, token_terms};
+ghost use Rattle.rowan_events.specs.Tokens.{tokens_text, token_terms};
 ghost use Rattle.rowan_parser.specs.Building.{WhyRefused, WhyNotPut, IsAhead, IsBuilding, IsBuilt};
 ghost use Rattle.rowan_parser.specs.Building.{raw, to_come, AreDone};
 ghost use Rattle.rowan_parser.specs.Events.{begun, is_trivia, is_pair, outside, past};
 ghost use Rattle.rowan_parser.specs.Events.{begins_with};
 ghost use Rattle.rowan_lines.specs.Lines.{line_ends};
 ghost use Rattle.rowan_parser.specs.Outside.{outside_of};
-ghost use Rattle.rowan_parser.specs.Seen.{has};
+ghost use Rattle.rowan_events.specs.Seen.{has};
 ghost use Rattle.rowan_parser.specs.Events.{up_to, behind, leaves, one_leaf, closings};
 ghost use Rattle.rowan_parser.specs.Events.{tree_word, join_some, Puts};
 ghost use Rattle.rowan_parser.specs.Shape.{around, enters, steps, Enter};
 
-use crate::event::Event;
-use crate::lexer::Token;
-use crate::token_set::TokenSet;
 use rowan::{Fault, GreenNode, GreenNodeBuilder, NodeCache, SyntaxKind};
+use rowan_events::event::Event;
+use rowan_events::lexer::Token;
+use rowan_events::token_set::TokenSet;
 use std::alloc::Global;
 
 /// Which tokens a grammar does not see, and where they stand.

@@ -1,6 +1,6 @@
 -- The tokens that are kept for the items of a stack.
 use Rattle.std.proofs.Common.{◌≡◌, ℕ, ◌||◌, ◌+◌, Bool, true, false, cond, Option, Some, List, [], ◌∷◌, ◌++◌, reverse, sym, ap, ap₂, ◌∙◌, subst}
-use Rattle.rowan_parser.specs.Seen.{has}
+use Rattle.rowan_events.specs.Seen.{has}
 use Rattle.rowan_predictive.specs.declared.machine.Frame.{Frame}
 use Rattle.rowan_predictive.specs.declared.rules.Entry.{Entry}
 use Rattle.rowan_predictive.specs.declared.rules.Action.TheVariants.{Skip}

@@ -8,8 +8,8 @@ use Rattle.std.proofs.lemmas.List.Elements.{All-nil, All-push}
 use Rattle.std.proofs.lemmas.Bool.{or_cases}
 use Rattle.std.proofs.lemmas.Option.{slice_get_read}
 use Rattle.std.proofs.lemmas.Bool.Decides.{nat_tests}
-use Rattle.rowan_parser.specs.Seen.{has}
-use Rattle.rowan_parser.specs.declared.token_set.TokenSet.{TokenSet}
+use Rattle.rowan_events.specs.Seen.{has}
+use Rattle.rowan_events.specs.declared.token_set.TokenSet.{TokenSet}
 use Rattle.rowan_predictive.specs.declared.refusals.GrammarError.{GrammarError}
 use Rattle.rowan_predictive.specs.declared.refusals.GrammarError.TheVariants.{NoRule, KindTooLarge, Endless, LeftRecursion, BeginsBoth, BeginsAndFollows, EmptyTwice, TooLarge, Memory}
 use Rattle.rowan_predictive.specs.declared.rules.Entry.{Entry}

@@ -6,16 +6,16 @@ use Rattle.rowan_green.specs.Word as word
 use Rattle.rowan_parser.specs.Events.{spelled_by, tree_word}
 use Rattle.std.specs.Borrow.{Bor}
 use Rattle.rowan_parser.specs.Parsing.{Error, error_value, error_of, lexer_error}
-use Rattle.rowan_parser.specs.Tokens.{tokens_text, AreSaid}
-use Rattle.rowan_parser.specs.declared.lexer.LexError.{LexError}
+use Rattle.rowan_events.specs.Tokens.{tokens_text, AreSaid}
+use Rattle.rowan_events.specs.declared.lexer.LexError.{LexError}
 use Rattle.rowan_predictive.specs.declared.rules.Complaint.{Complaint}
 use Rattle.rowan_predictive.specs.Derivations.{Parses}
 use Rattle.rowan_predictive.specs.Whole.{IsRun}
 use Rattle.rowan_parser.specs.Shape.{Forest, Step, steps}
 use Rattle.rowan_parser.specs.Shape as shape
-use Rattle.rowan_parser.specs.declared.event.Event.{Event}
-use Rattle.rowan_parser.specs.declared.lexer.Lexeme.{Lexeme}
-use Rattle.rowan_parser.specs.declared.lexer.Token.{Token}
+use Rattle.rowan_events.specs.declared.event.Event.{Event}
+use Rattle.rowan_events.specs.declared.lexer.Lexeme.{Lexeme}
+use Rattle.rowan_events.specs.declared.lexer.Token.{Token}
 use Rattle.rowan_lines.specs.declared.syntax_error.SyntaxError.{SyntaxError}
 use Rattle.rowan_parser.specs.declared.tree.Trivia.{Trivia}
 use Rattle.rowan_predictive.specs.declared.parsing.Start.{Start}

@@ -6,7 +6,7 @@ use Rattle.std.specs.Int.RustNames.{bit_and}
 use Rattle.std.proofs.lemmas.Bool.{false_from_ne_true}
 use Rattle.std.proofs.lemmas.Bool.Decides.{nat_tests}
 use Rattle.std.proofs.lemmas.Nat.Bits.{bit_at_and, bit_at-zero}
-use Rattle.rowan_parser.specs.Seen.{has}
+use Rattle.rowan_events.specs.Seen.{has}
 use Rattle.rowan_predictive.specs.declared.rules.Entry.{Entry}
 use Rattle.rowan_predictive.specs.Predictive.{Begins, BeginsIn, FollowsIn, IsBefore, IsApart, IsOneOf}
 use Rattle.rowan_predictive.specs.Sets.{first_set, follow_set}

@@ -3,7 +3,7 @@ use Rattle.std.proofs.Common.{◌≡◌, ℕ, ◌≤◌, Bool, true, false, cond
 use Rattle.std.proofs.lemmas.List.{map-append, drop_all}
 use Rattle.rowan_parser.specs.Events.{is_trivia, seen}
 use Rattle.rowan_parser.specs.Parsing.{Error, error_value}
-use Rattle.rowan_parser.specs.declared.lexer.Token.{Token}
+use Rattle.rowan_events.specs.declared.lexer.Token.{Token}
 use Rattle.rowan_lines.specs.declared.syntax_error.SyntaxError.{SyntaxError}
 use Rattle.rowan_parser.specs.declared.tree.Trivia.{Trivia}
 use Rattle.rowan_predictive.specs.Parsing.{kinds_of}

@@ -1,8 +1,8 @@
 -- The actions of a derivation make the forest of it.
 use Rattle.std.proofs.Common.{◌≡◌, ℕ, Bool, true, false, cond, List, [], ◌∷◌, ◌++◌, refl, sym, ap, ap₂, ◌∙◌, append_assoc, append-nil}
 use Rattle.rowan_parser.specs.Shape.{Forest, none, token_then, joined_then, node_then, joined, steps, word, Enter, Take, TakeAs, Exit}
-use Rattle.rowan_parser.specs.declared.event.Event.{Event}
-use Rattle.rowan_parser.specs.declared.event.Event.TheVariants as event
+use Rattle.rowan_events.specs.declared.event.Event.{Event}
+use Rattle.rowan_events.specs.declared.event.Event.TheVariants as event
 use Rattle.rowan_predictive.specs.declared.arranging.Pending.{Pending}
 use Rattle.rowan_predictive.specs.declared.arranging.Pending.TheVariants as pending
 use Rattle.rowan_predictive.specs.declared.rules.Action.{Action}

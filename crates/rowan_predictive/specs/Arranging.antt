@@ -1,7 +1,7 @@
 -- The events of the tree that actions make, from the last action to the first.
 use Rattle.std.specs.Prelude.{ℕ, Bool, true, false, if◌then◌else◌, List, [], ◌∷◌}
-use Rattle.rowan_parser.specs.declared.event.Event.{Event}
-use Rattle.rowan_parser.specs.declared.event.Event.TheVariants as event
+use Rattle.rowan_events.specs.declared.event.Event.{Event}
+use Rattle.rowan_events.specs.declared.event.Event.TheVariants as event
 use Rattle.rowan_predictive.specs.declared.arranging.Pending.{Pending}
 use Rattle.rowan_predictive.specs.declared.arranging.Pending.TheVariants.{Node, Chain}
 use Rattle.rowan_predictive.specs.declared.arranging.Pending.TheVariants as pending

@@ -1,8 +1,8 @@
 -- Why rules are no grammar for which the next token alone says what to do.
 use Rattle.std.specs.Prelude.{◌≡◌, ℕ, ◌≤◌, ◌<◌, ⊤, true, Bool, ◌⊎◌}
 use Rattle.std.specs.Prelude.{List, [], ◌∷◌, ◌++◌, Some, slice_get, length}
-use Rattle.rowan_parser.specs.Seen.{has}
-use Rattle.rowan_parser.specs.declared.token_set.TokenSet.{TokenSet}
+use Rattle.rowan_events.specs.Seen.{has}
+use Rattle.rowan_events.specs.declared.token_set.TokenSet.{TokenSet}
 use Rattle.rowan_predictive.specs.declared.refusals.GrammarError.{GrammarError}
 use Rattle.rowan_predictive.specs.declared.refusals.GrammarError.TheVariants.{NoRule, KindTooLarge}
 use Rattle.rowan_predictive.specs.declared.refusals.GrammarError.TheVariants.{Endless}

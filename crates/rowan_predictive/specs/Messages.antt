@@ -2,7 +2,7 @@
 use Rattle.std.specs.Prelude.{ℕ, zero, suc, ◌==◌, ◌+◌, Bool, true, if◌then◌else◌, codes}
 use Rattle.std.specs.Prelude.{List, [], ◌∷◌, ◌++◌, length, Option, Some, None, slice_get}
 use Rattle.std.specs.Borrow.{Bor}
-use Rattle.rowan_parser.specs.Seen.{has}
+use Rattle.rowan_events.specs.Seen.{has}
 use Rattle.rowan_predictive.specs.declared.rules.Complaint.{Complaint}
 use Rattle.rowan_predictive.specs.declared.rules.Entry.{Entry}
 use Rattle.rowan_predictive.specs.Choice.{may_be_empty}

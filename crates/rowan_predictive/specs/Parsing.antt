@@ -9,15 +9,15 @@ use Rattle.rowan_green.specs.Word.{node_word}
 use Rattle.rowan_parser.specs.Events.{seen, tree_word}
 use Rattle.rowan_parser.specs.Parsing.{Error, error_value, error_of, lexer_error, range_at}
 use Rattle.rowan_parser.specs.Shape.{Forest}
-use Rattle.rowan_parser.specs.Told.{Told}
-use Rattle.rowan_parser.specs.Tokens.{tokens_text, AreSaid}
-use Rattle.rowan_parser.specs.declared.event.Event.{Event}
-use Rattle.rowan_parser.specs.declared.lexer.LexError.{LexError}
-use Rattle.rowan_parser.specs.declared.lexer.Lexeme.{Lexeme}
-use Rattle.rowan_parser.specs.declared.lexer.Token.{Token}
+use Rattle.rowan_events.specs.Told.{Told}
+use Rattle.rowan_events.specs.Tokens.{tokens_text, AreSaid}
+use Rattle.rowan_events.specs.declared.event.Event.{Event}
+use Rattle.rowan_events.specs.declared.lexer.LexError.{LexError}
+use Rattle.rowan_events.specs.declared.lexer.Lexeme.{Lexeme}
+use Rattle.rowan_events.specs.declared.lexer.Token.{Token}
 use Rattle.rowan_lines.specs.declared.syntax_error.SyntaxError.{SyntaxError}
-use Rattle.rowan_parser.specs.declared.parser.Spot.TheVariants.{Here}
-use Rattle.rowan_parser.specs.declared.token_set.TokenSet.{TokenSet}
+use Rattle.rowan_events.specs.declared.parser.Spot.TheVariants.{Here}
+use Rattle.rowan_events.specs.declared.token_set.TokenSet.{TokenSet}
 use Rattle.rowan_parser.specs.declared.tree.Trivia.{Trivia}
 use Rattle.rowan_predictive.specs.declared.parsing.Start.{Start}
 use Rattle.rowan_predictive.specs.declared.rules.Action.{Action}

@@ -5,7 +5,7 @@ use Rattle.rowan_green.specs.Word as green
 use Rattle.rowan_parser.specs.Events.{spelled_by}
 use Rattle.rowan_parser.specs.Shape.{Forest, token_then, joined_then, node_then, word}
 use Rattle.rowan_parser.specs.Shape.{Step, Enter, Take, TakeAs, Exit}
-use Rattle.rowan_parser.specs.declared.lexer.Token.{Token}
+use Rattle.rowan_events.specs.declared.lexer.Token.{Token}
 use Rattle.rowan_parser.specs.declared.tree.Trivia.{Trivia}
 use Rattle.rowan_predictive.specs.declared.rules.Rule.{Rule}
 use Rattle.rowan_predictive.specs.declared.rules.Rule.TheVariants.{Node}

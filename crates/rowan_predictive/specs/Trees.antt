@@ -5,7 +5,7 @@ use Rattle.rowan_green.specs.Word as word
 use Rattle.rowan_parser.specs.Events.{spelled_by}
 use Rattle.rowan_parser.specs.Shape.{Forest, none, token_then, node_then, joined, steps}
 use Rattle.rowan_parser.specs.Shape as shape
-use Rattle.rowan_parser.specs.declared.lexer.Token.{Token}
+use Rattle.rowan_events.specs.declared.lexer.Token.{Token}
 use Rattle.rowan_parser.specs.declared.tree.Trivia.{Trivia}
 use Rattle.rowan_predictive.specs.declared.rules.Action.{Action}
 use Rattle.rowan_predictive.specs.declared.rules.Rule.{Rule}

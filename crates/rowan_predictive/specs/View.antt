@@ -1,6 +1,6 @@
 -- The rules of a grammar, and the state of a machine.
 use Rattle.std.specs.Prelude.{◌≡◌, ℕ, ⊤, List, [], ◌∷◌, map, reverse}
-use Rattle.rowan_parser.specs.Seen.{has}
+use Rattle.rowan_events.specs.Seen.{has}
 use Rattle.rowan_predictive.specs.declared.grammars.Grammar.{Grammar}
 use Rattle.rowan_predictive.specs.declared.machine.Frame.{Frame}
 use Rattle.rowan_predictive.specs.declared.machine.Machine.{Machine}

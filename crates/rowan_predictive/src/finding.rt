@@ -1,6 +1,6 @@
 //! Finds the sets of rules, and how many steps they take. `Grammar::new` tests what it finds.
 ghost use Rattle.std.specs.Prelude.{◌≡◌, ◌<◌, ◌^◌, ℕ, true, List, IfSome, IfOk};
-ghost use Rattle.rowan_parser.specs.Seen.{has};
+ghost use Rattle.rowan_events.specs.Seen.{has};
 ghost use Rattle.rowan_predictive.specs.declared.rules.Rule.{Rule};
 ghost use Rattle.rowan_predictive.specs.declared.rules.Rule.TheVariants.{Seq, Choice};
 ghost use Rattle.rowan_predictive.specs.Causes.{MayFollow, IsSo, AreSo, IsBegun};

@@ -5,7 +5,7 @@ ghost use Rattle.rowan_green.specs.Word.{node_word};
 ghost use Rattle.rowan_green.specs.declared.green.SyntaxKind.{SyntaxKind};
 ghost use Rattle.rowan_parser.specs.Shape.{Forest, Step, Enter, Exit, word};
 ghost use Rattle.rowan_lines.specs.declared.syntax_error.SyntaxError.{SyntaxError};
-ghost use Rattle.rowan_parser.specs.declared.token_set.TokenSet.{TokenSet};
+ghost use Rattle.rowan_events.specs.declared.token_set.TokenSet.{TokenSet};
 ghost use Rattle.rowan_predictive.specs.declared.grammars.Grammar.{Grammar};
 ghost use Rattle.rowan_predictive.specs.declared.rules.Action.{Action};
 ghost use Rattle.rowan_predictive.specs.declared.rules.Action.TheVariants.{Open};

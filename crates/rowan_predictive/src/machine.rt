@@ -1,7 +1,7 @@
 //! The machine: a stack of what is expected, and what was done so far.
 ghost use Rattle.std.specs.Prelude.{◌≡◌, ◌≤◌, ◌∷◌, ℕ, List, reverse, length, slice_get};
 ghost use Rattle.std.specs.Prelude.{OnOk};
-ghost use Rattle.rowan_parser.specs.Seen.{has};
+ghost use Rattle.rowan_events.specs.Seen.{has};
 ghost use Rattle.rowan_predictive.specs.declared.rules.Item.{Item};
 ghost use Rattle.rowan_predictive.specs.declared.rules.Item.TheVariants.{Want};
 ghost use Rattle.rowan_predictive.specs.Choice.{awaits};

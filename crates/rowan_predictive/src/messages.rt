@@ -1,7 +1,7 @@
 //! What is said where a token does not fit.
 ghost use Rattle.std.specs.Prelude.{◌≡◌, ◌<◌, ◌∷◌, [], ◌++◌, ℕ, cond, IfOk, IfErr, OnOk};
 ghost use Rattle.std.specs.Prelude.{string_bytes};
-ghost use Rattle.rowan_parser.specs.Seen.{has};
+ghost use Rattle.rowan_events.specs.Seen.{has};
 ghost use Rattle.rowan_predictive.specs.Messages.{fits_at, fitting, fitting_from, word_of};
 ghost use Rattle.rowan_predictive.specs.Messages.{separator};
 ghost use Rattle.rowan_predictive.specs.Messages.{words_text, message_of};

@@ -1,12 +1,12 @@
 //! From a text to its tree, by a lexer and a grammar that is data.
 ghost use Rattle.std.specs.Prelude.{◌≡◌, ◌<◌, ◌≤◌, ◌++◌, Err, map, length, IfOk, IfErr, OnOk};
-ghost use Rattle.rowan_green.specs.Cache.{first_seen};
+ghost use Rattle.rowan_builder.specs.Cache.{first_seen};
 ghost use Rattle.rowan_green.specs.Fits.{byte_limit};
-ghost use Rattle.rowan_green.specs.Stream.{subterms, Grows};
+ghost use Rattle.rowan_builder.specs.Stream.{subterms, Grows};
 ghost use Rattle.rowan_green.specs.Term.{node_kind, node_text};
 ghost use Rattle.rowan_green.specs.declared.utility_types.NodeOrToken.TheVariants.{Node};
 ghost use Rattle.rowan_parser.specs.Parsing.{error_value, error_of, WhyNotRun, WhyNoTree};
-ghost use Rattle.rowan_parser.specs.Tokens.{tokens_text};
+ghost use Rattle.rowan_events.specs.Tokens.{tokens_text};
 ghost use Rattle.rowan_predictive.specs.Parsing.{told_by, error_by, IsRead, IsParse, IsTreeBy};
 ghost use Rattle.rowan_predictive.specs.View.{entries_in, rules_in};
 

@@ -1,7 +1,7 @@
 //! Why rules are no grammar, so that a message can say it.
 ghost use Rattle.std.specs.Prelude.{◌≡◌, ◌≤◌, true, length, List, IsTrue, IfErr, IfOk, IfSome};
 ghost use Rattle.std.specs.Prelude.{Some};
-ghost use Rattle.rowan_parser.specs.Seen.{has};
+ghost use Rattle.rowan_events.specs.Seen.{has};
 ghost use Rattle.rowan_predictive.specs.declared.refusals.GrammarError.TheVariants.{Memory};
 ghost use Rattle.rowan_predictive.specs.declared.rules.Rule.{Rule};
 ghost use Rattle.rowan_predictive.specs.declared.rules.Rule.TheVariants.{Token};

@@ -1,7 +1,7 @@
 //! Whether the sets of a grammar show that the next token alone says what to do.
 ghost use Rattle.std.specs.Prelude.{◌≡◌, ℕ, true, IsTrue, Option, Some, slice_get};
 ghost use Rattle.rowan_predictive.specs.declared.rules.Entry.{Entry};
-ghost use Rattle.rowan_parser.specs.Seen.{has};
+ghost use Rattle.rowan_events.specs.Seen.{has};
 ghost use Rattle.rowan_predictive.specs.Predictive.{Begins, Follows, MayBeEmpty, BeginsIn};
 ghost use Rattle.rowan_predictive.specs.Predictive.{FollowsIn};
 ghost use Rattle.rowan_predictive.specs.Predictive.{IsBefore, IsApart, AreApart, IsAround};

@@ -7,16 +7,16 @@ use Rattle.rowan_green.specs.declared.fault.Fault.{Fault}
 use Rattle.rowan_green.specs.declared.fault.Fault.TheVariants.{Memory}
 use Rattle.rowan_green.specs.declared.utility_types.NodeOrToken.TheVariants.{Node, Token}
 use Rattle.rowan_green.specs.Term.{node, Term}
-use Rattle.rowan_cursor.specs.Cursor.{Cursor, term_at}
-use Rattle.rowan_cursor.specs.Moves.{children}
-use Rattle.rowan_cursor.specs.Yields.{Rest}
+use Rattle.rowan_table.specs.Cursor.{Cursor, term_at}
+use Rattle.rowan_table.specs.Moves.{children}
+use Rattle.rowan_table.specs.Yields.{Rest}
 use Rattle.rowan.specs.Ast.{YieldsWrappers}
 use Rattle.rowan_program.specs.Program.{value_line, value_lines, value_lines_of, value_lines_at}
-use Rattle.rowan_tool.specs.declared.sexp.ast.Sexp.{Sexp}
-use Rattle.rowan_tool.specs.Eval.{value_at}
-use Rattle.rowan_tool.specs.Wrappers.{node_in}
-use Rattle.rowan_tool.proofs.EvalLemmas.{is_sexp_at, reading_at, sexps_at, readings_of, all-read}
-use Rattle.rowan_tool.proofs.EvalLemmas.{Left, left-start, left-next, left-end, left-refused}
+use Rattle.rowan_sexp.specs.declared.sexp.ast.Sexp.{Sexp}
+use Rattle.rowan_sexp.specs.Eval.{value_at}
+use Rattle.rowan_sexp.specs.Wrappers.{node_in}
+use Rattle.rowan_sexp.proofs.EvalLemmas.{is_sexp_at, reading_at, sexps_at, readings_of, all-read}
+use Rattle.rowan_sexp.proofs.EvalLemmas.{Left, left-start, left-next, left-end, left-refused}
 
 lines-more : (ds : List Cursor) (d : Cursor)
     → value_lines (map reading_at (ds ++ d ∷ [])) ≡ value_lines (map reading_at ds)

@@ -9,12 +9,12 @@ use Rattle.rowan_program.specs.declared.program.Command.{Command}
 use Rattle.rowan_program.specs.declared.program.Command.TheVariants.{Tree, Eval, Json}
 use Rattle.rowan_program.specs.declared.program.Stop.{Stop}
 use Rattle.serde_json.specs.Written.{compact_text}
-use Rattle.rowan_tool.specs.Eval.{Reading, readings}
-use Rattle.rowan_tool.specs.Grammar.{IsParse}
-use Rattle.rowan_tool.specs.Sexp.{kind_of, name_of}
-use Rattle.rowan_api.specs.Printed.{raw_name, tree_json, IsDebugTree}
-use Rattle.rowan_cursor.specs.Cursor.{Cursor, term_at}
-use Rattle.rowan_cursor.specs.Moves.{cursor_at}
+use Rattle.rowan_sexp.specs.Eval.{Reading, readings}
+use Rattle.rowan_sexp.specs.Grammar.{IsParse}
+use Rattle.rowan_sexp.specs.Sexp.{kind_of, name_of}
+use Rattle.rowan_print.specs.Printed.{raw_name, tree_json, IsDebugTree}
+use Rattle.rowan_table.specs.Cursor.{Cursor, term_at}
+use Rattle.rowan_table.specs.Moves.{cursor_at}
 use Rattle.rowan_green.specs.declared.utility_types.NodeOrToken.TheVariants.{Node, Token}
 use Rattle.rowan_green.specs.Fits.{byte_limit}
 use Rattle.rowan_green.specs.Term.{node, NodeTerm, Term}

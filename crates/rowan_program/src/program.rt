@@ -2,7 +2,7 @@
 ghost use Rattle.std.specs.Prelude.{◌≡◌, ◌≢◌, ◌↔◌, ◌<◌, ◌≤◌, [], ◌++◌, length, take, Ok, Err, IfOk};
 ghost use Rattle.std.specs.Prelude.{IfErr, IfSome, IfNone, OnOk, IsUtf8, string_bytes, vec_len};
 ghost use Rattle.std.specs.Io.KnownBytes.{Appends, Consumes, IsAtEnd};
-ghost use Rattle.rowan_cursor.specs.Moves.{cursor_at};
+ghost use Rattle.rowan_table.specs.Moves.{cursor_at};
 ghost use Rattle.rowan_program.specs.Program.{AsksFor, IsCommandLine, IsReadWhole, ReadsAll};
 ghost use Rattle.rowan_program.specs.Program.{ReadsTooMany, IsShown, Shows, IsAnswered, StopsFor};
 ghost use Rattle.rowan_program.specs.Program.{longest_input, value_line, value_lines_at, json_line_at};

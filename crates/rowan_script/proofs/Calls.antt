@@ -5,8 +5,8 @@ use Rattle.rowan_green.specs.declared.fault.Fault.{Fault}
 use Rattle.rowan_green.specs.declared.fault.Fault.TheVariants.{NothingOpen, CheckpointPast}
 use Rattle.rowan_green.specs.declared.fault.Fault.TheVariants.{CheckpointBefore, UnknownMark}
 use Rattle.rowan_green.specs.declared.green.SyntaxKind.{SyntaxKind}
-use Rattle.rowan_green.specs.Builder.{BuilderValue, FinishesNode, WrapsAt}
-use Rattle.rowan_green.specs.Stream.{intern_all}
+use Rattle.rowan_builder.specs.Builder.{BuilderValue, FinishesNode, WrapsAt}
+use Rattle.rowan_builder.specs.Stream.{intern_all}
 use Rattle.rowan_green.specs.Word.{HasNoneOpen, WhyNotClosed, IsPast, IsBeforeOpening}
 use Rattle.rowan_green.specs.Word.{WhyNotWrapped}
 use Rattle.rowan_script.specs.declared.script.calls.Call.{Call}

@@ -3,8 +3,8 @@ use Rattle.std.proofs.Common.{◌≡◌, ℕ, List, [], ◌∷◌, ◌++◌, map
 use Rattle.rowan_green.specs.Term.{NodeTerm, Term, node_of}
 use Rattle.rowan_green.specs.Word.{Symbol, Item, Bare, Whole, spelled, HasParts, whole_terms, count}
 use Rattle.rowan_green.specs.Word.{Closes, Wraps}
-use Rattle.rowan_green.proofs.WeaveLemmas.{whole_terms-map}
-use Rattle.rowan_green.proofs.Words.{parts-unique, not_wholes}
+use Rattle.rowan_terms.proofs.ItemLemmas.{whole_terms-map}
+use Rattle.rowan_terms.proofs.Words.{parts-unique, not_wholes}
 
 wholes-injective : (ts us : List Term) → map Whole ts ≡ map Whole us → ts ≡ us
 wholes-injective ts us e = sym (whole_terms-map ts) ∙ ap whole_terms e ∙ whole_terms-map us

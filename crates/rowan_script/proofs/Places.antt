@@ -7,12 +7,12 @@ use Rattle.std.specs.Option.{option_map}
 use Rattle.std.proofs.lemmas.List.{take-append-drop}
 use Rattle.rowan_green.specs.declared.utility_types.NodeOrToken.TheVariants.{Node, Token}
 use Rattle.rowan_green.specs.Term.{NodeTerm, Term}
-use Rattle.rowan_green.specs.Path.{Path, subterm, subterm_of}
-use Rattle.rowan_cursor.specs.Cursor.{Cursor}
-use Rattle.rowan_cursor.specs.Moves.{Element, element_at, element_if, is_node, cursor_at, numbers}
-use Rattle.rowan_cursor.specs.Moves.{child_paths, children_of, below, element_if_there}
-use Rattle.rowan_cursor.specs.Moves.{element_below}
-use Rattle.rowan_cursor.proofs.PathLemmas.{subterm-child, subterm_of-append}
+use Rattle.rowan_terms.specs.Path.{Path, subterm, subterm_of}
+use Rattle.rowan_table.specs.Cursor.{Cursor}
+use Rattle.rowan_table.specs.Moves.{Element, element_at, element_if, is_node, cursor_at, numbers}
+use Rattle.rowan_table.specs.Moves.{child_paths, children_of, below, element_if_there}
+use Rattle.rowan_table.specs.Moves.{element_below}
+use Rattle.rowan_table.proofs.PathLemmas.{subterm-child, subterm_of-append}
 
 -- ---- lists of places
 

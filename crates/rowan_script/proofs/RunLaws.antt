@@ -7,16 +7,16 @@ use Rattle.std.specs.List.{flat_map}
 use Rattle.rowan_green.specs.declared.fault.Fault.{Fault}
 use Rattle.rowan_green.specs.declared.utility_types.NodeOrToken.TheVariants.{Node as node_term}
 use Rattle.rowan_green.specs.declared.utility_types.NodeOrToken.TheVariants.{Token as token_term}
-use Rattle.rowan_green.specs.Builder.{BuilderValue}
-use Rattle.rowan_green.specs.Cache.{CacheValue, intern}
-use Rattle.rowan_green.specs.Path.{tokens}
-use Rattle.rowan_green.specs.Stream.{intern_all, BuildsOn}
+use Rattle.rowan_builder.specs.Builder.{BuilderValue}
+use Rattle.rowan_builder.specs.Cache.{CacheValue, intern}
+use Rattle.rowan_terms.specs.Path.{tokens}
+use Rattle.rowan_builder.specs.Stream.{intern_all, BuildsOn}
 use Rattle.rowan_green.specs.Term.{TokenTerm, NodeTerm, Term}
 use Rattle.rowan_green.specs.Word.{Symbol, Open, Leaf, Close, IsFinished, word_text, word_tokens}
-use Rattle.rowan_green.proofs.LeafLaws.{word_text-tokens, tokens-leaf, tokens-open, tokens-closes}
-use Rattle.rowan_green.proofs.LeafLaws.{tokens-wrap, tokens-finished}
-use Rattle.rowan_green.proofs.StreamLemmas.{BuildsOn-same, BuildsOn-trans, BuildsOn-adds}
-use Rattle.rowan_green.proofs.StreamLemmas.{BuildsOn-opens, BuildsOn-finishes, BuildsOn-wraps}
+use Rattle.rowan_terms.proofs.LeafLaws.{word_text-tokens, tokens-leaf, tokens-open, tokens-closes}
+use Rattle.rowan_terms.proofs.LeafLaws.{tokens-wrap, tokens-finished}
+use Rattle.rowan_builder.proofs.StreamLemmas.{BuildsOn-same, BuildsOn-trans, BuildsOn-adds}
+use Rattle.rowan_builder.proofs.StreamLemmas.{BuildsOn-opens, BuildsOn-finishes, BuildsOn-wraps}
 use Rattle.rowan_script.specs.declared.script.calls.Call.{Call}
 use Rattle.rowan_script.specs.declared.script.calls.Call.TheVariants.{Token, StartNode, FinishNode, Mark}
 use Rattle.rowan_script.specs.declared.script.calls.Call.TheVariants.{StartNodeAt, StartNodeAtCheckpoint}

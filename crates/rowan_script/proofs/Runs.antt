@@ -3,9 +3,9 @@ use Rattle.std.proofs.Common.{◌≡◌, ◌+◌, ◌<◌, List, [], ◌∷◌, 
 use Rattle.std.proofs.Common.{refl, sym, ◌∙◌, ap, subst, append_assoc}
 use Rattle.std.proofs.lemmas.Grind.{fold-append}
 use Rattle.std.proofs.lemmas.List.{append-nil, take_more}
-use Rattle.rowan_green.specs.Builder.{BuilderValue}
-use Rattle.rowan_green.specs.Cache.{intern}
-use Rattle.rowan_green.specs.Stream.{intern_all}
+use Rattle.rowan_builder.specs.Builder.{BuilderValue}
+use Rattle.rowan_builder.specs.Cache.{intern}
+use Rattle.rowan_builder.specs.Stream.{intern_all}
 use Rattle.rowan_green.specs.Term.{Term}
 use Rattle.rowan_green.specs.Word.{Symbol}
 use Rattle.rowan_script.specs.declared.script.calls.Call.{Call}

@@ -2,7 +2,7 @@
 use Rattle.std.proofs.Common.{◌≡◌, ℕ, ◌<◌, ◌+◌, List, [], ◌∷◌, ◌++◌, length, take, get_or, refl}
 use Rattle.std.proofs.Common.{sym, ◌∙◌, ap, subst}
 use Rattle.std.proofs.lemmas.List.{take_more}
-use Rattle.rowan_cursor.specs.Moves.{Element}
+use Rattle.rowan_table.specs.Moves.{Element}
 use Rattle.rowan_script.specs.declared.script.steps.Report.{Report}
 use Rattle.rowan_script.specs.declared.script.steps.Step.{Step}
 use Rattle.rowan_script.specs.Trace.{IsReport, element_after, last_element, ReportsInTurn, Trace}

@@ -1,7 +1,7 @@
 -- The report of a call that finds an element.
 use Rattle.std.specs.Prelude.{Result, Ok, Err, Option, Some, None}
 use Rattle.rowan_green.specs.declared.fault.Fault.{Fault}
-use Rattle.rowan_cursor.specs.Moves.{Element}
+use Rattle.rowan_table.specs.Moves.{Element}
 use Rattle.rowan_script.specs.declared.script.steps.Report.{Report}
 use Rattle.rowan_script.specs.declared.script.steps.Report.TheVariants.{Moved, Nowhere, Refused}
 

@@ -1,8 +1,8 @@
 -- Runs: what a list of calls does to a builder. Its word is rewritten, and its cache is asked for
 -- what the calls add and close.
 use Rattle.std.specs.Prelude.{◌≡◌, ℕ, List}
-use Rattle.rowan_green.specs.Builder.{BuilderValue}
-use Rattle.rowan_green.specs.Stream.{intern_all}
+use Rattle.rowan_builder.specs.Builder.{BuilderValue}
+use Rattle.rowan_builder.specs.Stream.{intern_all}
 use Rattle.rowan_script.specs.declared.script.calls.Call.{Call}
 use Rattle.rowan_script.specs.declared.script.calls.Outcome.{Outcome}
 use Rattle.rowan_script.specs.Rewriting.{Performs, Rewrites}

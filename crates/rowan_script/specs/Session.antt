@@ -4,11 +4,11 @@ use Rattle.std.specs.Prelude.{◌≡◌, ℕ, List, [], Result, Ok, Err, IfOk, I
 use Rattle.rowan_green.specs.declared.fault.Fault.{Fault}
 use Rattle.rowan_green.specs.declared.fault.Fault.TheVariants.{Memory}
 use Rattle.rowan_green.specs.declared.utility_types.NodeOrToken.TheVariants.{Node}
-use Rattle.rowan_green.specs.Builder.{BuilderValue}
-use Rattle.rowan_green.specs.Cache.{CacheValue}
+use Rattle.rowan_builder.specs.Builder.{BuilderValue}
+use Rattle.rowan_builder.specs.Cache.{CacheValue}
 use Rattle.rowan_green.specs.Term.{NodeTerm}
 use Rattle.rowan_green.specs.Word.{Symbol, IsFinished, WhyUnfinished}
-use Rattle.rowan_cursor.specs.Cursor.{Cursor}
+use Rattle.rowan_table.specs.Cursor.{Cursor}
 use Rattle.rowan_script.specs.declared.script.calls.Call.{Call}
 use Rattle.rowan_script.specs.declared.script.answers.Session.{Session}
 use Rattle.rowan_script.specs.declared.script.steps.Step.{Step}

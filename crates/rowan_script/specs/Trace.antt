@@ -10,16 +10,16 @@ use Rattle.std.specs.Option.{option_map, unwrap_or}
 use Rattle.rowan_green.specs.declared.fault.Fault.{Fault}
 use Rattle.rowan_green.specs.declared.fault.Fault.TheVariants.{Memory}
 use Rattle.rowan_green.specs.declared.utility_types.NodeOrToken.TheVariants.{Node, Token}
-use Rattle.rowan_green.specs.Replacements.{Replacement}
+use Rattle.rowan_terms.specs.Replacements.{Replacement}
 use Rattle.rowan_green.specs.Span.{Holds}
 use Rattle.rowan_green.specs.Term.{NodeTerm, Term}
-use Rattle.rowan_cursor.specs.Cursor.{Cursor, text_range}
-use Rattle.rowan_cursor.specs.Moves.{Element, place_of, tree_top, parent, first_child, last_child}
-use Rattle.rowan_cursor.specs.Moves.{first_child_or_token, last_child_or_token, next_sibling}
-use Rattle.rowan_cursor.specs.Moves.{prev_sibling, next_sibling_or_token, prev_sibling_or_token}
-use Rattle.rowan_cursor.specs.Moves.{first_token, last_token, next_token, prev_token}
-use Rattle.rowan_cursor.specs.Replacement.{IsReplacement, WhyNoReplacement}
-use Rattle.rowan_cursor.specs.Search.{LiesIn, FindsChild, IsCovering, tokens_at}
+use Rattle.rowan_table.specs.Cursor.{Cursor, text_range}
+use Rattle.rowan_table.specs.Moves.{Element, place_of, tree_top, parent, first_child, last_child}
+use Rattle.rowan_table.specs.Moves.{first_child_or_token, last_child_or_token, next_sibling}
+use Rattle.rowan_table.specs.Moves.{prev_sibling, next_sibling_or_token, prev_sibling_or_token}
+use Rattle.rowan_table.specs.Moves.{first_token, last_token, next_token, prev_token}
+use Rattle.rowan_table.specs.Replacement.{IsReplacement, WhyNoReplacement}
+use Rattle.rowan_table.specs.Search.{LiesIn, FindsChild, IsCovering, tokens_at}
 use Rattle.rowan_script.specs.declared.script.steps.Report.{Report}
 use Rattle.rowan_script.specs.declared.script.steps.Report.TheVariants.{Moved, Nowhere, Replaced, Refused}
 use Rattle.rowan_script.specs.declared.script.steps.Step.{Step}

@@ -8,15 +8,15 @@ mod steps;
 mod traces;
 
 ghost use Rattle.std.specs.Prelude.{◌≡◌, IfOk, IfErr, OnErr};
-ghost use Rattle.rowan_green.specs.Loan.{value_of, word_of, loan_of};
-ghost use Rattle.rowan_green.specs.Stream.{BuildsOn};
+ghost use Rattle.rowan_builder.specs.Loan.{value_of, word_of, loan_of};
+ghost use Rattle.rowan_builder.specs.Stream.{BuildsOn};
 ghost use Rattle.rowan_script.specs.Rewriting.{Rewrites};
 ghost use Rattle.rowan_script.specs.Run.{Advances, Run};
 
 pub use answers::Session;
 pub use calls::{Call, Outcome};
 pub use places::element_at;
-use rowan_green::builder::{CacheHome, Checkpoint, GreenNodeBuilder};
+use rowan_builder::builder::{CacheHome, Checkpoint, GreenNodeBuilder};
 use rowan_green::fault::Fault;
 pub use sessions::session;
 use std::alloc::Global;

@@ -12,27 +12,27 @@ use Rattle.rowan_green.specs.declared.fault.Fault.TheVariants.{TextTooLong, Memo
 use Rattle.rowan_green.specs.declared.utility_types.NodeOrToken.TheVariants.{Node, Token}
 use Rattle.rowan_green.specs.Edits.{replaced}
 use Rattle.rowan_green.specs.Fits.{Fits, FitsNode, PassesLimit}
-use Rattle.rowan_green.specs.Path.{Path, subterm, offset, range, len_of, put}
+use Rattle.rowan_terms.specs.Path.{Path, subterm, offset, range, len_of, put}
 use Rattle.rowan_green.specs.Search.{child_start, IsChildAt}
 use Rattle.rowan_green.specs.Span.{Span}
 use Rattle.rowan_green.specs.Term.{NodeTerm, TokenTerm, Term, term_kind, node_of, node_kind}
 use Rattle.rowan_green.specs.Term.{node_children, node_len}
-use Rattle.rowan_green.proofs.Paths.{offset-empty}
-use Rattle.rowan_green.proofs.PutLemmas.{put-child}
-use Rattle.rowan_green.proofs.PutLimits.{unfit-put}
+use Rattle.rowan_terms.proofs.Paths.{offset-empty}
+use Rattle.rowan_terms.proofs.PutLemmas.{put-child}
+use Rattle.rowan_terms.proofs.PutLimits.{unfit-put}
 use Rattle.rowan_green.proofs.SearchLemmas.{has-range}
-use Rattle.rowan_cursor.specs.Cursor.{Cursor, kind}
-use Rattle.rowan_cursor.specs.Moves.{children_of, is_node}
-use Rattle.rowan_cursor.specs.Search.{IsRangeChild}
-use Rattle.rowan_cursor.proofs.PathLemmas.{offset-child, subterm-child}
+use Rattle.rowan_table.specs.Cursor.{Cursor, kind}
+use Rattle.rowan_table.specs.Moves.{children_of, is_node}
+use Rattle.rowan_table.specs.Search.{IsRangeChild}
+use Rattle.rowan_table.proofs.PathLemmas.{offset-child, subterm-child}
 use Rattle.rowan.specs.Pointer.{is_node_of}
 use Rattle.rowan.proofs.ChainLemmas.{size_at, range_child-smaller, range_child-place}
 use Rattle.rowan_tool.specs.declared.sexp.reparse.Ancestor.{Ancestor}
 use Rattle.rowan_tool.specs.Ancestors.{path_below, AreAncestors, IsReparseAt, WhyNoReparseAt}
-use Rattle.rowan_tool.specs.Casts.{is_list}
-use Rattle.rowan_tool.specs.Grammar.{IsOneList}
+use Rattle.rowan_sexp.specs.Casts.{is_list}
+use Rattle.rowan_sexp.specs.Grammar.{IsOneList}
 use Rattle.rowan_tool.specs.Reparse.{IsListAt, is_list_at, HasNoList, WhyNoList, WhyNoReparse}
-use Rattle.rowan_tool.specs.Sexp.{kind_of}
+use Rattle.rowan_sexp.specs.Sexp.{kind_of}
 use Rattle.rowan_tool.proofs.ListReparsed.{HasList, kind-list, no-list, no-replacement}
 use Rattle.rowan_tool.proofs.ListSearch.{IsSearching, search-begins, search-goes-on, search-ends}
 use Rattle.rowan_tool.proofs.ListSearch.{search-ends-token, has-no-list}

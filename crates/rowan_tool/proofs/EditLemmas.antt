@@ -15,19 +15,19 @@ use Rattle.rowan_green.specs.declared.fault.Fault.TheVariants.{OtherKind, NotFou
 use Rattle.rowan_green.specs.declared.fault.Fault.TheVariants.{UnknownMark, NotOneList}
 use Rattle.rowan_green.specs.declared.utility_types.NodeOrToken.TheVariants.{Node}
 use Rattle.rowan_green.specs.Fits.{byte_limit, Fits}
-use Rattle.rowan_green.specs.Path.{Path, subterm, range, put}
+use Rattle.rowan_terms.specs.Path.{Path, subterm, range, put}
 use Rattle.rowan_green.specs.Span.{Span}
 use Rattle.rowan_green.specs.Term.{NodeTerm, node_text}
 use Rattle.rowan_green.proofs.Terms.{Fits-len}
-use Rattle.rowan_cursor.specs.Cursor.{Cursor}
-use Rattle.rowan_cursor.specs.Replacement.{with_replacement}
+use Rattle.rowan_table.specs.Cursor.{Cursor}
+use Rattle.rowan_table.specs.Replacement.{with_replacement}
 use Rattle.rowan_tool.specs.Ancestors.{IsReparseAt, WhyNoReparseAt}
-use Rattle.rowan_tool.specs.Grammar.{IsParse, IsOneList, IsBalanced}
+use Rattle.rowan_sexp.specs.Grammar.{IsParse, IsOneList, IsBalanced}
 use Rattle.rowan_tool.specs.Reparse.{IsReparse, WhyNoReparse, Edit, edits_of, edit_text, text_after}
 use Rattle.rowan_tool.specs.Reparse.{IsListIn, IsListAt, HasNoList, IsEdit, AreEdits, WhyNoEdit}
 use Rattle.rowan_tool.specs.Reparse.{WhyNoEdits}
 use Rattle.rowan_tool.proofs.FitLemmas.{parse-fits}
-use Rattle.rowan_tool.proofs.LexedLemmas.{parse-exists}
+use Rattle.rowan_sexp.proofs.LexedLemmas.{parse-exists}
 use Rattle.rowan_tool.proofs.ListReparsed.{list-reparsed}
 use Rattle.rowan_tool.proofs.OneListLemmas.{balanced-is-one-list, one-list-is-balanced}
 use Rattle.rowan_tool.proofs.ReparseLemmas.{parse-text}

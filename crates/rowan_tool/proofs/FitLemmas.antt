@@ -6,8 +6,8 @@ use Rattle.rowan_green.specs.Fits.{byte_limit, FitsNode, FitForest}
 use Rattle.rowan_green.specs.Term.{TokenTerm, NodeTerm, node, Forest, empty, node_then, token_then}
 use Rattle.rowan_green.specs.Term.{terms, node_text, forest_text, node_len}
 use Rattle.rowan_green.proofs.Terms.{node_len-children}
-use Rattle.rowan_tool.specs.Grammar.{is_empty, IsElement, AreElements, IsParse}
-use Rattle.rowan_tool.proofs.GrammarLemmas.{node_tokens, forest_tokens, tokens-node}
+use Rattle.rowan_sexp.specs.Grammar.{is_empty, IsElement, AreElements, IsParse}
+use Rattle.rowan_sexp.proofs.GrammarLemmas.{node_tokens, forest_tokens, tokens-node}
 use Rattle.rowan_tool.proofs.ReparseLemmas.{AreSome, some-lexed, parse-text}
 
 -- these children are not too many, and within the limits themselves

@@ -16,24 +16,24 @@ use Rattle.rowan_green.specs.declared.fault.Fault.TheVariants.{UnknownMark, NotO
 use Rattle.rowan_green.specs.declared.utility_types.NodeOrToken.TheVariants.{Node, Token}
 use Rattle.rowan_green.specs.Edits.{spliced}
 use Rattle.rowan_green.specs.Fits.{Fits, FitsNode}
-use Rattle.rowan_green.specs.Path.{Path, subterm_of, subterm, range, put}
+use Rattle.rowan_terms.specs.Path.{Path, subterm_of, subterm, range, put}
 use Rattle.rowan_green.specs.Term.{TokenTerm, NodeTerm, node, node_kind, node_children, Forest}
 use Rattle.rowan_green.specs.Term.{empty, node_then, token_then, Term, terms, term_kind, term_text}
 use Rattle.rowan_green.specs.Term.{node_text}
-use Rattle.rowan_green.proofs.PutLimits.{Fits-subterm, Fits-put}
+use Rattle.rowan_terms.proofs.PutLimits.{Fits-subterm, Fits-put}
 use Rattle.rowan_green.proofs.Terms.{Fits-len}
-use Rattle.rowan_cursor.specs.Cursor.{Cursor, term_at, kind, text_range}
-use Rattle.rowan_cursor.specs.Replacement.{IsReplacement, WhyNoReplacement, with_replacement}
+use Rattle.rowan_table.specs.Cursor.{Cursor, term_at, kind, text_range}
+use Rattle.rowan_table.specs.Replacement.{IsReplacement, WhyNoReplacement, with_replacement}
 use Rattle.rowan.specs.Ast.{casts_at}
-use Rattle.rowan_tool.specs.declared.sexp.lang.SyntaxKind.TheVariants.{L_PAREN, R_PAREN, WORD}
-use Rattle.rowan_tool.specs.declared.sexp.lang.SyntaxKind.TheVariants.{WHITESPACE, ERROR, LIST}
-use Rattle.rowan_tool.specs.declared.sexp.lang.SyntaxKind.TheVariants.{ATOM, ROOT}
-use Rattle.rowan_tool.specs.Casts.{is_list}
-use Rattle.rowan_tool.specs.Grammar.{is_empty, IsElement, AreElements, IsRoot, IsParse, IsOneList}
-use Rattle.rowan_tool.specs.Grammar.{IsBalanced}
+use Rattle.rowan_sexp.specs.declared.sexp.lang.SyntaxKind.TheVariants.{L_PAREN, R_PAREN, WORD}
+use Rattle.rowan_sexp.specs.declared.sexp.lang.SyntaxKind.TheVariants.{WHITESPACE, ERROR, LIST}
+use Rattle.rowan_sexp.specs.declared.sexp.lang.SyntaxKind.TheVariants.{ATOM, ROOT}
+use Rattle.rowan_sexp.specs.Casts.{is_list}
+use Rattle.rowan_sexp.specs.Grammar.{is_empty, IsElement, AreElements, IsRoot, IsParse, IsOneList}
+use Rattle.rowan_sexp.specs.Grammar.{IsBalanced}
 use Rattle.rowan_tool.specs.Reparse.{WhyNoList, WhyNoReparse}
-use Rattle.rowan_tool.specs.Sexp.{kind_of}
-use Rattle.rowan_tool.proofs.LexedLemmas.{parse-unique}
+use Rattle.rowan_sexp.specs.Sexp.{kind_of}
+use Rattle.rowan_sexp.proofs.LexedLemmas.{parse-unique}
 use Rattle.rowan_tool.proofs.OneListLemmas.{balanced-is-one-list, one-list-is-balanced}
 use Rattle.rowan_tool.proofs.ReparseLemmas.{put-text, parse-text, reparsed}
 

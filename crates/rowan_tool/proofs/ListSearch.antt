@@ -5,20 +5,20 @@ use Rattle.std.proofs.Common.{◌∙◌, ap, subst}
 use Rattle.std.specs.List.{find}
 use Rattle.rowan_green.specs.declared.fault.Fault.TheVariants.{NotFound}
 use Rattle.rowan_green.specs.declared.utility_types.NodeOrToken.TheVariants.{Node}
-use Rattle.rowan_green.specs.Path.{Path, subterm, range}
+use Rattle.rowan_terms.specs.Path.{Path, subterm, range}
 use Rattle.rowan_green.specs.Span.{Span}
 use Rattle.rowan_green.specs.Term.{NodeTerm, node_kind}
-use Rattle.rowan_cursor.specs.Cursor.{Cursor, kind}
-use Rattle.rowan_cursor.specs.Moves.{is_node_at}
-use Rattle.rowan_cursor.specs.Search.{IsRangeChild, IsChain}
+use Rattle.rowan_table.specs.Cursor.{Cursor, kind}
+use Rattle.rowan_table.specs.Moves.{is_node_at}
+use Rattle.rowan_table.specs.Search.{IsRangeChild, IsChain}
 use Rattle.rowan.specs.Pointer.{is_node_of}
 use Rattle.rowan.proofs.ChainLemmas.{none-some, token-ends, find-way}
 use Rattle.rowan.proofs.PointerLemmas.{FindsNode, FindsToken, not_meant, range-meant}
 use Rattle.rowan.proofs.PointerLemmas.{finds-standing}
-use Rattle.rowan_tool.specs.Casts.{is_list}
+use Rattle.rowan_sexp.specs.Casts.{is_list}
 use Rattle.rowan_tool.specs.Reparse.{IsListIn, is_list_at, HasNoList}
-use Rattle.rowan_tool.specs.Sexp.{kind_of}
-use Rattle.rowan_tool.proofs.LexedLemmas.{parse-unique}
+use Rattle.rowan_sexp.specs.Sexp.{kind_of}
+use Rattle.rowan_sexp.proofs.LexedLemmas.{parse-unique}
 use Rattle.rowan_tool.proofs.ReparseLemmas.{list-has-text}
 
 -- none of the elements on the chain of the range is a list with it

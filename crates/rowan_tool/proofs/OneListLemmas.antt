@@ -17,17 +17,17 @@ use Rattle.std.proofs.lemmas.Str.{NoCharPasses-byte}
 use Rattle.rowan_green.specs.declared.utility_types.NodeOrToken.TheVariants.{Node}
 use Rattle.rowan_green.specs.Term.{TokenTerm, token_of, NodeTerm, node, node_kind, Forest, empty}
 use Rattle.rowan_green.specs.Term.{node_then, token_then, node_text, forest_text}
-use Rattle.rowan_green.proofs.LeafLaws.{text-tokens}
-use Rattle.rowan_tool.specs.declared.sexp.lang.SyntaxKind.TheVariants.{L_PAREN, R_PAREN, WORD}
-use Rattle.rowan_tool.specs.declared.sexp.lang.SyntaxKind.TheVariants.{WHITESPACE, LIST, ROOT}
-use Rattle.rowan_tool.specs.Sexp.{LexedToken, tokens_text, IsTextOf, IsToken, is_delimiter}
-use Rattle.rowan_tool.specs.Sexp.{number_of, kind_of}
-use Rattle.rowan_tool.specs.Grammar.{is_empty, IsAtom, OpensList, ClosesList, IsElement}
-use Rattle.rowan_tool.specs.Grammar.{AreElements, IsParse, token_terms, count_of, IsBalanced}
-use Rattle.rowan_tool.specs.Grammar.{IsOneList}
-use Rattle.rowan_tool.proofs.GrammarLemmas.{node_tokens, forest_tokens, tokens-node, last_split}
-use Rattle.rowan_tool.proofs.ParsingLemmas.{IsTextOf-some}
-use Rattle.rowan_tool.proofs.WordLemmas.{kind_of-number}
+use Rattle.rowan_terms.proofs.LeafLaws.{text-tokens}
+use Rattle.rowan_sexp.specs.declared.sexp.lang.SyntaxKind.TheVariants.{L_PAREN, R_PAREN, WORD}
+use Rattle.rowan_sexp.specs.declared.sexp.lang.SyntaxKind.TheVariants.{WHITESPACE, LIST, ROOT}
+use Rattle.rowan_sexp.specs.Sexp.{LexedToken, tokens_text, IsTextOf, IsToken, is_delimiter}
+use Rattle.rowan_sexp.specs.Sexp.{number_of, kind_of}
+use Rattle.rowan_sexp.specs.Grammar.{is_empty, IsAtom, OpensList, ClosesList, IsElement}
+use Rattle.rowan_sexp.specs.Grammar.{AreElements, IsParse, token_terms, count_of, IsBalanced}
+use Rattle.rowan_sexp.specs.Grammar.{IsOneList}
+use Rattle.rowan_sexp.proofs.GrammarLemmas.{node_tokens, forest_tokens, tokens-node, last_split}
+use Rattle.rowan_sexp.proofs.ParsingLemmas.{IsTextOf-some}
+use Rattle.rowan_sexp.proofs.WordLemmas.{kind_of-number}
 
 -- ---- how often a byte stands in a text
 

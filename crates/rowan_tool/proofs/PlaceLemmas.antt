@@ -4,15 +4,15 @@ use Rattle.std.proofs.Common.{◌≡◌, ℕ, zero, suc, Bool, true, false, ◌&
 use Rattle.std.proofs.Common.{Some, inl, inr, refl, sym, ◌∙◌, ap, subst, append_assoc}
 use Rattle.std.specs.Prelude.{slice_get}
 use Rattle.rowan_green.specs.declared.utility_types.NodeOrToken.TheVariants.{Node, Token}
-use Rattle.rowan_green.specs.Path.{Path, subterm_of, subterm, put_of, put}
+use Rattle.rowan_terms.specs.Path.{Path, subterm_of, subterm, put_of, put}
 use Rattle.rowan_green.specs.Term.{TokenTerm, NodeTerm, node, node_kind, node_of, Forest, empty}
 use Rattle.rowan_green.specs.Term.{node_then, token_then, terms, forest, put_first}
-use Rattle.rowan_green.proofs.PutLemmas.{replaced-set}
+use Rattle.rowan_terms.proofs.PutLemmas.{replaced-set}
 use Rattle.rowan_green.proofs.Terms.{forest-terms}
-use Rattle.rowan_tool.specs.declared.sexp.lang.SyntaxKind.TheVariants.{LIST}
-use Rattle.rowan_tool.specs.Sexp.{number_of}
-use Rattle.rowan_tool.specs.Grammar.{is_empty, IsElement, AreElements}
-use Rattle.rowan_tool.proofs.GrammarLemmas.{node_tokens, forest_tokens}
+use Rattle.rowan_sexp.specs.declared.sexp.lang.SyntaxKind.TheVariants.{LIST}
+use Rattle.rowan_sexp.specs.Sexp.{number_of}
+use Rattle.rowan_sexp.specs.Grammar.{is_empty, IsElement, AreElements}
+use Rattle.rowan_sexp.proofs.GrammarLemmas.{node_tokens, forest_tokens}
 
 -- the node `old` of a tree with the tokens `had`, and the node `u` in its place, which makes the
 -- tokens `has`

@@ -6,16 +6,16 @@ use Rattle.std.proofs.lemmas.List.{append-nil}
 use Rattle.std.specs.List.{flat_map, AllByRecursion}
 use Rattle.rowan_green.specs.declared.utility_types.NodeOrToken.TheVariants.{Node}
 use Rattle.rowan_green.specs.Edits.{spliced}
-use Rattle.rowan_green.specs.Path.{Path, subterm, range, put, tokens}
+use Rattle.rowan_terms.specs.Path.{Path, subterm, range, put, tokens}
 use Rattle.rowan_green.specs.Term.{TokenTerm, NodeTerm, node, node_kind, empty, node_then}
 use Rattle.rowan_green.specs.Term.{token_then, Term, term_text, node_text, forest_text, node_len}
-use Rattle.rowan_green.proofs.LeafLaws.{text-tokens}
-use Rattle.rowan_green.proofs.PutText.{put-text as text_of_put}
-use Rattle.rowan_tool.specs.declared.sexp.lang.SyntaxKind.TheVariants.{LIST}
-use Rattle.rowan_tool.specs.Grammar.{IsElement, IsRoot, IsParse, IsOneList, token_terms}
-use Rattle.rowan_tool.specs.Sexp.{LexedToken, IsToken, tokens_text, number_of}
-use Rattle.rowan_tool.proofs.GrammarLemmas.{node_tokens, tokens-node}
-use Rattle.rowan_tool.proofs.ParsingLemmas.{IsTextOf-some}
+use Rattle.rowan_terms.proofs.LeafLaws.{text-tokens}
+use Rattle.rowan_terms.proofs.PutText.{put-text as text_of_put}
+use Rattle.rowan_sexp.specs.declared.sexp.lang.SyntaxKind.TheVariants.{LIST}
+use Rattle.rowan_sexp.specs.Grammar.{IsElement, IsRoot, IsParse, IsOneList, token_terms}
+use Rattle.rowan_sexp.specs.Sexp.{LexedToken, IsToken, tokens_text, number_of}
+use Rattle.rowan_sexp.proofs.GrammarLemmas.{node_tokens, tokens-node}
+use Rattle.rowan_sexp.proofs.ParsingLemmas.{IsTextOf-some}
 use Rattle.rowan_tool.proofs.PlaceLemmas.{put-node, in_forest, closed-anywhere}
 use Rattle.rowan_tool.proofs.TokenJoins.{list-begins, list-ends, BeginsOpen, EndsClosed}
 use Rattle.rowan_tool.proofs.TokenJoins.{tokens-exchanged}

@@ -5,11 +5,11 @@ use Rattle.std.proofs.Common.{subst}
 use Rattle.std.specs.List.{AllByRecursion}
 use Rattle.rowan_green.specs.Term.{TokenTerm, token_of, NodeTerm, node, node_kind, Forest, empty}
 use Rattle.rowan_green.specs.Term.{node_then, token_then}
-use Rattle.rowan_tool.specs.declared.sexp.lang.SyntaxKind.{SyntaxKind}
-use Rattle.rowan_tool.specs.declared.sexp.lang.SyntaxKind.TheVariants.{L_PAREN, R_PAREN, WORD, LIST}
-use Rattle.rowan_tool.specs.Sexp.{LexedToken, IsToken, AreApart, are_one, number_of}
-use Rattle.rowan_tool.specs.Grammar.{IsElement, AreElements, token_terms}
-use Rattle.rowan_tool.proofs.GrammarLemmas.{node_tokens, forest_tokens}
+use Rattle.rowan_sexp.specs.declared.sexp.lang.SyntaxKind.{SyntaxKind}
+use Rattle.rowan_sexp.specs.declared.sexp.lang.SyntaxKind.TheVariants.{L_PAREN, R_PAREN, WORD, LIST}
+use Rattle.rowan_sexp.specs.Sexp.{LexedToken, IsToken, AreApart, are_one, number_of}
+use Rattle.rowan_sexp.specs.Grammar.{IsElement, AreElements, token_terms}
+use Rattle.rowan_sexp.proofs.GrammarLemmas.{node_tokens, forest_tokens}
 
 -- ---- where a closed list begins and ends
 

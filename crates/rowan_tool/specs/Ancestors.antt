@@ -4,10 +4,10 @@ use Rattle.std.specs.Prelude.{◌≡◌, ◌≢◌, ◌⊎◌, ℕ, List, ◌∷
 use Rattle.rowan_green.specs.declared.fault.Fault.{Fault}
 use Rattle.rowan_green.specs.declared.fault.Fault.TheVariants.{Memory}
 use Rattle.rowan_green.specs.declared.utility_types.NodeOrToken.TheVariants.{Node}
-use Rattle.rowan_green.specs.Path.{Path, subterm}
+use Rattle.rowan_terms.specs.Path.{Path, subterm}
 use Rattle.rowan_green.specs.Span.{Span}
 use Rattle.rowan_green.specs.Term.{NodeTerm}
-use Rattle.rowan_cursor.specs.Cursor.{Cursor}
+use Rattle.rowan_table.specs.Cursor.{Cursor}
 use Rattle.rowan_tool.specs.declared.sexp.reparse.Ancestor.{Ancestor}
 use Rattle.rowan_tool.specs.Reparse.{IsReparse, WhyNoReparse, IsListAt, HasNoList}
 

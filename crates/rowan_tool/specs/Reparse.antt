@@ -9,16 +9,16 @@ use Rattle.rowan_green.specs.declared.fault.Fault.TheVariants.{NotOneList}
 use Rattle.rowan_green.specs.declared.utility_types.NodeOrToken.TheVariants.{Node}
 use Rattle.rowan_green.specs.Edits.{spliced}
 use Rattle.rowan_green.specs.Fits.{byte_limit, Fits}
-use Rattle.rowan_green.specs.Path.{Path, subterm, range}
+use Rattle.rowan_terms.specs.Path.{Path, subterm, range}
 use Rattle.rowan_green.specs.Span.{Span}
 use Rattle.rowan_green.specs.Term.{NodeTerm, node_kind}
-use Rattle.rowan_cursor.specs.Cursor.{Cursor, StandsAt, text_range}
-use Rattle.rowan_cursor.specs.Replacement.{IsReplacement, with_replacement}
+use Rattle.rowan_table.specs.Cursor.{Cursor, StandsAt, text_range}
+use Rattle.rowan_table.specs.Replacement.{IsReplacement, with_replacement}
 use Rattle.rowan.specs.Pointer.{is_meant}
-use Rattle.rowan_tool.specs.declared.sexp.lang.SyntaxKind.TheVariants.{LIST}
-use Rattle.rowan_tool.specs.Casts.{is_list}
-use Rattle.rowan_tool.specs.Grammar.{IsParse, IsBalanced, IsOneList}
-use Rattle.rowan_tool.specs.Sexp.{number_of, kind_of}
+use Rattle.rowan_sexp.specs.declared.sexp.lang.SyntaxKind.TheVariants.{LIST}
+use Rattle.rowan_sexp.specs.Casts.{is_list}
+use Rattle.rowan_sexp.specs.Grammar.{IsParse, IsBalanced, IsOneList}
+use Rattle.rowan_sexp.specs.Sexp.{number_of, kind_of}
 
 -- ---- one list
 

@@ -2,12 +2,12 @@
 use Rattle.std.proofs.Common.{◌≡◌, ◌⊎◌, List, [], ◌∷◌, ◌++◌, Option, Some, None, inl, inr, refl, sym, ◌∙◌, ap, subst}
 use Rattle.std.specs.Option.{option_map, option_and_then}
 use Rattle.rowan_green.specs.declared.utility_types.NodeOrToken.TheVariants.{Node}
-use Rattle.rowan_green.specs.Path.{range, put}
-use Rattle.rowan_green.specs.Replacements.{Replacement}
+use Rattle.rowan_terms.specs.Path.{range, put}
+use Rattle.rowan_terms.specs.Replacements.{Replacement}
 use Rattle.rowan_green.specs.Span.{Span}
 use Rattle.rowan_green.specs.Term.{Term, term_len}
-use Rattle.rowan_cursor.specs.Cursor.{Cursor, text_range}
-use Rattle.rowan_cursor.specs.Moves.{Element, place_of}
+use Rattle.rowan_table.specs.Cursor.{Cursor, text_range}
+use Rattle.rowan_table.specs.Moves.{Element, place_of}
 use Rattle.rowan_script.specs.declared.script.steps.Report.{Report}
 use Rattle.rowan_script.specs.declared.script.steps.Report.TheVariants.{Moved, Nowhere, Replaced, Refused}
 use Rattle.rowan_script.specs.declared.script.steps.Step.{Step}

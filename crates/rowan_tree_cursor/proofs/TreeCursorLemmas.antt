@@ -8,15 +8,15 @@ use Rattle.rowan_green.specs.declared.utility_types.NodeOrToken.TheVariants.{Nod
 use Rattle.rowan_green.specs.declared.fault.Fault.{Fault}
 use Rattle.rowan_green.specs.Edits.{replaced}
 use Rattle.rowan_green.specs.Fits.{byte_limit, child_limit, Fits, PassesLimit}
-use Rattle.rowan_green.specs.Path.{Path, subterm, offset, len_of, put}
+use Rattle.rowan_terms.specs.Path.{Path, subterm, offset, len_of, put}
 use Rattle.rowan_green.specs.Search.{child_start}
 use Rattle.rowan_green.specs.Term.{NodeTerm, Term, node_of, node_kind, node_children, term_len}
-use Rattle.rowan_green.proofs.OffsetLemmas.{range-within}
-use Rattle.rowan_green.proofs.PutLemmas.{put-child}
-use Rattle.rowan_green.proofs.PutLimits.{Fits-children, Fits-subterm, unfit-put}
+use Rattle.rowan_terms.proofs.OffsetLemmas.{range-within}
+use Rattle.rowan_terms.proofs.PutLemmas.{put-child}
+use Rattle.rowan_terms.proofs.PutLimits.{Fits-children, Fits-subterm, unfit-put}
 use Rattle.rowan_green.proofs.Terms.{Fits-len}
-use Rattle.rowan_cursor.specs.Moves.{children_of, child_count}
-use Rattle.rowan_cursor.proofs.PathLemmas.{offset-node_child, subterm-child}
+use Rattle.rowan_table.specs.Moves.{children_of, child_count}
+use Rattle.rowan_table.proofs.PathLemmas.{offset-node_child, subterm-child}
 use Rattle.rowan_tree_cursor.specs.declared.tree_cursor.Frame.{Frame}
 use Rattle.rowan_tree_cursor.specs.TreeCursor.{path_of, IsFrameAt, AreFrames, IsPlaced}
 

@@ -6,22 +6,22 @@ use Rattle.std.proofs.Common.{subst, arith}
 use Rattle.std.specs.Prelude.{slice_get}
 use Rattle.std.specs.Option.{option_map}
 use Rattle.rowan_green.specs.declared.utility_types.NodeOrToken.TheVariants.{Node}
-use Rattle.rowan_green.specs.Path.{Path, offset}
+use Rattle.rowan_terms.specs.Path.{Path, offset}
 use Rattle.rowan_green.specs.Search.{IsChildAt}
 use Rattle.rowan_green.specs.Span.{Span}
 use Rattle.rowan_green.specs.Term.{NodeTerm, Term, node_children}
-use Rattle.rowan_cursor.specs.Cursor.{Cursor, term_at}
-use Rattle.rowan_cursor.specs.Moves.{element_at, place_of, cursor_at, children_of}
-use Rattle.rowan_cursor.specs.Moves.{child_count}
-use Rattle.rowan_cursor.specs.Moves.{child_paths, below, numbers, following, preceding, first_at}
-use Rattle.rowan_cursor.specs.Moves.{parent, first_child_or_token, last_child_or_token}
-use Rattle.rowan_cursor.specs.Moves.{next_sibling_or_token, prev_sibling_or_token}
-use Rattle.rowan_cursor.specs.Moves.{child_or_token_at_index}
+use Rattle.rowan_table.specs.Cursor.{Cursor, term_at}
+use Rattle.rowan_table.specs.Moves.{element_at, place_of, cursor_at, children_of}
+use Rattle.rowan_table.specs.Moves.{child_count}
+use Rattle.rowan_table.specs.Moves.{child_paths, below, numbers, following, preceding, first_at}
+use Rattle.rowan_table.specs.Moves.{parent, first_child_or_token, last_child_or_token}
+use Rattle.rowan_table.specs.Moves.{next_sibling_or_token, prev_sibling_or_token}
+use Rattle.rowan_table.specs.Moves.{child_or_token_at_index}
 use Rattle.rowan_green.proofs.SearchLemmas.{has-range}
-use Rattle.rowan_cursor.specs.Search.{IsRangeChild, FindsChild}
-use Rattle.rowan_cursor.proofs.CoverLemmas.{place_of-element}
-use Rattle.rowan_cursor.proofs.PathLemmas.{parent_path-child, following-child, preceding-child}
-use Rattle.rowan_cursor.proofs.RowLemmas.{map-reverse, row-last, row-get, row-past}
+use Rattle.rowan_table.specs.Search.{IsRangeChild, FindsChild}
+use Rattle.rowan_table.proofs.CoverLemmas.{place_of-element}
+use Rattle.rowan_table.proofs.PathLemmas.{parent_path-child, following-child, preceding-child}
+use Rattle.rowan_table.proofs.RowLemmas.{map-reverse, row-last, row-get, row-past}
 use Rattle.rowan_tree_cursor.specs.TreeCursorMoves.{Goes, GoesTo, GoesToChild}
 
 -- ---- answers

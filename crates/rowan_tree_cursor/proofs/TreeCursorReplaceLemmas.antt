@@ -4,10 +4,10 @@ use Rattle.rowan_green.specs.declared.fault.Fault.{Fault}
 use Rattle.rowan_green.specs.declared.fault.Fault.TheVariants.{TextTooLong, Memory}
 use Rattle.rowan_green.specs.declared.utility_types.NodeOrToken.TheVariants.{Node}
 use Rattle.rowan_green.specs.Fits.{Fits}
-use Rattle.rowan_green.specs.Path.{put}
+use Rattle.rowan_terms.specs.Path.{put}
 use Rattle.rowan_green.specs.Term.{NodeTerm, Term}
-use Rattle.rowan_cursor.specs.Cursor.{Cursor}
-use Rattle.rowan_cursor.specs.Replacement.{with_replacement}
+use Rattle.rowan_table.specs.Cursor.{Cursor}
+use Rattle.rowan_table.specs.Replacement.{with_replacement}
 use Rattle.rowan_tree_cursor.specs.declared.tree_cursor.Frame.{Frame}
 use Rattle.rowan_tree_cursor.specs.TreeCursor.{path_of}
 use Rattle.rowan_tree_cursor.specs.TreeCursorMoves.{WhyNotReplaced}

@@ -7,19 +7,19 @@ use Rattle.std.specs.Prelude.{slice_get}
 use Rattle.std.specs.Option.{option_map_or}
 use Rattle.std.proofs.Math.Seq.{take-append_seam}
 use Rattle.rowan_green.specs.declared.utility_types.NodeOrToken.TheVariants.{Node, Token}
-use Rattle.rowan_green.specs.Path.{Path, subterm, subterm_of, begins, offset, len_of}
+use Rattle.rowan_terms.specs.Path.{Path, subterm, subterm_of, begins, offset, len_of}
 use Rattle.rowan_green.specs.Sizes.{term_size}
 use Rattle.rowan_green.specs.Span.{Span}
 use Rattle.rowan_green.specs.Term.{NodeTerm, Term}
-use Rattle.rowan_green.proofs.OffsetLemmas.{offset-join, range-within}
-use Rattle.rowan_green.proofs.Paths.{begins-own, begins-rest}
-use Rattle.rowan_cursor.specs.Cursor.{Cursor, term_at, text_range}
-use Rattle.rowan_cursor.specs.Moves.{Element, place_of, cursor_at, children_of}
-use Rattle.rowan_cursor.specs.Moves.{parent}
-use Rattle.rowan_cursor.specs.Search.{IsRangeChild, FindsChild, Covers, IsLeafOver}
-use Rattle.rowan_cursor.proofs.CoverLemmas.{place_of-element, child-has_span, byte_at, covers-byte}
-use Rattle.rowan_cursor.proofs.PathLemmas.{last-split, subterm-child, subterm_of-append}
-use Rattle.rowan_cursor.proofs.SearchLemmas.{covers_child, covers_itself}
+use Rattle.rowan_terms.proofs.OffsetLemmas.{offset-join, range-within}
+use Rattle.rowan_terms.proofs.Paths.{begins-own, begins-rest}
+use Rattle.rowan_table.specs.Cursor.{Cursor, term_at, text_range}
+use Rattle.rowan_table.specs.Moves.{Element, place_of, cursor_at, children_of}
+use Rattle.rowan_table.specs.Moves.{parent}
+use Rattle.rowan_table.specs.Search.{IsRangeChild, FindsChild, Covers, IsLeafOver}
+use Rattle.rowan_table.proofs.CoverLemmas.{place_of-element, child-has_span, byte_at, covers-byte}
+use Rattle.rowan_table.proofs.PathLemmas.{last-split, subterm-child, subterm_of-append}
+use Rattle.rowan_table.proofs.SearchLemmas.{covers_child, covers_itself}
 use Rattle.rowan_cursor.proofs.SizeLemmas.{child-smaller}
 use Rattle.rowan_tree_cursor.specs.TreeCursorMoves.{Goes, GoesTo, GoesToChild, GoesToCovering, GoesToByte}
 use Rattle.rowan_tree_cursor.proofs.TreeCursorMoveLemmas.{parent-some}

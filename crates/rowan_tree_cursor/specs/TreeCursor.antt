@@ -3,7 +3,7 @@
 use Rattle.std.specs.Prelude.{◌≡◌, ℕ, List, [], ◌∷◌, ◌++◌, Some, map}
 use Rattle.rowan_green.specs.declared.utility_types.NodeOrToken.TheVariants.{Node}
 use Rattle.rowan_green.specs.Fits.{FitsNode}
-use Rattle.rowan_green.specs.Path.{Path, subterm, offset}
+use Rattle.rowan_terms.specs.Path.{Path, subterm, offset}
 use Rattle.rowan_green.specs.Term.{NodeTerm, Term}
 use Rattle.rowan_tree_cursor.specs.declared.tree_cursor.Frame.{Frame}
 

@@ -7,13 +7,13 @@ use Rattle.rowan_green.specs.declared.fault.Fault.{Fault}
 use Rattle.rowan_green.specs.declared.fault.Fault.TheVariants.{TextTooLong, NotANode, Memory}
 use Rattle.rowan_green.specs.declared.utility_types.NodeOrToken.TheVariants.{Token}
 use Rattle.rowan_green.specs.Fits.{Fits}
-use Rattle.rowan_green.specs.Path.{Path}
+use Rattle.rowan_terms.specs.Path.{Path}
 use Rattle.rowan_green.specs.Span.{Span}
 use Rattle.rowan_green.specs.Term.{TokenTerm, Term}
-use Rattle.rowan_cursor.specs.Cursor.{Cursor}
-use Rattle.rowan_cursor.specs.Moves.{Element, place_of}
-use Rattle.rowan_cursor.specs.Replacement.{with_replacement}
-use Rattle.rowan_cursor.specs.Search.{FindsChild, Covers, IsLeafOver}
+use Rattle.rowan_table.specs.Cursor.{Cursor}
+use Rattle.rowan_table.specs.Moves.{Element, place_of}
+use Rattle.rowan_table.specs.Replacement.{with_replacement}
+use Rattle.rowan_table.specs.Search.{FindsChild, Covers, IsLeafOver}
 
 -- to another place, if there is one
 abbrev pub Goes : Option Cursor → Cursor → Bool → Cursor → Type 0

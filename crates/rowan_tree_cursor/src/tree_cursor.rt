@@ -4,13 +4,13 @@ ghost use Rattle.std.specs.Prelude.{OnOk, OnErr, Some, ◌≤◌, ◌-◌};
 ghost use Rattle.rowan_green.specs.declared.utility_types.NodeOrToken.TheVariants.{Node};
 ghost use Rattle.rowan_green.specs.Fits.{FitsNode};
 ghost use Rattle.rowan_green.specs.Lent.{pointee};
-ghost use Rattle.rowan_green.specs.Path.{begins};
-ghost use Rattle.rowan_cursor.specs.Cursor.{index, kind, term_at, text_range};
-ghost use Rattle.rowan_cursor.specs.Moves.{parent, first_child_or_token, last_child_or_token};
-ghost use Rattle.rowan_cursor.specs.Moves.{next_sibling_or_token, prev_sibling_or_token};
-ghost use Rattle.rowan_cursor.specs.Moves.{child_or_token_at_index, child_count, cursor_at};
-ghost use Rattle.rowan_cursor.specs.Replacement.{with_replacement, KeepsTheRest};
-ghost use Rattle.rowan_cursor.specs.Search.{Covers};
+ghost use Rattle.rowan_terms.specs.Path.{begins};
+ghost use Rattle.rowan_table.specs.Cursor.{index, kind, term_at, text_range};
+ghost use Rattle.rowan_table.specs.Moves.{parent, first_child_or_token, last_child_or_token};
+ghost use Rattle.rowan_table.specs.Moves.{next_sibling_or_token, prev_sibling_or_token};
+ghost use Rattle.rowan_table.specs.Moves.{child_or_token_at_index, child_count, cursor_at};
+ghost use Rattle.rowan_table.specs.Replacement.{with_replacement, KeepsTheRest};
+ghost use Rattle.rowan_table.specs.Search.{Covers};
 ghost use Rattle.rowan_tree_cursor.specs.TreeCursorMoves.{Goes, GoesTo, GoesToChild, GoesToCovering};
 ghost use Rattle.rowan_tree_cursor.specs.TreeCursorMoves.{GoesToByte, WhyNotReplaced};
 
@@ -42,7 +42,7 @@ pub struct TreeCursor<'tree> {
 }
 
 impl<'tree> Model for TreeCursor<'tree> {
-    ghost use Rattle.rowan_cursor.specs.Cursor.{Cursor};
+    ghost use Rattle.rowan_table.specs.Cursor.{Cursor};
     ghost use Rattle.rowan_cursor.specs.CursorCode.{coded_cursor};
 
     ghost Value = { Cursor };

@@ -4,7 +4,7 @@ ghost use Rattle.std.specs.Prelude.{◌≡◌, filter, slice_get, IfOk, IfErr};
 ghost use Rattle.std.specs.List.{list_any};
 ghost use Rattle.std.specs.Option.{option_map, option_and_then};
 ghost use Rattle.rowan_green.specs.declared.utility_types.NodeOrToken.TheVariants.{Token};
-ghost use Rattle.rowan_cursor.specs.Moves.{children, children_with_tokens};
+ghost use Rattle.rowan_table.specs.Moves.{children, children_with_tokens};
 ghost use Rattle.rowan_api.specs.Refs.{node_place, token_place, element_place};
 ghost use Rattle.rowan.specs.Ast.{casts_at, if_casts, has_one_of, is_token_of, means_one_of};
 

@@ -2,8 +2,8 @@
 ghost use Rattle.std.specs.Prelude.{◌≡◌, ◌<◌, length, map};
 ghost use Rattle.rowan_green.specs.Span.{Holds};
 ghost use Rattle.rowan_green.specs.TokenAtOffset.{tokens_of};
-ghost use Rattle.rowan_cursor.specs.Cursor.{text_range};
-ghost use Rattle.rowan_cursor.specs.Search.{tokens_at};
+ghost use Rattle.rowan_table.specs.Cursor.{text_range};
+ghost use Rattle.rowan_table.specs.Search.{tokens_at};
 ghost use Rattle.rowan_api.specs.Refs.{node_place, token_place};
 ghost use Rattle.rowan.specs.AroundOffset.{rest_at_offset, all_above, takes_right};
 

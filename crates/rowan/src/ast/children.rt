@@ -15,8 +15,8 @@ pub struct AstChildren<N, L = <N as AstNode>::Language> {
 }
 
 impl<N, L> Model for AstChildren<N, L> {
-    ghost use Rattle.rowan_cursor.specs.Cursor.{Cursor};
-    ghost use Rattle.rowan_cursor.specs.Yields.{Rest};
+    ghost use Rattle.rowan_table.specs.Cursor.{Cursor};
+    ghost use Rattle.rowan_table.specs.Yields.{Rest};
     ghost use Rattle.rowan_cursor.specs.YieldsCode.{coded_rest_of_cursors};
 
     ghost Value = { Rest Cursor };
@@ -29,7 +29,7 @@ impl<N, L> Model for AstChildren<N, L> {
 impl<N: AstNode> AstChildren<N> {
     ghost use Rattle.std.specs.Prelude.{◌≡◌, IfOk, IfErr};
     ghost use Rattle.rowan_green.specs.declared.fault.Fault.TheVariants.{Memory};
-    ghost use Rattle.rowan_cursor.specs.Moves.{children};
+    ghost use Rattle.rowan_table.specs.Moves.{children};
 
     pub(super) fn new(parent: &SyntaxNode<N::Language>) -> AstChildren<N>
         ensures ok { IfOk result (λ nodes. nodes ≡ children parent.now) }
@@ -46,7 +46,7 @@ impl<N: AstNode> Iterator for AstChildren<N> {
     type Item = Result<N, Fault>;
 
     ghost use Rattle.std.specs.Iterator.{at_most};
-    ghost use Rattle.rowan_cursor.specs.Yields.{count_of};
+    ghost use Rattle.rowan_table.specs.Yields.{count_of};
     ghost use Rattle.rowan.specs.Ast.{casts_at, YieldsWrappers};
 
     ghost next_gives = { λ s r t.

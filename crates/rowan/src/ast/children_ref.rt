@@ -18,7 +18,7 @@ pub struct AstChildrenRef<'tree, N, L = <N as AstNode>::Language> {
 
 impl<'tree, N: AstNode> AstChildrenRef<'tree, N> {
     ghost use Rattle.std.specs.Prelude.{◌≡◌};
-    ghost use Rattle.rowan_cursor.specs.Moves.{children};
+    ghost use Rattle.rowan_table.specs.Moves.{children};
     ghost use Rattle.rowan_api.specs.Refs.{node_place};
     ghost use Rattle.rowan.specs.Ast.{rest_of_children};
 

@@ -1,7 +1,7 @@
 //! The trait of wrappers.
 ghost use Rattle.std.specs.Prelude.{◌≡◌, Bool, true, [], IfOk, IfErr};
 ghost use Rattle.std.specs.Option.{option_map};
-ghost use Rattle.rowan_cursor.specs.Cursor.{Cursor, StandsAt};
+ghost use Rattle.rowan_table.specs.Cursor.{Cursor, StandsAt};
 ghost use Rattle.rowan.specs.Ast.{casts_at, if_casts};
 
 use crate::api::{Language, SyntaxNode};

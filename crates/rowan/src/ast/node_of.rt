@@ -26,7 +26,7 @@ pub struct NodeOf<L: Language, const KIND: u16> {
 
 impl<L: Language, const KIND: u16> Model for NodeOf<L, KIND> {
     ghost use Rattle.std.specs.Prelude.{◌≡◌, true};
-    ghost use Rattle.rowan_cursor.specs.Cursor.{Cursor};
+    ghost use Rattle.rowan_table.specs.Cursor.{Cursor};
     ghost use Rattle.rowan_cursor.specs.CursorCode.{coded_cursor};
     ghost use Rattle.rowan.specs.Ast.{casts_at, is_meaning};
 
@@ -107,7 +107,7 @@ impl<L: Language, const KIND: u16> Clone for NodeOf<L, KIND> {
 
 impl<L: Language, const KIND: u16> PartialEq for NodeOf<L, KIND> {
     ghost use Rattle.std.specs.Cmp.{partial_equiv_from_equiv};
-    ghost use Rattle.rowan_cursor.specs.Equal.{same_place, same_place-laws};
+    ghost use Rattle.rowan_table.specs.Equal.{same_place, same_place-laws};
 
     ghost eq = { same_place };
 
@@ -119,13 +119,13 @@ impl<L: Language, const KIND: u16> PartialEq for NodeOf<L, KIND> {
 }
 
 impl<L: Language, const KIND: u16> Eq for NodeOf<L, KIND> {
-    ghost use Rattle.rowan_cursor.specs.Equal.{same_place-laws};
+    ghost use Rattle.rowan_table.specs.Equal.{same_place-laws};
 
     ghost laws = { same_place-laws };
 }
 
 impl<L: Language, const KIND: u16> Hash for NodeOf<L, KIND> {
-    ghost use Rattle.rowan_cursor.specs.Equal.{fed_place, fed_place-same};
+    ghost use Rattle.rowan_table.specs.Equal.{fed_place, fed_place-same};
 
     ghost hash_input = { fed_place };
 

@@ -94,7 +94,7 @@ impl<'tree, L: Language, const KIND: u16> Copy for NodeOfRef<'tree, L, KIND> {}
 
 impl<'tree, L: Language, const KIND: u16> PartialEq for NodeOfRef<'tree, L, KIND> {
     ghost use Rattle.std.specs.Cmp.{partial_equiv_from_equiv, on_equiv};
-    ghost use Rattle.rowan_cursor.specs.Equal.{same_place, same_place-laws};
+    ghost use Rattle.rowan_table.specs.Equal.{same_place, same_place-laws};
     ghost use Rattle.rowan.specs.NodeIn.{place_in};
 
     ghost eq = { λ m n. same_place (place_in m) (place_in n) };
@@ -108,14 +108,14 @@ impl<'tree, L: Language, const KIND: u16> PartialEq for NodeOfRef<'tree, L, KIND
 
 impl<'tree, L: Language, const KIND: u16> Eq for NodeOfRef<'tree, L, KIND> {
     ghost use Rattle.std.specs.Cmp.{on_equiv};
-    ghost use Rattle.rowan_cursor.specs.Equal.{same_place-laws};
+    ghost use Rattle.rowan_table.specs.Equal.{same_place-laws};
     ghost use Rattle.rowan.specs.NodeIn.{place_in};
 
     ghost laws = { on_equiv place_in same_place-laws };
 }
 
 impl<'tree, L: Language, const KIND: u16> Hash for NodeOfRef<'tree, L, KIND> {
-    ghost use Rattle.rowan_cursor.specs.Equal.{fed_place, fed_place-same};
+    ghost use Rattle.rowan_table.specs.Equal.{fed_place, fed_place-same};
     ghost use Rattle.rowan.specs.NodeIn.{place_in};
 
     ghost hash_input = { λ n. fed_place (place_in n) };

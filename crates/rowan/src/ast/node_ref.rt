@@ -2,7 +2,7 @@
 ghost use Rattle.std.specs.Prelude.{◌≡◌, Bool, true};
 ghost use Rattle.std.specs.Option.{option_map};
 ghost use Rattle.rowan_api.specs.Refs.{node_place};
-ghost use Rattle.rowan_cursor.specs.Cursor.{Cursor};
+ghost use Rattle.rowan_table.specs.Cursor.{Cursor};
 ghost use Rattle.rowan.specs.Ast.{casts_at, if_casts};
 
 use crate::api::{Language, SyntaxNodeRef};

@@ -2,7 +2,7 @@
 ghost use Rattle.std.specs.Prelude.{◌≡◌, filter};
 ghost use Rattle.std.specs.List.{find};
 ghost use Rattle.std.specs.Option.{option_map};
-ghost use Rattle.rowan_cursor.specs.Moves.{children};
+ghost use Rattle.rowan_table.specs.Moves.{children};
 ghost use Rattle.rowan_api.specs.Refs.{node_place};
 ghost use Rattle.rowan.specs.Ast.{casts_at, rest_that_casts};
 
@@ -20,7 +20,7 @@ pub struct AstNodesRef<'tree, N, L = <N as AstNodeRef<'tree>>::Language> {
 
 impl<'tree, N: AstNodeRef<'tree>> AstNodesRef<'tree, N> {
     ghost use Rattle.std.specs.Prelude.{◌≡◌, filter};
-    ghost use Rattle.rowan_cursor.specs.Moves.{children};
+    ghost use Rattle.rowan_table.specs.Moves.{children};
     ghost use Rattle.rowan_api.specs.Refs.{node_place};
     ghost use Rattle.rowan.specs.Ast.{casts_at, rest_that_casts};
 

@@ -5,7 +5,7 @@ ghost use Rattle.std.specs.Prelude.{◌≡◌, IfOk, IfErr};
 ghost use Rattle.std.specs.List.{find};
 ghost use Rattle.std.specs.Option.{option_map};
 ghost use Rattle.rowan_green.specs.declared.utility_types.NodeOrToken.TheVariants.{Token};
-ghost use Rattle.rowan_cursor.specs.Moves.{children, children_with_tokens};
+ghost use Rattle.rowan_table.specs.Moves.{children, children_with_tokens};
 ghost use Rattle.rowan_api.specs.Refs.{node_place, token_place};
 ghost use Rattle.rowan.specs.Ast.{casts_at, is_token_of, rest_of_children};
 ghost use Rattle.rowan.specs.Pointer.{means_kind};

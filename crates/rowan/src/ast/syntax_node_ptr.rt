@@ -2,7 +2,7 @@
 ghost use Rattle.std.specs.Prelude.{◌≡◌, ◌≢◌, ◌≤◌, IfOk, IfErr, true, Some, None};
 ghost use Rattle.std.specs.Option.{option_map};
 ghost use Rattle.rowan_green.specs.Steps.{one_more};
-ghost use Rattle.rowan_cursor.specs.Moves.{is_node_at};
+ghost use Rattle.rowan_table.specs.Moves.{is_node_at};
 ghost use Rattle.rowan_api.specs.Refs.{node_place};
 ghost use Rattle.rowan.specs.Pointer.{pointer_to, means_kind, is_meant, carried};
 ghost use Rattle.rowan.specs.Pointer.{Resolves, CountsResolving};

@@ -1,9 +1,9 @@
 ghost use Rattle.std.specs.Prelude.{◌≡◌, IfOk, IfErr, Some};
 ghost use Rattle.std.specs.Option.{option_map};
-ghost use Rattle.rowan_cursor.specs.Cursor.{index, kind, text_range};
-ghost use Rattle.rowan_cursor.specs.Moves.{Element, place_of, tree_top, parent};
-ghost use Rattle.rowan_cursor.specs.Moves.{next_sibling_or_token, prev_sibling_or_token};
-ghost use Rattle.rowan_cursor.specs.Moves.{element_ancestors};
+ghost use Rattle.rowan_table.specs.Cursor.{index, kind, text_range};
+ghost use Rattle.rowan_table.specs.Moves.{Element, place_of, tree_top, parent};
+ghost use Rattle.rowan_table.specs.Moves.{next_sibling_or_token, prev_sibling_or_token};
+ghost use Rattle.rowan_table.specs.Moves.{element_ancestors};
 
 use crate::api::{Ancestors, Language, SyntaxNode, SyntaxToken};
 use rowan_cursor::cursor;

@@ -1,7 +1,7 @@
 //! Lists of elements of a language that are borrowed from their tree.
 ghost use Rattle.std.specs.Prelude.{List};
 ghost use Rattle.std.specs.Iterator.{YieldsFirstBy};
-ghost use Rattle.rowan_cursor.specs.Moves.{Element};
+ghost use Rattle.rowan_table.specs.Moves.{Element};
 ghost use Rattle.rowan_cursor.specs.Refs.{element_place as raw_place};
 
 use crate::api::{Language, SyntaxElementRef, SyntaxTokenRef, element_ref};

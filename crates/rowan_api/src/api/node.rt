@@ -8,18 +8,19 @@ ghost use Rattle.std.specs.Option.{option_map};
 ghost use Rattle.rowan_green.specs.declared.utility_types.NodeOrToken.TheVariants.{Node};
 ghost use Rattle.serde_json.specs.View.{view};
 ghost use Rattle.serde_json.specs.Written.{compact_text};
-ghost use Rattle.rowan_cursor.specs.Cursor.{StandsAt, index, kind, text_range};
-ghost use Rattle.rowan_cursor.specs.Replacement.{IsReplacement, KeepsTheRest, WhyNoReplacement};
-ghost use Rattle.rowan_cursor.specs.SyntaxText.{whole_text};
-ghost use Rattle.rowan_api.specs.Printed.{raw_name, tree_json, IsDebugLine, IsDebugTree};
+ghost use Rattle.rowan_table.specs.Cursor.{StandsAt, index, kind, text_range};
+ghost use Rattle.rowan_table.specs.Replacement.{IsReplacement, KeepsTheRest, WhyNoReplacement};
+ghost use Rattle.rowan_table.specs.SyntaxText.{whole_text};
+ghost use Rattle.rowan_print.specs.Printed.{raw_name, tree_json, IsDebugLine, IsDebugTree};
 ghost use Rattle.rowan_api.specs.Refs.{node_place};
 
-use crate::api::{Language, SyntaxNodeRef, json_text, json_value, printed};
+use crate::api::{Language, SyntaxNodeRef};
 use rowan_cursor::cursor;
 use rowan_cursor::syntax_text::SyntaxText;
 use rowan_green::fault::Fault;
 use rowan_green::green::GreenNode;
 use rowan_green::text::{TextRange, TextSize};
+use rowan_print::{json_text, json_value, printed};
 use serde_json::Value;
 use std::alloc::{AllocError, Global};
 use std::fmt;
@@ -41,7 +42,7 @@ pub struct SyntaxNode<L> {
 }
 
 impl<L> Model for SyntaxNode<L> {
-    ghost use Rattle.rowan_cursor.specs.Cursor.{Cursor};
+    ghost use Rattle.rowan_table.specs.Cursor.{Cursor};
     ghost use Rattle.rowan_cursor.specs.CursorCode.{coded_cursor};
 
     ghost Value = { Cursor };
@@ -250,7 +251,7 @@ impl<L> Clone for SyntaxNode<L> {
 
 impl<L> PartialEq for SyntaxNode<L> {
     ghost use Rattle.std.specs.Cmp.{partial_equiv_from_equiv};
-    ghost use Rattle.rowan_cursor.specs.Equal.{same_place, same_place-laws};
+    ghost use Rattle.rowan_table.specs.Equal.{same_place, same_place-laws};
 
     ghost eq = { same_place };
 
@@ -262,13 +263,13 @@ impl<L> PartialEq for SyntaxNode<L> {
 }
 
 impl<L> Eq for SyntaxNode<L> {
-    ghost use Rattle.rowan_cursor.specs.Equal.{same_place-laws};
+    ghost use Rattle.rowan_table.specs.Equal.{same_place-laws};
 
     ghost laws = { same_place-laws };
 }
 
 impl<L> Hash for SyntaxNode<L> {
-    ghost use Rattle.rowan_cursor.specs.Equal.{fed_place, fed_place-same};
+    ghost use Rattle.rowan_table.specs.Equal.{fed_place, fed_place-same};
 
     ghost hash_input = { fed_place };
 
@@ -280,7 +281,7 @@ impl<L> Hash for SyntaxNode<L> {
 }
 
 impl<L> fmt::Display for SyntaxNode<L> {
-    ghost use Rattle.rowan_cursor.specs.Cursor.{text_at};
+    ghost use Rattle.rowan_table.specs.Cursor.{text_at};
 
     ghost output = { λ n. Some (text_at n) };
 

@@ -9,20 +9,21 @@ ghost use Rattle.std.specs.Option.{option_map};
 ghost use Rattle.rowan_green.specs.declared.utility_types.NodeOrToken.TheVariants.{Node};
 ghost use Rattle.serde_json.specs.View.{view};
 ghost use Rattle.serde_json.specs.Written.{compact_text};
-ghost use Rattle.rowan_cursor.specs.Cursor.{StandsAt, index, kind, text_range};
+ghost use Rattle.rowan_table.specs.Cursor.{StandsAt, index, kind, text_range};
 ghost use Rattle.rowan_cursor.specs.Refs.{node_place as raw_place};
 ghost use Rattle.rowan_cursor.specs.RefTexts.{text_slice};
-ghost use Rattle.rowan_cursor.specs.Replacement.{IsReplacement, KeepsTheRest, WhyNoReplacement};
-ghost use Rattle.rowan_cursor.specs.SyntaxText.{whole_text};
-ghost use Rattle.rowan_api.specs.Printed.{raw_name, tree_json, IsDebugLine, IsDebugTree};
+ghost use Rattle.rowan_table.specs.Replacement.{IsReplacement, KeepsTheRest, WhyNoReplacement};
+ghost use Rattle.rowan_table.specs.SyntaxText.{whole_text};
+ghost use Rattle.rowan_print.specs.Printed.{raw_name, tree_json, IsDebugLine, IsDebugTree};
 ghost use Rattle.rowan_api.specs.Refs.{node_place};
 
-use crate::api::{Language, SyntaxNode, json_text, json_value, printed};
+use crate::api::{Language, SyntaxNode};
 use rowan_cursor::cursor;
 use rowan_cursor::syntax_text::SyntaxTextRef;
 use rowan_green::fault::Fault;
 use rowan_green::green::GreenNode;
 use rowan_green::text::TextRange;
+use rowan_print::{json_text, json_value, printed};
 use serde_json::Value;
 use std::alloc::Global;
 use std::fmt;
@@ -191,7 +192,7 @@ impl<'tree, L> From<SyntaxNodeRef<'tree, L>> for cursor::SyntaxNodeRef<'tree> {
 
 impl<'tree, L> PartialEq for SyntaxNodeRef<'tree, L> {
     ghost use Rattle.std.specs.Cmp.{partial_equiv_from_equiv, on_equiv};
-    ghost use Rattle.rowan_cursor.specs.Equal.{same_place, same_place-laws};
+    ghost use Rattle.rowan_table.specs.Equal.{same_place, same_place-laws};
     ghost use Rattle.rowan_api.specs.Refs.{node_place};
 
     ghost eq = { λ m n. same_place (node_place m) (node_place n) };
@@ -205,14 +206,14 @@ impl<'tree, L> PartialEq for SyntaxNodeRef<'tree, L> {
 
 impl<'tree, L> Eq for SyntaxNodeRef<'tree, L> {
     ghost use Rattle.std.specs.Cmp.{on_equiv};
-    ghost use Rattle.rowan_cursor.specs.Equal.{same_place-laws};
+    ghost use Rattle.rowan_table.specs.Equal.{same_place-laws};
     ghost use Rattle.rowan_api.specs.Refs.{node_place};
 
     ghost laws = { on_equiv node_place same_place-laws };
 }
 
 impl<'tree, L> Hash for SyntaxNodeRef<'tree, L> {
-    ghost use Rattle.rowan_cursor.specs.Equal.{fed_place, fed_place-same};
+    ghost use Rattle.rowan_table.specs.Equal.{fed_place, fed_place-same};
     ghost use Rattle.rowan_api.specs.Refs.{node_place};
 
     ghost hash_input = { λ n. fed_place (node_place n) };
@@ -225,7 +226,7 @@ impl<'tree, L> Hash for SyntaxNodeRef<'tree, L> {
 }
 
 impl<'tree, L> fmt::Display for SyntaxNodeRef<'tree, L> {
-    ghost use Rattle.rowan_cursor.specs.Cursor.{text_at};
+    ghost use Rattle.rowan_table.specs.Cursor.{text_at};
     ghost use Rattle.rowan_api.specs.Refs.{node_place};
 
     ghost output = { λ n. Some (text_at (node_place n)) };

@@ -1,7 +1,7 @@
 //! Lists of nodes of a language that are borrowed from their tree.
 ghost use Rattle.std.specs.Prelude.{List};
 ghost use Rattle.std.specs.Iterator.{YieldsFirstBy};
-ghost use Rattle.rowan_cursor.specs.Cursor.{Cursor};
+ghost use Rattle.rowan_table.specs.Cursor.{Cursor};
 ghost use Rattle.rowan_cursor.specs.Refs.{node_place as raw_place};
 
 use crate::api::{Language, NodesByKindRef, SyntaxNodeRef};

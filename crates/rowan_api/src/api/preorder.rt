@@ -18,9 +18,9 @@ pub struct Preorder<L> {
 
 impl<L> Model for Preorder<L> {
     ghost use Rattle.rowan_green.specs.declared.utility_types.WalkEvent.{WalkEvent};
-    ghost use Rattle.rowan_cursor.specs.Cursor.{Cursor};
+    ghost use Rattle.rowan_table.specs.Cursor.{Cursor};
     ghost use Rattle.rowan_cursor.specs.EventCode.{coded_rest_of_node_events};
-    ghost use Rattle.rowan_cursor.specs.Yields.{Rest};
+    ghost use Rattle.rowan_table.specs.Yields.{Rest};
 
     ghost Value = { Rest (WalkEvent Cursor) };
 
@@ -31,7 +31,7 @@ impl<L> Model for Preorder<L> {
 
 impl<L> Preorder<L> {
     ghost use Rattle.std.specs.Prelude.{◌≡◌};
-    ghost use Rattle.rowan_cursor.specs.Preorder.{skip_rest};
+    ghost use Rattle.rowan_table.specs.Preorder.{skip_rest};
 
     pub(super) fn new(raw: cursor::Preorder) -> Preorder<L>
         ensures { result ≡ raw }
@@ -56,7 +56,7 @@ impl<L> Iterator for Preorder<L> {
     type Item = Result<WalkEvent<SyntaxNode<L>>, Fault>;
 
     ghost use Rattle.std.specs.Iterator.{at_most};
-    ghost use Rattle.rowan_cursor.specs.Yields.{YieldsOrRefuses, count_of};
+    ghost use Rattle.rowan_table.specs.Yields.{YieldsOrRefuses, count_of};
 
     ghost next_gives = { λ s r t. YieldsOrRefuses s r t };
 

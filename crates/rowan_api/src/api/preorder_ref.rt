@@ -15,7 +15,7 @@ pub struct PreorderRef<'tree, L> {
 
 impl<'tree, L> PreorderRef<'tree, L> {
     ghost use Rattle.std.specs.Prelude.{◌≡◌};
-    ghost use Rattle.rowan_cursor.specs.Preorder.{skip};
+    ghost use Rattle.rowan_table.specs.Preorder.{skip};
     ghost use Rattle.rowan_cursor.specs.RefWalks.{rest_of_node_events as raw_rest};
     ghost use Rattle.rowan_api.specs.Refs.{rest_of_node_events};
 

@@ -20,8 +20,8 @@ pub struct PreorderWithTokens<L> {
 impl<L> Model for PreorderWithTokens<L> {
     ghost use Rattle.rowan_green.specs.declared.utility_types.WalkEvent.{WalkEvent};
     ghost use Rattle.rowan_cursor.specs.EventCode.{coded_rest_of_events};
-    ghost use Rattle.rowan_cursor.specs.Moves.{Element};
-    ghost use Rattle.rowan_cursor.specs.Yields.{Rest};
+    ghost use Rattle.rowan_table.specs.Moves.{Element};
+    ghost use Rattle.rowan_table.specs.Yields.{Rest};
 
     ghost Value = { Rest (WalkEvent Element) };
 
@@ -32,7 +32,7 @@ impl<L> Model for PreorderWithTokens<L> {
 
 impl<L> PreorderWithTokens<L> {
     ghost use Rattle.std.specs.Prelude.{◌≡◌};
-    ghost use Rattle.rowan_cursor.specs.Preorder.{skip_rest};
+    ghost use Rattle.rowan_table.specs.Preorder.{skip_rest};
 
     pub(super) fn new(raw: cursor::PreorderWithTokens) -> PreorderWithTokens<L>
         ensures { result ≡ raw }
@@ -57,7 +57,7 @@ impl<L> Iterator for PreorderWithTokens<L> {
     type Item = Result<WalkEvent<SyntaxElement<L>>, Fault>;
 
     ghost use Rattle.std.specs.Iterator.{at_most};
-    ghost use Rattle.rowan_cursor.specs.Yields.{YieldsOrRefuses, count_of};
+    ghost use Rattle.rowan_table.specs.Yields.{YieldsOrRefuses, count_of};
 
     ghost next_gives = { λ s r t. YieldsOrRefuses s r t };
 

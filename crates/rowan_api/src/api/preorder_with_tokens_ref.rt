@@ -15,7 +15,7 @@ pub struct PreorderWithTokensRef<'tree, L> {
 
 impl<'tree, L> PreorderWithTokensRef<'tree, L> {
     ghost use Rattle.std.specs.Prelude.{◌≡◌};
-    ghost use Rattle.rowan_cursor.specs.Preorder.{skip};
+    ghost use Rattle.rowan_table.specs.Preorder.{skip};
     ghost use Rattle.rowan_cursor.specs.RefWalks.{rest_of_events as raw_rest};
     ghost use Rattle.rowan_api.specs.Refs.{rest_of_events};
 

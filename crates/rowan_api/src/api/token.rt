@@ -3,25 +3,25 @@ ghost use Rattle.std.specs.Option.{option_map};
 ghost use Rattle.rowan_green.specs.declared.utility_types.NodeOrToken.TheVariants.{Token};
 ghost use Rattle.serde_json.specs.View.{view};
 ghost use Rattle.serde_json.specs.Written.{compact_text};
-ghost use Rattle.rowan_cursor.specs.Cursor.{StandsAtToken, index, kind, text_range, text_at};
-ghost use Rattle.rowan_cursor.specs.Moves.{tree_top, parent, next_sibling_or_token};
-ghost use Rattle.rowan_cursor.specs.Moves.{prev_sibling_or_token, next_token, prev_token};
-ghost use Rattle.rowan_cursor.specs.Moves.{parent_ancestors, siblings_with_tokens};
-ghost use Rattle.rowan_cursor.specs.Replacement.{IsReplacement, KeepsTheRest, WhyNoReplacement};
-ghost use Rattle.rowan_api.specs.Printed.{raw_name, tree_json, IsDebugLine};
+ghost use Rattle.rowan_table.specs.Cursor.{StandsAtToken, index, kind, text_range, text_at};
+ghost use Rattle.rowan_table.specs.Moves.{tree_top, parent, next_sibling_or_token};
+ghost use Rattle.rowan_table.specs.Moves.{prev_sibling_or_token, next_token, prev_token};
+ghost use Rattle.rowan_table.specs.Moves.{parent_ancestors, siblings_with_tokens};
+ghost use Rattle.rowan_table.specs.Replacement.{IsReplacement, KeepsTheRest, WhyNoReplacement};
+ghost use Rattle.rowan_print.specs.Printed.{raw_name, tree_json, IsDebugLine};
 ghost use Rattle.rowan_api.specs.Refs.{token_place};
 
 use crate::api::typed_elements::TypedElements;
 use crate::api::typed_nodes::TypedNodes;
 use crate::api::{
     Ancestors, Language, SiblingsWithTokens, SyntaxElement, SyntaxNode, SyntaxTokenRef, element,
-    json_text, json_value, printed,
 };
 use rowan_cursor::cursor;
 use rowan_green::fault::Fault;
 use rowan_green::green::{GreenNode, GreenToken};
 use rowan_green::text::TextRange;
 use rowan_green::utility_types::Direction;
+use rowan_print::{json_text, json_value, printed};
 use serde_json::Value;
 use std::alloc::{AllocError, Global};
 use std::fmt;
@@ -42,7 +42,7 @@ pub struct SyntaxToken<L> {
 }
 
 impl<L> Model for SyntaxToken<L> {
-    ghost use Rattle.rowan_cursor.specs.Cursor.{Cursor};
+    ghost use Rattle.rowan_table.specs.Cursor.{Cursor};
     ghost use Rattle.rowan_cursor.specs.CursorCode.{coded_cursor};
 
     ghost Value = { Cursor };
@@ -267,7 +267,7 @@ impl<L> Clone for SyntaxToken<L> {
 
 impl<L> PartialEq for SyntaxToken<L> {
     ghost use Rattle.std.specs.Cmp.{partial_equiv_from_equiv};
-    ghost use Rattle.rowan_cursor.specs.Equal.{same_place, same_place-laws};
+    ghost use Rattle.rowan_table.specs.Equal.{same_place, same_place-laws};
 
     ghost eq = { same_place };
 
@@ -279,13 +279,13 @@ impl<L> PartialEq for SyntaxToken<L> {
 }
 
 impl<L> Eq for SyntaxToken<L> {
-    ghost use Rattle.rowan_cursor.specs.Equal.{same_place-laws};
+    ghost use Rattle.rowan_table.specs.Equal.{same_place-laws};
 
     ghost laws = { same_place-laws };
 }
 
 impl<L> Hash for SyntaxToken<L> {
-    ghost use Rattle.rowan_cursor.specs.Equal.{fed_place, fed_place-same};
+    ghost use Rattle.rowan_table.specs.Equal.{fed_place, fed_place-same};
 
     ghost hash_input = { fed_place };
 
@@ -297,7 +297,7 @@ impl<L> Hash for SyntaxToken<L> {
 }
 
 impl<L> fmt::Display for SyntaxToken<L> {
-    ghost use Rattle.rowan_cursor.specs.Cursor.{text_at};
+    ghost use Rattle.rowan_table.specs.Cursor.{text_at};
 
     ghost output = { λ t. Some (text_at t) };
 

@@ -4,13 +4,13 @@ ghost use Rattle.std.specs.Option.{option_map};
 ghost use Rattle.rowan_green.specs.declared.utility_types.NodeOrToken.TheVariants.{Token};
 ghost use Rattle.serde_json.specs.View.{view};
 ghost use Rattle.serde_json.specs.Written.{compact_text};
-ghost use Rattle.rowan_cursor.specs.Cursor.{StandsAtToken, index, kind, text_range, text_at};
-ghost use Rattle.rowan_cursor.specs.Moves.{tree_top, parent, next_sibling_or_token};
-ghost use Rattle.rowan_cursor.specs.Moves.{prev_sibling_or_token, next_token, prev_token};
-ghost use Rattle.rowan_cursor.specs.Moves.{parent_ancestors, siblings_with_tokens};
+ghost use Rattle.rowan_table.specs.Cursor.{StandsAtToken, index, kind, text_range, text_at};
+ghost use Rattle.rowan_table.specs.Moves.{tree_top, parent, next_sibling_or_token};
+ghost use Rattle.rowan_table.specs.Moves.{prev_sibling_or_token, next_token, prev_token};
+ghost use Rattle.rowan_table.specs.Moves.{parent_ancestors, siblings_with_tokens};
 ghost use Rattle.rowan_cursor.specs.Refs.{token_place as raw_place};
-ghost use Rattle.rowan_cursor.specs.Replacement.{IsReplacement, KeepsTheRest, WhyNoReplacement};
-ghost use Rattle.rowan_api.specs.Printed.{raw_name, tree_json, IsDebugLine};
+ghost use Rattle.rowan_table.specs.Replacement.{IsReplacement, KeepsTheRest, WhyNoReplacement};
+ghost use Rattle.rowan_print.specs.Printed.{raw_name, tree_json, IsDebugLine};
 ghost use Rattle.rowan_api.specs.Refs.{node_place, token_place, element_place};
 ghost use Rattle.rowan_api.specs.Refs.{rest_of_ancestors, rest_of_elements};
 
@@ -18,13 +18,14 @@ use crate::api::elements_ref::TypedElementsRef;
 use crate::api::nodes_ref::TypedNodesRef;
 use crate::api::{
     AncestorsRef, Language, SiblingsWithTokensRef, SyntaxElementRef, SyntaxNodeRef, SyntaxToken,
-    element_ref, json_text, json_value, printed,
+    element_ref,
 };
 use rowan_cursor::cursor;
 use rowan_green::fault::Fault;
 use rowan_green::green::{GreenNode, GreenToken};
 use rowan_green::text::TextRange;
 use rowan_green::utility_types::Direction;
+use rowan_print::{json_text, json_value, printed};
 use serde_json::Value;
 use std::alloc::Global;
 use std::fmt;
@@ -229,7 +230,7 @@ impl<'tree, L> From<SyntaxTokenRef<'tree, L>> for cursor::SyntaxTokenRef<'tree> 
 
 impl<'tree, L> PartialEq for SyntaxTokenRef<'tree, L> {
     ghost use Rattle.std.specs.Cmp.{partial_equiv_from_equiv, on_equiv};
-    ghost use Rattle.rowan_cursor.specs.Equal.{same_place, same_place-laws};
+    ghost use Rattle.rowan_table.specs.Equal.{same_place, same_place-laws};
     ghost use Rattle.rowan_api.specs.Refs.{token_place};
 
     ghost eq = { λ s t. same_place (token_place s) (token_place t) };
@@ -243,14 +244,14 @@ impl<'tree, L> PartialEq for SyntaxTokenRef<'tree, L> {
 
 impl<'tree, L> Eq for SyntaxTokenRef<'tree, L> {
     ghost use Rattle.std.specs.Cmp.{on_equiv};
-    ghost use Rattle.rowan_cursor.specs.Equal.{same_place-laws};
+    ghost use Rattle.rowan_table.specs.Equal.{same_place-laws};
     ghost use Rattle.rowan_api.specs.Refs.{token_place};
 
     ghost laws = { on_equiv token_place same_place-laws };
 }
 
 impl<'tree, L> Hash for SyntaxTokenRef<'tree, L> {
-    ghost use Rattle.rowan_cursor.specs.Equal.{fed_place, fed_place-same};
+    ghost use Rattle.rowan_table.specs.Equal.{fed_place, fed_place-same};
     ghost use Rattle.rowan_api.specs.Refs.{token_place};
 
     ghost hash_input = { λ t. fed_place (token_place t) };
@@ -263,7 +264,7 @@ impl<'tree, L> Hash for SyntaxTokenRef<'tree, L> {
 }
 
 impl<'tree, L> fmt::Display for SyntaxTokenRef<'tree, L> {
-    ghost use Rattle.rowan_cursor.specs.Cursor.{text_at};
+    ghost use Rattle.rowan_table.specs.Cursor.{text_at};
     ghost use Rattle.rowan_api.specs.Refs.{token_place};
 
     ghost output = { λ t. Some (text_at (token_place t)) };

@@ -4,7 +4,7 @@ ghost use Rattle.rowan_cursor.specs.Walks.{HasClimb};
 
 use crate::cursor::SyntaxNodeRef;
 use crate::cursor::climb::Climb;
-use crate::table::Table;
+use rowan_table::table::Table;
 use std::fmt;
 use std::rc::Rc;
 

@@ -1,7 +1,7 @@
 //! The way up from an element to the root.
 use crate::cursor::SyntaxNode;
 use crate::cursor::remainder::Walk;
-use crate::table::Table;
+use rowan_table::table::Table;
 use std::alloc::AllocError;
 use std::rc::Rc;
 
@@ -13,7 +13,7 @@ pub struct Climb {
 
 impl Climb {
     ghost use Rattle.std.specs.Prelude.{◌≡◌, [], ◌∷◌, IfNone, IfSome};
-    ghost use Rattle.rowan_cursor.specs.TableView.{cursor_of, IsNodeIn};
+    ghost use Rattle.rowan_table.specs.TableView.{cursor_of, IsNodeIn};
     ghost use Rattle.rowan_cursor.specs.Walks.{climb_nodes, HasClimb};
 
     /// The way up from a node, where there is one.

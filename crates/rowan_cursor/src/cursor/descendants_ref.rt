@@ -3,7 +3,7 @@ ghost use Rattle.rowan_cursor.specs.TraversalView.{HasTraversal, HasTraversal-pr
 
 use crate::cursor::traversal::Traversal;
 use crate::cursor::{SyntaxElementRef, SyntaxNodeRef, element_ref};
-use crate::table::Table;
+use rowan_table::table::Table;
 use std::fmt;
 use std::rc::Rc;
 

@@ -3,9 +3,9 @@ ghost use Rattle.rowan_cursor.specs.Walks.{HasRow};
 
 use crate::cursor::row::Row;
 use crate::cursor::{SyntaxElementRef, SyntaxTokenRef, element_ref};
-use crate::table::Table;
 use rowan_green::green::SyntaxKind;
 use rowan_green::utility_types::NodeOrToken;
+use rowan_table::table::Table;
 use std::fmt;
 use std::rc::Rc;
 

@@ -1,20 +1,20 @@
 //! Nodes and tokens that are borrowed from their tree as one type, and the calls that both have.
 ghost use Rattle.std.specs.Prelude.{◌≡◌, IfOk, IfErr, IfSome, Some};
 ghost use Rattle.std.specs.Option.{option_map};
-ghost use Rattle.rowan_cursor.specs.Cursor.{index, kind, text_range};
-ghost use Rattle.rowan_cursor.specs.TableView.{IsWithin, element_of};
-ghost use Rattle.rowan_cursor.specs.Moves.{Element, place_of, tree_top, parent};
-ghost use Rattle.rowan_cursor.specs.Moves.{next_sibling_or_token, prev_sibling_or_token};
-ghost use Rattle.rowan_cursor.specs.Moves.{first_token, last_token, element_ancestors};
+ghost use Rattle.rowan_table.specs.Cursor.{index, kind, text_range};
+ghost use Rattle.rowan_table.specs.TableView.{IsWithin, element_of};
+ghost use Rattle.rowan_table.specs.Moves.{Element, place_of, tree_top, parent};
+ghost use Rattle.rowan_table.specs.Moves.{next_sibling_or_token, prev_sibling_or_token};
+ghost use Rattle.rowan_table.specs.Moves.{first_token, last_token, element_ancestors};
 ghost use Rattle.rowan_cursor.specs.Refs.{node_place, token_place, element_place};
 ghost use Rattle.rowan_cursor.specs.Refs.{rest_of_ancestors};
 
 use crate::cursor::{AncestorsRef, SyntaxElement, SyntaxNodeRef, SyntaxTokenRef};
-use crate::table::Table;
 use rowan_green::fault::Fault;
 use rowan_green::green::SyntaxKind;
 use rowan_green::text::TextRange;
 use rowan_green::utility_types::NodeOrToken;
+use rowan_table::table::Table;
 use std::rc::Rc;
 
 /// A node or a token that is borrowed from its tree. Its calls are those of [`ElementRefCalls`].

@@ -4,9 +4,9 @@ use crate::cursor::remainder::{Remainder, Walk};
 use crate::cursor::row::Row;
 use crate::cursor::traversal::Traversal;
 use crate::cursor::{SyntaxElement, SyntaxNode};
-use crate::table::Table;
 use rowan_green::fault::Fault;
 use rowan_green::utility_types::WalkEvent;
+use rowan_table::table::Table;
 use std::alloc::AllocError;
 use std::fmt;
 use std::marker::{Model, PhantomData};
@@ -51,7 +51,7 @@ pub type PreorderWithTokens = Iter<WalkEvent<SyntaxElement>, Traversal>;
 
 impl<T, W: Walk<T>> Model for Iter<T, W> {
     ghost use Rattle.std.specs.Coded.{coded_list, coded_result};
-    ghost use Rattle.rowan_cursor.specs.Yields.{Rest};
+    ghost use Rattle.rowan_table.specs.Yields.{Rest};
     ghost use Rattle.rowan_cursor.specs.YieldsCode.{coded_fault};
 
     ghost Value = { Rest T };
@@ -82,7 +82,7 @@ impl<T, W: Walk<T>> Iter<T, W> {
 
 impl Preorder {
     ghost use Rattle.std.specs.Prelude.{◌≡◌};
-    ghost use Rattle.rowan_cursor.specs.Preorder.{skip_rest};
+    ghost use Rattle.rowan_table.specs.Preorder.{skip_rest};
 
     /// Drops what is left before the next Leave of a node that was entered. So after an Enter that
     /// node's Leave comes next, and after a Leave that of the parent. Several calls before one
@@ -96,7 +96,7 @@ impl Preorder {
 
 impl PreorderWithTokens {
     ghost use Rattle.std.specs.Prelude.{◌≡◌};
-    ghost use Rattle.rowan_cursor.specs.Preorder.{skip_rest};
+    ghost use Rattle.rowan_table.specs.Preorder.{skip_rest};
 
     /// Drops what is left before the next Leave of an element that was entered. So after an Enter
     /// that element's Leave comes next, and after a Leave that of the parent. Several calls before
@@ -112,7 +112,7 @@ impl<T, W: Walk<T>> Iterator for Iter<T, W> {
     type Item = Result<T, Fault>;
 
     ghost use Rattle.std.specs.Iterator.{at_most};
-    ghost use Rattle.rowan_cursor.specs.Yields.{YieldsOrRefuses, count_of};
+    ghost use Rattle.rowan_table.specs.Yields.{YieldsOrRefuses, count_of};
 
     ghost next_gives = { λ s r t. YieldsOrRefuses s r t };
 

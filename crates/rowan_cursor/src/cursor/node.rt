@@ -5,16 +5,16 @@ mod text;
 ghost use Rattle.std.specs.Prelude.{◌≡◌, [], IfOk, IfErr, IfSome, Some};
 ghost use Rattle.std.specs.Option.{option_map};
 ghost use Rattle.rowan_green.specs.declared.utility_types.NodeOrToken.TheVariants.{Node};
-ghost use Rattle.rowan_cursor.specs.Cursor.{StandsAt, index, kind, text_range};
-ghost use Rattle.rowan_cursor.specs.TableView.{cursor_of, IsNodeIn};
-ghost use Rattle.rowan_cursor.specs.Moves.{tree_top, parent, first_child, last_child};
-ghost use Rattle.rowan_cursor.specs.Moves.{first_child_or_token, last_child_or_token};
-ghost use Rattle.rowan_cursor.specs.Moves.{child_or_token_at_index, next_sibling, prev_sibling};
-ghost use Rattle.rowan_cursor.specs.Moves.{next_sibling_or_token, prev_sibling_or_token};
-ghost use Rattle.rowan_cursor.specs.Moves.{first_token, last_token, children, children_with_tokens};
-ghost use Rattle.rowan_cursor.specs.Moves.{siblings, siblings_with_tokens, ancestors};
+ghost use Rattle.rowan_table.specs.Cursor.{StandsAt, index, kind, text_range};
+ghost use Rattle.rowan_table.specs.TableView.{cursor_of, IsNodeIn};
+ghost use Rattle.rowan_table.specs.Moves.{tree_top, parent, first_child, last_child};
+ghost use Rattle.rowan_table.specs.Moves.{first_child_or_token, last_child_or_token};
+ghost use Rattle.rowan_table.specs.Moves.{child_or_token_at_index, next_sibling, prev_sibling};
+ghost use Rattle.rowan_table.specs.Moves.{next_sibling_or_token, prev_sibling_or_token};
+ghost use Rattle.rowan_table.specs.Moves.{first_token, last_token, children, children_with_tokens};
+ghost use Rattle.rowan_table.specs.Moves.{siblings, siblings_with_tokens, ancestors};
 ghost use Rattle.rowan_cursor.specs.Refs.{node_place};
-ghost use Rattle.rowan_cursor.specs.Replacement.{IsReplacement, KeepsTheRest, WhyNoReplacement};
+ghost use Rattle.rowan_table.specs.Replacement.{IsReplacement, KeepsTheRest, WhyNoReplacement};
 
 mod walks;
 
@@ -24,11 +24,11 @@ use crate::cursor::{
     Ancestors, Siblings, SiblingsWithTokens, SyntaxElement, SyntaxElementChildren,
     SyntaxNodeChildren, SyntaxNodeRef, SyntaxToken, element,
 };
-use crate::table::Table;
 use rowan_green::fault::Fault;
 use rowan_green::green::{GreenNode, SyntaxKind};
 use rowan_green::text::TextRange;
 use rowan_green::utility_types::Direction;
+use rowan_table::table::Table;
 use std::alloc::{AllocError, Global};
 use std::fmt;
 use std::hash::{Hash, Hasher};
@@ -66,14 +66,14 @@ pub struct SyntaxNode {
 }
 
 impl Model for SyntaxNode {
-    ghost use Rattle.rowan_cursor.specs.Cursor.{Cursor};
+    ghost use Rattle.rowan_table.specs.Cursor.{Cursor};
     ghost use Rattle.rowan_cursor.specs.CursorCode.{coded_cursor};
 
     ghost Value = { Cursor };
 
     ghost coded = { coded_cursor };
 
-    ghost use Rattle.rowan_cursor.specs.TableView.{cursor_of, IsNodeIn};
+    ghost use Rattle.rowan_table.specs.TableView.{cursor_of, IsNodeIn};
 
     ghost view = { λ n. cursor_of n.table.value n.number };
 
@@ -343,7 +343,7 @@ impl Clone for SyntaxNode {
 
 impl PartialEq for SyntaxNode {
     ghost use Rattle.std.specs.Cmp.{partial_equiv_from_equiv};
-    ghost use Rattle.rowan_cursor.specs.Equal.{same_place, same_place-laws};
+    ghost use Rattle.rowan_table.specs.Equal.{same_place, same_place-laws};
 
     ghost eq = { same_place };
 
@@ -355,13 +355,13 @@ impl PartialEq for SyntaxNode {
 }
 
 impl Eq for SyntaxNode {
-    ghost use Rattle.rowan_cursor.specs.Equal.{same_place-laws};
+    ghost use Rattle.rowan_table.specs.Equal.{same_place-laws};
 
     ghost laws = { same_place-laws };
 }
 
 impl Hash for SyntaxNode {
-    ghost use Rattle.rowan_cursor.specs.Equal.{fed_place, fed_place-same};
+    ghost use Rattle.rowan_table.specs.Equal.{fed_place, fed_place-same};
 
     ghost hash_input = { fed_place };
 
@@ -373,7 +373,7 @@ impl Hash for SyntaxNode {
 }
 
 impl fmt::Display for SyntaxNode {
-    ghost use Rattle.rowan_cursor.specs.Cursor.{text_at};
+    ghost use Rattle.rowan_table.specs.Cursor.{text_at};
 
     ghost output = { λ n. Some (text_at n) };
 

@@ -3,8 +3,8 @@ ghost use Rattle.rowan_cursor.specs.Walks.{HasRow};
 
 use crate::cursor::row::Row;
 use crate::cursor::{NodesByKindRef, SyntaxNodeRef};
-use crate::table::Table;
 use rowan_green::green::SyntaxKind;
+use rowan_table::table::Table;
 use std::fmt;
 use std::rc::Rc;
 

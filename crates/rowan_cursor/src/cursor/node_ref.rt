@@ -4,7 +4,7 @@ mod search;
 mod text;
 mod walks;
 
-ghost use Rattle.rowan_cursor.specs.TableView.{IsNodeIn};
+ghost use Rattle.rowan_table.specs.TableView.{IsNodeIn};
 
 use crate::cursor::climb::Climb;
 use crate::cursor::row::Row;
@@ -12,11 +12,11 @@ use crate::cursor::{
     AncestorsRef, SiblingsRef, SiblingsWithTokensRef, SyntaxElementChildrenRef, SyntaxElementRef,
     SyntaxNode, SyntaxNodeChildrenRef, SyntaxTokenRef, element_ref,
 };
-use crate::table::Table;
 use rowan_green::fault::Fault;
 use rowan_green::green::{GreenNode, SyntaxKind};
 use rowan_green::text::TextRange;
 use rowan_green::utility_types::Direction;
+use rowan_table::table::Table;
 use std::rc::Rc;
 
 /// A node that is borrowed from its tree: what [`SyntaxNode`] is, for as long as another cursor
@@ -33,20 +33,20 @@ impl<'tree> SyntaxNodeRef<'tree> {
     ghost use Rattle.std.specs.Prelude.{◌≡◌, ◌^◌, ◌<◌, [], length, IfOk, IfErr, IfSome, Some};
     ghost use Rattle.std.specs.Option.{option_map};
     ghost use Rattle.rowan_green.specs.declared.utility_types.NodeOrToken.TheVariants.{Node};
-    ghost use Rattle.rowan_cursor.specs.Cursor.{StandsAt, index, kind, text_range};
-    ghost use Rattle.rowan_cursor.specs.TableView.{cursor_of, IsNodeIn};
-    ghost use Rattle.rowan_cursor.specs.Moves.{tree_top, parent, first_child, last_child};
-    ghost use Rattle.rowan_cursor.specs.Moves.{first_child_or_token, last_child_or_token};
-    ghost use Rattle.rowan_cursor.specs.Moves.{child_or_token_at_index, next_sibling, prev_sibling};
-    ghost use Rattle.rowan_cursor.specs.Moves.{next_sibling_or_token, prev_sibling_or_token};
-    ghost use Rattle.rowan_cursor.specs.Moves.{first_token, last_token, children};
-    ghost use Rattle.rowan_cursor.specs.Moves.{children_with_tokens, siblings};
-    ghost use Rattle.rowan_cursor.specs.Moves.{siblings_with_tokens, ancestors};
+    ghost use Rattle.rowan_table.specs.Cursor.{StandsAt, index, kind, text_range};
+    ghost use Rattle.rowan_table.specs.TableView.{cursor_of, IsNodeIn};
+    ghost use Rattle.rowan_table.specs.Moves.{tree_top, parent, first_child, last_child};
+    ghost use Rattle.rowan_table.specs.Moves.{first_child_or_token, last_child_or_token};
+    ghost use Rattle.rowan_table.specs.Moves.{child_or_token_at_index, next_sibling, prev_sibling};
+    ghost use Rattle.rowan_table.specs.Moves.{next_sibling_or_token, prev_sibling_or_token};
+    ghost use Rattle.rowan_table.specs.Moves.{first_token, last_token, children};
+    ghost use Rattle.rowan_table.specs.Moves.{children_with_tokens, siblings};
+    ghost use Rattle.rowan_table.specs.Moves.{siblings_with_tokens, ancestors};
     ghost use Rattle.rowan_cursor.specs.Kinds.{first_child_by_kind, next_sibling_by_kind};
     ghost use Rattle.rowan_cursor.specs.Kinds.{first_token_of_kind};
     ghost use Rattle.rowan_cursor.specs.Refs.{node_place, token_place, element_place};
     ghost use Rattle.rowan_cursor.specs.Refs.{rest_of_nodes, rest_of_elements, rest_of_ancestors};
-    ghost use Rattle.rowan_cursor.specs.Replacement.{IsReplacement, KeepsTheRest, WhyNoReplacement};
+    ghost use Rattle.rowan_table.specs.Replacement.{IsReplacement, KeepsTheRest, WhyNoReplacement};
 
     // The node with a number.
     pub(super) fn at(table: &'tree Rc<Table>, number: usize) -> SyntaxNodeRef<'tree>

@@ -4,8 +4,8 @@ ghost use Rattle.rowan_cursor.specs.TraversalView.{HasNodeTraversal, HasNodeTrav
 
 use crate::cursor::traversal::Traversal;
 use crate::cursor::{SyntaxElementRef, SyntaxNodeRef, element_ref};
-use crate::table::Table;
 use rowan_green::utility_types::WalkEvent;
+use rowan_table::table::Table;
 use std::fmt;
 use std::rc::Rc;
 
@@ -20,7 +20,7 @@ pub struct PreorderRef<'tree> {
 
 impl<'tree> PreorderRef<'tree> {
     ghost use Rattle.std.specs.Prelude.{◌≡◌, ◌≤◌, length};
-    ghost use Rattle.rowan_cursor.specs.Preorder.{skip};
+    ghost use Rattle.rowan_table.specs.Preorder.{skip};
     ghost use Rattle.rowan_cursor.specs.RefWalks.{rest_of_node_events};
     ghost use Rattle.rowan_cursor.specs.TraversalView.{traversal_node_events};
 
@@ -80,7 +80,7 @@ pub struct PreorderWithTokensRef<'tree> {
 
 impl<'tree> PreorderWithTokensRef<'tree> {
     ghost use Rattle.std.specs.Prelude.{◌≡◌, ◌≤◌, length};
-    ghost use Rattle.rowan_cursor.specs.Preorder.{skip};
+    ghost use Rattle.rowan_table.specs.Preorder.{skip};
     ghost use Rattle.rowan_cursor.specs.RefWalks.{rest_of_events};
     ghost use Rattle.rowan_cursor.specs.TraversalView.{traversal_events};
 

@@ -1,11 +1,11 @@
 //! What is still to come of an iterator over cursors. A walk goes on by numbers alone, over a table
 //! that is lent to it. An iterator adds a share of the table, and makes cursors of the numbers.
 ghost use Rattle.std.specs.Prelude.{◌<◌, List, IfOk, IsErr, length};
-ghost use Rattle.rowan_cursor.specs.declared.table.Table.{Table};
-ghost use Rattle.rowan_cursor.specs.Yields.{TakesFirst};
+ghost use Rattle.rowan_table.specs.declared.table.Table.{Table};
+ghost use Rattle.rowan_table.specs.Yields.{TakesFirst};
 
-use crate::table::Table;
 use rowan_green::fault::Fault;
+use rowan_table::table::Table;
 use std::alloc::AllocError;
 use std::mem;
 use std::rc::Rc;
@@ -41,7 +41,7 @@ pub(super) enum Remainder<W> {
 impl<W> Remainder<W> {
     ghost use Rattle.std.specs.Prelude.{◌≡◌, IfOk};
     ghost use Rattle.rowan_cursor.specs.Walks.{rest_of, IfWalk};
-    ghost use Rattle.rowan_cursor.specs.Yields.{YieldsOrRefuses};
+    ghost use Rattle.rowan_table.specs.Yields.{YieldsOrRefuses};
 
     /// A whole walk. Its refusal comes first where the table cannot be shared once more.
     pub(super) fn new<T>(table: &Rc<Table>, walk: W) -> Remainder<W>

@@ -1,8 +1,8 @@
 //! Elements that stand side by side: the children of a node, or siblings.
 use crate::cursor::remainder::Walk;
 use crate::cursor::{SyntaxElement, SyntaxNode, element};
-use crate::table::Table;
 use rowan_green::utility_types::Direction;
+use rowan_table::table::Table;
 use std::alloc::AllocError;
 use std::ops::Range;
 use std::rc::Rc;
@@ -17,10 +17,10 @@ pub struct Row {
 
 impl Row {
     ghost use Rattle.std.specs.Prelude.{◌≡◌, ◌<◌, ◌≤◌, [], ◌∷◌, IfNone, IfSome};
-    ghost use Rattle.rowan_cursor.specs.Moves.{children, children_with_tokens, siblings};
-    ghost use Rattle.rowan_cursor.specs.Moves.{siblings_with_tokens};
+    ghost use Rattle.rowan_table.specs.Moves.{children, children_with_tokens, siblings};
+    ghost use Rattle.rowan_table.specs.Moves.{siblings_with_tokens};
     ghost use Rattle.rowan_cursor.specs.Kinds.{nodes_behind};
-    ghost use Rattle.rowan_cursor.specs.TableView.{cursor_of, IsWithin, IsNodeIn};
+    ghost use Rattle.rowan_table.specs.TableView.{cursor_of, IsWithin, IsNodeIn};
     ghost use Rattle.rowan_cursor.specs.Walks.{row_elements, row_nodes, row_numbers, node_numbers};
     ghost use Rattle.rowan_cursor.specs.Walks.{numbers_between, HasRow};
 

@@ -2,25 +2,25 @@
 ghost use Rattle.std.specs.Prelude.{◌≡◌, IfOk, IfErr, IfSome, Some};
 ghost use Rattle.std.specs.Option.{option_map};
 ghost use Rattle.rowan_green.specs.declared.utility_types.NodeOrToken.TheVariants.{Token};
-ghost use Rattle.rowan_cursor.specs.Cursor.{StandsAtToken, index, kind, text_range, text_at};
-ghost use Rattle.rowan_cursor.specs.TableView.{cursor_of, IsTokenIn};
-ghost use Rattle.rowan_cursor.specs.Moves.{tree_top, parent, next_sibling_or_token};
-ghost use Rattle.rowan_cursor.specs.Moves.{prev_sibling_or_token, first_token, last_token};
-ghost use Rattle.rowan_cursor.specs.Moves.{next_token, prev_token, siblings_with_tokens};
-ghost use Rattle.rowan_cursor.specs.Moves.{parent_ancestors};
+ghost use Rattle.rowan_table.specs.Cursor.{StandsAtToken, index, kind, text_range, text_at};
+ghost use Rattle.rowan_table.specs.TableView.{cursor_of, IsTokenIn};
+ghost use Rattle.rowan_table.specs.Moves.{tree_top, parent, next_sibling_or_token};
+ghost use Rattle.rowan_table.specs.Moves.{prev_sibling_or_token, first_token, last_token};
+ghost use Rattle.rowan_table.specs.Moves.{next_token, prev_token, siblings_with_tokens};
+ghost use Rattle.rowan_table.specs.Moves.{parent_ancestors};
 ghost use Rattle.rowan_cursor.specs.Refs.{token_place};
-ghost use Rattle.rowan_cursor.specs.Replacement.{IsReplacement, KeepsTheRest, WhyNoReplacement};
+ghost use Rattle.rowan_table.specs.Replacement.{IsReplacement, KeepsTheRest, WhyNoReplacement};
 
 use crate::cursor::climb::Climb;
 use crate::cursor::row::Row;
 use crate::cursor::{
     Ancestors, SiblingsWithTokens, SyntaxElement, SyntaxNode, SyntaxTokenRef, element,
 };
-use crate::table::Table;
 use rowan_green::fault::Fault;
 use rowan_green::green::{GreenNode, GreenToken, SyntaxKind};
 use rowan_green::text::TextRange;
 use rowan_green::utility_types::Direction;
+use rowan_table::table::Table;
 use std::alloc::AllocError;
 use std::fmt;
 use std::hash::{Hash, Hasher};
@@ -43,14 +43,14 @@ pub struct SyntaxToken {
 }
 
 impl Model for SyntaxToken {
-    ghost use Rattle.rowan_cursor.specs.Cursor.{Cursor};
+    ghost use Rattle.rowan_table.specs.Cursor.{Cursor};
     ghost use Rattle.rowan_cursor.specs.CursorCode.{coded_cursor};
 
     ghost Value = { Cursor };
 
     ghost coded = { coded_cursor };
 
-    ghost use Rattle.rowan_cursor.specs.TableView.{cursor_of, IsTokenIn};
+    ghost use Rattle.rowan_table.specs.TableView.{cursor_of, IsTokenIn};
 
     ghost view = { λ t. cursor_of t.table.value t.number };
 
@@ -237,7 +237,7 @@ impl Clone for SyntaxToken {
 
 impl PartialEq for SyntaxToken {
     ghost use Rattle.std.specs.Cmp.{partial_equiv_from_equiv};
-    ghost use Rattle.rowan_cursor.specs.Equal.{same_place, same_place-laws};
+    ghost use Rattle.rowan_table.specs.Equal.{same_place, same_place-laws};
 
     ghost eq = { same_place };
 
@@ -249,13 +249,13 @@ impl PartialEq for SyntaxToken {
 }
 
 impl Eq for SyntaxToken {
-    ghost use Rattle.rowan_cursor.specs.Equal.{same_place-laws};
+    ghost use Rattle.rowan_table.specs.Equal.{same_place-laws};
 
     ghost laws = { same_place-laws };
 }
 
 impl Hash for SyntaxToken {
-    ghost use Rattle.rowan_cursor.specs.Equal.{fed_place, fed_place-same};
+    ghost use Rattle.rowan_table.specs.Equal.{fed_place, fed_place-same};
 
     ghost hash_input = { fed_place };
 
@@ -267,7 +267,7 @@ impl Hash for SyntaxToken {
 }
 
 impl fmt::Display for SyntaxToken {
-    ghost use Rattle.rowan_cursor.specs.Cursor.{text_at};
+    ghost use Rattle.rowan_table.specs.Cursor.{text_at};
 
     ghost output = { λ t. Some (text_at t) };
 

@@ -1,18 +1,18 @@
 //! Tokens that are borrowed from their tree, and their moves.
 mod equal;
 
-ghost use Rattle.rowan_cursor.specs.TableView.{IsTokenIn};
+ghost use Rattle.rowan_table.specs.TableView.{IsTokenIn};
 
 use crate::cursor::climb::Climb;
 use crate::cursor::row::Row;
 use crate::cursor::{
     AncestorsRef, SiblingsWithTokensRef, SyntaxElementRef, SyntaxNodeRef, SyntaxToken, element_ref,
 };
-use crate::table::Table;
 use rowan_green::fault::Fault;
 use rowan_green::green::{GreenNode, GreenToken, SyntaxKind};
 use rowan_green::text::TextRange;
 use rowan_green::utility_types::Direction;
+use rowan_table::table::Table;
 use std::rc::Rc;
 
 /// A token that is borrowed from its tree: what [`SyntaxToken`] is, for as long as another cursor
@@ -29,15 +29,15 @@ impl<'tree> SyntaxTokenRef<'tree> {
     ghost use Rattle.std.specs.Prelude.{◌≡◌, ◌^◌, ◌<◌, length, IfOk, IfErr, IfSome, Some};
     ghost use Rattle.std.specs.Option.{option_map};
     ghost use Rattle.rowan_green.specs.declared.utility_types.NodeOrToken.TheVariants.{Token};
-    ghost use Rattle.rowan_cursor.specs.Cursor.{StandsAtToken, index, kind, text_range, text_at};
-    ghost use Rattle.rowan_cursor.specs.TableView.{cursor_of, IsTokenIn};
-    ghost use Rattle.rowan_cursor.specs.Moves.{tree_top, parent, next_sibling_or_token};
-    ghost use Rattle.rowan_cursor.specs.Moves.{prev_sibling_or_token, first_token, last_token};
-    ghost use Rattle.rowan_cursor.specs.Moves.{next_token, prev_token, siblings_with_tokens};
-    ghost use Rattle.rowan_cursor.specs.Moves.{parent_ancestors};
+    ghost use Rattle.rowan_table.specs.Cursor.{StandsAtToken, index, kind, text_range, text_at};
+    ghost use Rattle.rowan_table.specs.TableView.{cursor_of, IsTokenIn};
+    ghost use Rattle.rowan_table.specs.Moves.{tree_top, parent, next_sibling_or_token};
+    ghost use Rattle.rowan_table.specs.Moves.{prev_sibling_or_token, first_token, last_token};
+    ghost use Rattle.rowan_table.specs.Moves.{next_token, prev_token, siblings_with_tokens};
+    ghost use Rattle.rowan_table.specs.Moves.{parent_ancestors};
     ghost use Rattle.rowan_cursor.specs.Refs.{node_place, token_place, element_place};
     ghost use Rattle.rowan_cursor.specs.Refs.{rest_of_elements, rest_of_ancestors};
-    ghost use Rattle.rowan_cursor.specs.Replacement.{IsReplacement, KeepsTheRest, WhyNoReplacement};
+    ghost use Rattle.rowan_table.specs.Replacement.{IsReplacement, KeepsTheRest, WhyNoReplacement};
 
     // The token with a number.
     pub(super) fn at(table: &'tree Rc<Table>, number: usize) -> SyntaxTokenRef<'tree>

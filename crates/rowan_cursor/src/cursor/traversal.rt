@@ -1,13 +1,13 @@
 //! A walk through what is at and below a node, event by event.
 ghost use Rattle.std.specs.Prelude.{◌≡◌, IfOk};
 ghost use Rattle.rowan_green.specs.WalkEvent.{event_value};
-ghost use Rattle.rowan_cursor.specs.Preorder.{event_map};
-ghost use Rattle.rowan_cursor.specs.TableView.{cursor_of, element_of, IsWithin, IsNodeIn};
+ghost use Rattle.rowan_table.specs.Preorder.{event_map};
+ghost use Rattle.rowan_table.specs.TableView.{cursor_of, element_of, IsWithin, IsNodeIn};
 
 use crate::cursor::remainder::{Remainder, Walk};
 use crate::cursor::{SyntaxElement, SyntaxNode, element};
-use crate::table::Table;
 use rowan_green::utility_types::WalkEvent;
+use rowan_table::table::Table;
 use std::alloc::AllocError;
 use std::rc::Rc;
 
@@ -21,17 +21,17 @@ pub struct Traversal {
 
 impl Traversal {
     ghost use Rattle.std.specs.Prelude.{[], ◌∷◌, true, None, IfNone, IfSome};
-    ghost use Rattle.rowan_cursor.specs.Events.{LeavesNoToken, event_of};
-    ghost use Rattle.rowan_cursor.specs.Preorder.{preorder, preorder_with_tokens, descendants};
-    ghost use Rattle.rowan_cursor.specs.Preorder.{descendants_with_tokens, skip};
-    ghost use Rattle.rowan_cursor.specs.TableView.{path_at, stands_for_node};
+    ghost use Rattle.rowan_table.specs.Events.{LeavesNoToken, event_of};
+    ghost use Rattle.rowan_table.specs.Preorder.{preorder, preorder_with_tokens, descendants};
+    ghost use Rattle.rowan_table.specs.Preorder.{descendants_with_tokens, skip};
+    ghost use Rattle.rowan_table.specs.TableView.{path_at, stands_for_node};
     ghost use Rattle.rowan_cursor.specs.TraversalView.{remaining_path_events};
     ghost use Rattle.rowan_cursor.specs.TraversalView.{remaining_node_path_events, paths_entered};
     ghost use Rattle.rowan_cursor.specs.TraversalView.{node_paths_entered, traversal_events};
     ghost use Rattle.rowan_cursor.specs.TraversalView.{traversal_node_events, traversal_elements};
     ghost use Rattle.rowan_cursor.specs.TraversalView.{traversal_nodes, HasTraversal};
     ghost use Rattle.rowan_cursor.specs.TraversalView.{HasNodeTraversal};
-    ghost use Rattle.rowan_cursor.specs.declared.table.Table.{Table};
+    ghost use Rattle.rowan_table.specs.declared.table.Table.{Table};
 
     /// The whole walk from a node.
     pub(super) fn new(start: usize) -> Traversal
@@ -260,7 +260,7 @@ fn node_event(
 }
 
 impl Remainder<Traversal> {
-    ghost use Rattle.rowan_cursor.specs.Preorder.{skip_rest};
+    ghost use Rattle.rowan_table.specs.Preorder.{skip_rest};
     ghost use Rattle.rowan_cursor.specs.TraversalView.{traversal_events, traversal_node_events};
     ghost use Rattle.rowan_cursor.specs.TraversalView.{HasTraversal, HasNodeTraversal};
     ghost use Rattle.rowan_cursor.specs.Walks.{rest_of, IfWalk};

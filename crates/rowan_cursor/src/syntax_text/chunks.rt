@@ -1,7 +1,7 @@
 //! The chunks of a text, one after the other.
-ghost use Rattle.rowan_cursor.specs.Chunks.{IsWalk, IsWalk-prop};
+ghost use Rattle.rowan_table.specs.Chunks.{IsWalk, IsWalk-prop};
 
-use crate::table::{ChunkWalk, Table};
+use rowan_table::table::{ChunkWalk, Table};
 use std::fmt;
 use std::rc::Rc;
 
@@ -16,7 +16,7 @@ pub struct SyntaxTextChunks<'tree> {
 
 impl<'tree> SyntaxTextChunks<'tree> {
     ghost use Rattle.std.specs.Prelude.{◌≡◌};
-    ghost use Rattle.rowan_cursor.specs.Chunks.{IsWalk, remaining_chunks};
+    ghost use Rattle.rowan_table.specs.Chunks.{IsWalk, remaining_chunks};
     ghost use Rattle.rowan_cursor.specs.RefTexts.{rest_of_chunks};
 
     pub(super) fn new(table: &'tree Rc<Table>, walk: ChunkWalk) -> SyntaxTextChunks<'tree>

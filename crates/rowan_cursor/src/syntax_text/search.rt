@@ -1,8 +1,8 @@
 //! Searches in texts that are borrowed from their tree.
 ghost use Rattle.std.specs.Prelude.{◌↔◌, ◌≤◌, ℕ, IsTrue};
 ghost use Rattle.std.specs.Str.{IsCharBoundary};
-ghost use Rattle.rowan_cursor.specs.SyntaxText.{slice_text, slice_len, HasChar, FindsChar};
-ghost use Rattle.rowan_cursor.specs.SyntaxText.{ReadsChar};
+ghost use Rattle.rowan_table.specs.SyntaxText.{slice_text, slice_len, HasChar, FindsChar};
+ghost use Rattle.rowan_table.specs.SyntaxText.{ReadsChar};
 
 use super::SyntaxTextRef;
 use rowan_green::text::TextSize;

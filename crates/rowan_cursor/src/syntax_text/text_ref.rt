@@ -1,17 +1,17 @@
 //! Texts that are borrowed from their tree.
 ghost use Rattle.std.specs.Prelude.{◌≡◌, ◌≤◌, ◌↔◌, IfOk, IfErr, IsTrue, MatchOption, length};
 ghost use Rattle.std.specs.Prelude.{string_bytes};
-ghost use Rattle.rowan_cursor.specs.Chunks.{slice_of, IsSliceOf, IsByteIn};
+ghost use Rattle.rowan_table.specs.Chunks.{slice_of, IsSliceOf, IsByteIn};
 ghost use Rattle.rowan_cursor.specs.Folds.{FoldsUntilErr, VisitsUntilErr, VisitsAll};
-ghost use Rattle.rowan_cursor.specs.SyntaxText.{slice_text, slice_len, chunks, whole_text, part_of};
-ghost use Rattle.rowan_cursor.specs.SyntaxText.{first_of, last_of, CanCut, same_text};
-ghost use Rattle.rowan_cursor.specs.TableView.{IsNodeIn, cursor_of};
+ghost use Rattle.rowan_table.specs.SyntaxText.{slice_text, slice_len, chunks, whole_text, part_of};
+ghost use Rattle.rowan_table.specs.SyntaxText.{first_of, last_of, CanCut, same_text};
+ghost use Rattle.rowan_table.specs.TableView.{IsNodeIn, cursor_of};
 
 use super::chunks::SyntaxTextChunks;
 use super::{SyntaxText, SyntaxTextRange};
-use crate::table::{Slice, Table};
 use rowan_green::fault::Fault;
 use rowan_green::text::TextSize;
+use rowan_table::table::{Slice, Table};
 use std::rc::Rc;
 use std::{cmp, fmt};
 
@@ -220,7 +220,7 @@ impl<'tree> SyntaxTextRef<'tree> {
 impl PartialEq for SyntaxTextRef<'_> {
     ghost use Rattle.std.specs.Cmp.{on_equiv, partial_equiv_from_equiv};
     ghost use Rattle.rowan_cursor.specs.RefTexts.{text_slice};
-    ghost use Rattle.rowan_cursor.specs.SyntaxText.{same_text, same_text-laws};
+    ghost use Rattle.rowan_table.specs.SyntaxText.{same_text, same_text-laws};
 
     ghost eq = { λ r s. same_text (text_slice r) (text_slice s) };
 
@@ -234,14 +234,14 @@ impl PartialEq for SyntaxTextRef<'_> {
 impl Eq for SyntaxTextRef<'_> {
     ghost use Rattle.std.specs.Cmp.{on_equiv};
     ghost use Rattle.rowan_cursor.specs.RefTexts.{text_slice};
-    ghost use Rattle.rowan_cursor.specs.SyntaxText.{same_text-laws};
+    ghost use Rattle.rowan_table.specs.SyntaxText.{same_text-laws};
 
     ghost laws = { on_equiv text_slice same_text-laws };
 }
 
 impl fmt::Display for SyntaxTextRef<'_> {
     ghost use Rattle.std.specs.Prelude.{Some};
-    ghost use Rattle.rowan_cursor.specs.SyntaxText.{slice_text};
+    ghost use Rattle.rowan_table.specs.SyntaxText.{slice_text};
     ghost use Rattle.rowan_cursor.specs.RefTexts.{text_slice};
 
     ghost output = { λ text. Some (slice_text (text_slice text)) };

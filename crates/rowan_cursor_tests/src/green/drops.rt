@@ -1,6 +1,7 @@
 //! Drops of very deep and very wide trees, which would overflow the stack if they recursed.
 use crate::green::fixture::{leaf, node, word};
-use rowan_green::{Fault, GreenElement, GreenNode, GreenNodeBuilder, SyntaxKind};
+use rowan_builder::GreenNodeBuilder;
+use rowan_green::{Fault, GreenElement, GreenNode, SyntaxKind};
 use std::alloc::Global;
 
 /// How many levels of a deep tree.

@@ -85,7 +85,8 @@ impl<'a> GreenElementRef<'a> {
     }
 
     // The node or token itself, which is shared.
-    pub(crate) fn share(self) -> Result<GreenElement, AllocError>
+    #[doc(hidden)]
+    pub fn share(self) -> Result<GreenElement, AllocError>
         ensures { IfOk result (λ element. element ≡ pointee self.entry) }
     {
         match self {

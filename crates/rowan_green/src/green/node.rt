@@ -23,7 +23,8 @@ use crate::green::{
 };
 use crate::text::{TextRange, TextSize};
 use crate::utility_types::NodeOrToken;
-pub(crate) use block::ChildBlock;
+#[doc(hidden)]
+pub use block::ChildBlock;
 use rowan_thin_rc::{CountBox, HeaderSlice, ThinRc};
 use std::alloc::{AllocError, Global};
 use std::marker::Model;
@@ -39,7 +40,8 @@ pub struct GreenNode {
 /// What stands before the children in a node's block, behind the count of its owners and the number
 /// of the children.
 #[derive(Clone, Copy)]
-pub(crate) struct GreenNodeHead {
+#[doc(hidden)]
+pub struct GreenNodeHead {
     kind: SyntaxKind,
     text_len: TextSize,
 }
@@ -47,7 +49,8 @@ pub(crate) struct GreenNodeHead {
 /// A child, and where its text starts in that of its parent.
 #[cycle(green)]
 #[derive(Drop)]
-pub(crate) enum GreenChild {
+#[doc(hidden)]
+pub enum GreenChild {
     Node {
         rel_offset: TextSize,
         node: GreenNode,
@@ -75,7 +78,7 @@ const _: () = prove!(size_of::<GreenNode>() == 8);
 impl GreenChild {
     ghost use Rattle.rowan_green.specs.View.{child_term, child_offset};
 
-    pub(crate) fn new(rel_offset: TextSize, element: GreenElement) -> GreenChild
+    pub fn new(rel_offset: TextSize, element: GreenElement) -> GreenChild
         ensures offset { child_offset result ≡ rel_offset }
         ensures term { child_term result ≡ element }
     {
@@ -95,7 +98,7 @@ impl GreenChild {
         }
     }
 
-    pub(crate) fn as_ref(&self) -> GreenElementRef<'_>
+    pub fn as_ref(&self) -> GreenElementRef<'_>
         ensures { pointee result ≡ child_term self.now }
     {
         match self {

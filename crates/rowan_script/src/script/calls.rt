@@ -1,5 +1,5 @@
 //! The calls of a script, and their outcomes.
-use rowan_green::builder::Checkpoint;
+use rowan_builder::builder::Checkpoint;
 use rowan_green::fault::Fault;
 use rowan_green::green::SyntaxKind;
 

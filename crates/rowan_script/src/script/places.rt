@@ -1,6 +1,6 @@
 //! Elements by their places.
 ghost use Rattle.std.specs.Prelude.{◌≡◌, IfOk, IfErr};
-ghost use Rattle.rowan_cursor.specs.Moves.{element_below};
+ghost use Rattle.rowan_table.specs.Moves.{element_below};
 
 use rowan_cursor::cursor::{SyntaxElement, SyntaxNode};
 use rowan_green::fault::Fault;

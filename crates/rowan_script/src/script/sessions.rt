@@ -1,7 +1,7 @@
 //! Sessions: calls of a builder, and then steps through the tree that they build.
 ghost use Rattle.std.specs.Prelude.{◌≡◌, [], IfOk, IfErr, OnErr};
 ghost use Rattle.rowan_green.specs.declared.utility_types.NodeOrToken.TheVariants.{Node};
-ghost use Rattle.rowan_green.specs.Loan.{value_of, cache_of, loan_of};
+ghost use Rattle.rowan_builder.specs.Loan.{value_of, cache_of, loan_of};
 ghost use Rattle.rowan_script.specs.Session.{Plays, IsSession};
 ghost use Rattle.rowan_script.specs.Trace.{Trace};
 
@@ -10,8 +10,8 @@ use crate::script::calls::Call;
 use crate::script::replay;
 use crate::script::steps::{Report, Step};
 use crate::script::traces::trace;
+use rowan_builder::builder::{CacheHome, GreenNodeBuilder};
 use rowan_cursor::cursor::SyntaxNode;
-use rowan_green::builder::{CacheHome, GreenNodeBuilder};
 use rowan_green::fault::Fault;
 use rowan_green::green::GreenNode;
 use std::alloc::Global;

@@ -4,10 +4,10 @@ ghost use Rattle.std.specs.Prelude.{slice_get};
 ghost use Rattle.std.specs.List.{last_or};
 ghost use Rattle.rowan_green.specs.declared.utility_types.NodeOrToken.TheVariants.{Node, Token};
 ghost use Rattle.rowan_green.specs.Span.{Holds};
-ghost use Rattle.rowan_cursor.specs.Cursor.{text_range};
-ghost use Rattle.rowan_cursor.specs.Moves.{first_token, last_token};
-ghost use Rattle.rowan_cursor.specs.Search.{LiesIn, IsCovering, tokens_at};
-ghost use Rattle.rowan_cursor.specs.Replacement.{WhyNoReplacement};
+ghost use Rattle.rowan_table.specs.Cursor.{text_range};
+ghost use Rattle.rowan_table.specs.Moves.{first_token, last_token};
+ghost use Rattle.rowan_table.specs.Search.{LiesIn, IsCovering, tokens_at};
+ghost use Rattle.rowan_table.specs.Replacement.{WhyNoReplacement};
 ghost use Rattle.rowan_script.specs.Trace.{IsNewRoot, IsReport, destination, element_after, Trace};
 
 use crate::script::steps::{Report, Step};

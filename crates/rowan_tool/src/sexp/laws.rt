@@ -4,10 +4,10 @@ ghost use Rattle.std.specs.List.{AllByRecursion};
 ghost use Rattle.std.specs.Str.{IsUtf8};
 ghost use Rattle.rowan_green.specs.declared.utility_types.NodeOrToken.TheVariants.{Node};
 ghost use Rattle.rowan_green.specs.Edits.{spliced};
-ghost use Rattle.rowan_green.specs.Path.{Path, subterm, range, put};
+ghost use Rattle.rowan_terms.specs.Path.{Path, subterm, range, put};
 ghost use Rattle.rowan_green.specs.Term.{TokenTerm, NodeTerm};
-ghost use Rattle.rowan_tool.specs.Grammar.{IsSexp, IsParse, IsBalanced, IsOneList, token_terms};
-ghost use Rattle.rowan_tool.specs.Sexp.{LexedToken, IsLexed, IsToken};
+ghost use Rattle.rowan_sexp.specs.Grammar.{IsSexp, IsParse, IsBalanced, IsOneList, token_terms};
+ghost use Rattle.rowan_sexp.specs.Sexp.{LexedToken, IsLexed, IsToken};
 
 /// A text has one list of tokens.
 pub fn text_has_one_list_of_tokens()

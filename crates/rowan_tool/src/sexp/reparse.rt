@@ -3,21 +3,21 @@ ghost use Rattle.std.specs.Prelude.{◌≡◌, ◌≢◌, ◌+◌, ◌<◌, ◌�
 ghost use Rattle.rowan_green.specs.declared.utility_types.NodeOrToken.TheVariants.{Node};
 ghost use Rattle.rowan_green.specs.Edits.{spliced};
 ghost use Rattle.rowan_green.specs.Fits.{byte_limit, Fits, FitsNode};
-ghost use Rattle.rowan_green.specs.Path.{put};
+ghost use Rattle.rowan_terms.specs.Path.{put};
 ghost use Rattle.rowan_green.specs.Term.{NodeTerm, node_text};
-ghost use Rattle.rowan_cursor.specs.Cursor.{text_range};
+ghost use Rattle.rowan_table.specs.Cursor.{text_range};
 ghost use Rattle.rowan_tool.specs.Ancestors.{path_below, AreAncestors, IsReparseAt, WhyNoReparseAt};
-ghost use Rattle.rowan_tool.specs.Grammar.{IsParse, IsOneList};
+ghost use Rattle.rowan_sexp.specs.Grammar.{IsParse, IsOneList};
 ghost use Rattle.rowan_tool.specs.Reparse.{IsReparse, WhyNoReparse, WhyNoList, IsListAt};
 ghost use Rattle.rowan_tool.specs.Reparse.{is_list_at, HasNoList, edits_of, text_after, AreEdits};
 ghost use Rattle.rowan_tool.specs.Reparse.{WhyNoEdits};
 
-use crate::sexp::ast::List;
-use crate::sexp::balance::is_balanced;
-use crate::sexp::lang::Lang;
-use crate::sexp::parser::parse;
 use rowan::ast::AstNode;
 use rowan::{Fault, GreenNode, Language, NodeOrToken, Steps, TextRange, TextSize};
+use rowan_sexp::sexp::ast::List;
+use rowan_sexp::sexp::balance::is_balanced;
+use rowan_sexp::sexp::lang::Lang;
+use rowan_sexp::sexp::parser::parse;
 use std::alloc::Global;
 
 /// The root of the tree in which a list is parsed anew: in its place stands the list that the new

@@ -12,7 +12,7 @@ pub struct EvenNode {
 
 impl Model for EvenNode {
     ghost use Rattle.std.specs.Prelude.{◌≡◌, ◌==◌, ◌%◌, true, false, if◌then◌else◌};
-    ghost use Rattle.rowan_cursor.specs.Cursor.{Cursor};
+    ghost use Rattle.rowan_table.specs.Cursor.{Cursor};
     ghost use Rattle.rowan_cursor.specs.CursorCode.{coded_cursor};
     ghost use Rattle.rowan.specs.Ast.{casts_at};
 
@@ -66,7 +66,7 @@ pub struct AnyNode {
 
 impl Model for AnyNode {
     ghost use Rattle.std.specs.Prelude.{◌≡◌, true};
-    ghost use Rattle.rowan_cursor.specs.Cursor.{Cursor};
+    ghost use Rattle.rowan_table.specs.Cursor.{Cursor};
     ghost use Rattle.rowan_cursor.specs.CursorCode.{coded_cursor};
     ghost use Rattle.rowan.specs.Ast.{casts_at};
 

@@ -2,7 +2,7 @@
 //! refused for its form, and the tree has each byte of it: a group that is never closed runs to the
 //! end, and what has no place stands in a node of its own.
 ghost use Rattle.std.specs.Prelude.{◌≡◌, ◌++◌, IfOk, OnOk};
-ghost use Rattle.rowan_green.specs.Loan.{text_so_far};
+ghost use Rattle.rowan_builder.specs.Loan.{text_so_far};
 ghost use Rattle.rowan_green.specs.Term.{node_text};
 
 use arithmetic_syntax::{Arithmetic, Kind};

@@ -1,11 +1,11 @@
 //! Pointers that are carried through a trace, by its reports.
 ghost use Rattle.std.specs.Prelude.{◌≡◌, ℕ, ◌<◌, IfOk, IfErr, Some};
 ghost use Rattle.std.specs.Option.{option_map};
-ghost use Rattle.rowan_green.specs.Replacements.{SeparateFromAll};
+ghost use Rattle.rowan_terms.specs.Replacements.{SeparateFromAll};
 ghost use Rattle.rowan_green.specs.Term.{NodeTerm, node_len, Term, term_len};
 ghost use Rattle.rowan_green.specs.declared.utility_types.NodeOrToken.TheVariants.{Node};
-ghost use Rattle.rowan_cursor.specs.Cursor.{StandsAt, text_range};
-ghost use Rattle.rowan_cursor.specs.Moves.{Element, place_of, cursor_at};
+ghost use Rattle.rowan_table.specs.Cursor.{StandsAt, text_range};
+ghost use Rattle.rowan_table.specs.Moves.{Element, place_of, cursor_at};
 ghost use Rattle.rowan.specs.Pointer.{pointer_to, carried_in_turn};
 ghost use Rattle.rowan.specs.Trace.{IsReport, element_after, new_term, replacement_of};
 ghost use Rattle.rowan.specs.Trace.{replacements, root_of, tree_of, last_root, Trace};

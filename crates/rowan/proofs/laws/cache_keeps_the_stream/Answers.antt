@@ -1,6 +1,6 @@
 use Rattle.std.proofs.Common.{◌≡◌, ◌++◌, sym, ◌∙◌, ap, subst, refl}
-use Rattle.rowan_green.specs.Cache.{first_seen}
-use Rattle.rowan_green.proofs.StreamLemmas.{intern_all-first_seen}
+use Rattle.rowan_builder.specs.Cache.{first_seen}
+use Rattle.rowan_builder.proofs.StreamLemmas.{intern_all-first_seen}
 use Rattle.rowan_script.specs.Requests.{stream}
 use Rattle.rowan.proofs.laws.cache_keeps_the_stream.Goals as goal
 

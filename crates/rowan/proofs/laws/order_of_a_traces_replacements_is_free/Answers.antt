@@ -1,6 +1,6 @@
 use Rattle.std.proofs.Common.{subst, sym}
-use Rattle.rowan_green.specs.Replacements.{Makes}
-use Rattle.rowan_green.proofs.PutOrders.{makes-same}
+use Rattle.rowan_terms.specs.Replacements.{Makes}
+use Rattle.rowan_terms.proofs.PutOrders.{makes-same}
 use Rattle.rowan_script.specs.Trace.{tree_of, last_tree, replacements}
 use Rattle.rowan.proofs.TraceLaws.{turns-make}
 use Rattle.rowan.proofs.laws.order_of_a_traces_replacements_is_free.Goals as goal

@@ -1,6 +1,6 @@
 use Rattle.std.proofs.Common.{subst}
-use Rattle.rowan_green.specs.Replacements.{Makes}
-use Rattle.rowan_green.proofs.PutOrders.{subterm-made, range-made, subterm-new}
+use Rattle.rowan_terms.specs.Replacements.{Makes}
+use Rattle.rowan_terms.proofs.PutOrders.{subterm-made, range-made, subterm-new}
 use Rattle.rowan_script.specs.Trace.{tree_of, last_tree, replacements}
 use Rattle.rowan.proofs.TraceLaws.{turns-make}
 use Rattle.rowan.proofs.laws.trace_leaves_what_stands_apart.Goals as goal

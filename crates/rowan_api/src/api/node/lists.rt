@@ -1,7 +1,7 @@
 //! What stands above, below and beside a node, one after the other.
 ghost use Rattle.std.specs.Prelude.{◌≡◌, IfOk, IfErr};
-ghost use Rattle.rowan_cursor.specs.Moves.{ancestors, children, children_with_tokens, siblings};
-ghost use Rattle.rowan_cursor.specs.Moves.{siblings_with_tokens};
+ghost use Rattle.rowan_table.specs.Moves.{ancestors, children, children_with_tokens, siblings};
+ghost use Rattle.rowan_table.specs.Moves.{siblings_with_tokens};
 
 use super::SyntaxNode;
 use crate::api::typed_elements::TypedElements;

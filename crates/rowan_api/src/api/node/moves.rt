@@ -1,10 +1,10 @@
 //! Moves from a node, and lists of what stands beside, above and below it.
 ghost use Rattle.std.specs.Prelude.{◌≡◌, IfOk, IfErr};
-ghost use Rattle.rowan_cursor.specs.Moves.{tree_top, parent, first_child, last_child};
-ghost use Rattle.rowan_cursor.specs.Moves.{first_child_or_token, last_child_or_token};
-ghost use Rattle.rowan_cursor.specs.Moves.{child_or_token_at_index, next_sibling, prev_sibling};
-ghost use Rattle.rowan_cursor.specs.Moves.{next_sibling_or_token, prev_sibling_or_token};
-ghost use Rattle.rowan_cursor.specs.Moves.{first_token, last_token};
+ghost use Rattle.rowan_table.specs.Moves.{tree_top, parent, first_child, last_child};
+ghost use Rattle.rowan_table.specs.Moves.{first_child_or_token, last_child_or_token};
+ghost use Rattle.rowan_table.specs.Moves.{child_or_token_at_index, next_sibling, prev_sibling};
+ghost use Rattle.rowan_table.specs.Moves.{next_sibling_or_token, prev_sibling_or_token};
+ghost use Rattle.rowan_table.specs.Moves.{first_token, last_token};
 
 use crate::api::{SyntaxElement, SyntaxNode, SyntaxToken, element};
 use rowan_green::fault::Fault;

@@ -4,9 +4,9 @@ ghost use Rattle.rowan_green.specs.Search.{digits};
 ghost use Rattle.rowan_green.specs.Span.{Holds};
 ghost use Rattle.rowan_green.specs.Steps.{count_limit};
 ghost use Rattle.rowan_green.specs.TokenAtOffset.{tokens_of};
-ghost use Rattle.rowan_cursor.specs.Cursor.{text_at, text_range};
-ghost use Rattle.rowan_cursor.specs.Moves.{child_count};
-ghost use Rattle.rowan_cursor.specs.Search.{LiesIn, FindsChild, IsCovering, tokens_at};
+ghost use Rattle.rowan_table.specs.Cursor.{text_at, text_range};
+ghost use Rattle.rowan_table.specs.Moves.{child_count};
+ghost use Rattle.rowan_table.specs.Search.{LiesIn, FindsChild, IsCovering, tokens_at};
 
 use super::SyntaxNode;
 use crate::api::{SyntaxElement, SyntaxToken, element};

@@ -1,7 +1,7 @@
 //! What stands above, below and beside a borrowed node, one after the other.
 ghost use Rattle.std.specs.Prelude.{◌≡◌, ◌^◌, ◌<◌, length};
-ghost use Rattle.rowan_cursor.specs.Moves.{ancestors, children, children_with_tokens, siblings};
-ghost use Rattle.rowan_cursor.specs.Moves.{siblings_with_tokens};
+ghost use Rattle.rowan_table.specs.Moves.{ancestors, children, children_with_tokens, siblings};
+ghost use Rattle.rowan_table.specs.Moves.{siblings_with_tokens};
 ghost use Rattle.rowan_api.specs.Refs.{node_place, rest_of_ancestors, rest_of_elements};
 ghost use Rattle.rowan_api.specs.Refs.{rest_of_nodes};
 

@@ -3,11 +3,11 @@ ghost use Rattle.std.specs.Prelude.{◌≡◌};
 ghost use Rattle.std.specs.List.{find};
 ghost use Rattle.std.specs.Option.{option_map};
 ghost use Rattle.rowan_cursor.specs.Kinds.{nodes_behind, tokens_in};
-ghost use Rattle.rowan_cursor.specs.Moves.{tree_top, parent, first_child, last_child};
-ghost use Rattle.rowan_cursor.specs.Moves.{first_child_or_token, last_child_or_token};
-ghost use Rattle.rowan_cursor.specs.Moves.{child_or_token_at_index, next_sibling, prev_sibling};
-ghost use Rattle.rowan_cursor.specs.Moves.{next_sibling_or_token, prev_sibling_or_token};
-ghost use Rattle.rowan_cursor.specs.Moves.{first_token, last_token, children, children_with_tokens};
+ghost use Rattle.rowan_table.specs.Moves.{tree_top, parent, first_child, last_child};
+ghost use Rattle.rowan_table.specs.Moves.{first_child_or_token, last_child_or_token};
+ghost use Rattle.rowan_table.specs.Moves.{child_or_token_at_index, next_sibling, prev_sibling};
+ghost use Rattle.rowan_table.specs.Moves.{next_sibling_or_token, prev_sibling_or_token};
+ghost use Rattle.rowan_table.specs.Moves.{first_token, last_token, children, children_with_tokens};
 ghost use Rattle.rowan_api.specs.Kinds.{has_kind};
 ghost use Rattle.rowan_api.specs.Refs.{node_place, token_place, element_place};
 

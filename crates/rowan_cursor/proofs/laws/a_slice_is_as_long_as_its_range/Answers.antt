@@ -1,4 +1,4 @@
-use Rattle.rowan_cursor.proofs.SliceLemmas.{slice_text-len}
+use Rattle.rowan_table.proofs.SliceLemmas.{slice_text-len}
 use Rattle.rowan_cursor.proofs.laws.a_slice_is_as_long_as_its_range.Goals as goal
 
 pub returns : goal.returns

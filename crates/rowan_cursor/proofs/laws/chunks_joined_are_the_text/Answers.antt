@@ -1,4 +1,4 @@
-use Rattle.rowan_cursor.proofs.SliceLemmas.{chunks-joined}
+use Rattle.rowan_table.proofs.SliceLemmas.{chunks-joined}
 use Rattle.rowan_cursor.proofs.laws.chunks_joined_are_the_text.Goals as goal
 
 pub returns : goal.returns

@@ -1,8 +1,8 @@
 use Rattle.std.proofs.Common.{◌==◌}
 use Rattle.std.proofs.lemmas.Bool.{and_from, and_parts}
 use Rattle.std.proofs.lemmas.Bool.Decides.{Decides-eqb}
-use Rattle.rowan_cursor.specs.Cursor.{term_at}
-use Rattle.rowan_cursor.specs.Equal.{start_of, same_if_some, same_if_some-decides}
+use Rattle.rowan_table.specs.Cursor.{term_at}
+use Rattle.rowan_table.specs.Equal.{start_of, same_if_some, same_if_some-decides}
 use Rattle.rowan_cursor.proofs.laws.cursors_are_equal_by_value_and_start.Goals as goal
 
 pub returns : goal.returns

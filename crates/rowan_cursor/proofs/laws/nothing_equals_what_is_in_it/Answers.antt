@@ -1,7 +1,7 @@
 use Rattle.std.proofs.Common.{◌==◌}
 use Rattle.std.proofs.lemmas.Bool.{and_parts, false_from_ne_true}
-use Rattle.rowan_cursor.specs.Cursor.{term_at}
-use Rattle.rowan_cursor.specs.Equal.{start_of, same_place, same_if_some, same_if_some-decides}
+use Rattle.rowan_table.specs.Cursor.{term_at}
+use Rattle.rowan_table.specs.Equal.{start_of, same_place, same_if_some, same_if_some-decides}
 use Rattle.rowan_cursor.proofs.SizeLemmas.{not_same-below}
 use Rattle.rowan_cursor.proofs.laws.nothing_equals_what_is_in_it.Goals as goal
 

@@ -1,8 +1,8 @@
 use Rattle.std.proofs.Common.{sym, subst}
-use Rattle.rowan_cursor.specs.Cursor.{Cursor, text_range}
-use Rattle.rowan_cursor.specs.Search.{LiesIn, FindsChild, Covers}
+use Rattle.rowan_table.specs.Cursor.{Cursor, text_range}
+use Rattle.rowan_table.specs.Search.{LiesIn, FindsChild, Covers}
 use Rattle.std.specs.Prelude.{None}
-use Rattle.rowan_cursor.proofs.CoverLemmas.{HasSpan, covers-has_span, covers-ends, place_of-stands}
+use Rattle.rowan_table.proofs.CoverLemmas.{HasSpan, covers-has_span, covers-ends, place_of-stands}
 use Rattle.rowan_cursor.proofs.laws.nothing_smaller_covers_a_range.Goals as goal
 
 pub returns-clause-has : goal.returns-clause-has

@@ -1,4 +1,4 @@
-use Rattle.rowan_cursor.proofs.TouchLemmas.{one_token, token_alone}
+use Rattle.rowan_table.proofs.TouchLemmas.{one_token, token_alone}
 use Rattle.rowan_cursor.proofs.laws.one_token_has_the_bytes_on_both_sides.Goals as goal
 
 pub returns-clause-has : goal.returns-clause-has

@@ -1,5 +1,5 @@
-use Rattle.rowan_cursor.specs.Cursor.{term_at}
-use Rattle.rowan_cursor.proofs.TextLemmas.{text-tokens}
+use Rattle.rowan_table.specs.Cursor.{term_at}
+use Rattle.rowan_table.proofs.TextLemmas.{text-tokens}
 use Rattle.rowan_cursor.proofs.laws.text_is_that_of_the_tokens.Goals as goal
 
 pub returns : goal.returns

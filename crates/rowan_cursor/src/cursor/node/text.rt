@@ -1,6 +1,6 @@
 //! The text of a node.
 ghost use Rattle.std.specs.Prelude.{◌≡◌, IfOk, IfErr};
-ghost use Rattle.rowan_cursor.specs.SyntaxText.{whole_text};
+ghost use Rattle.rowan_table.specs.SyntaxText.{whole_text};
 
 use super::SyntaxNode;
 use crate::syntax_text::{SyntaxText, SyntaxTextRef};

@@ -1,7 +1,7 @@
 //! Walks from a node.
 ghost use Rattle.std.specs.Prelude.{◌≡◌, IfOk, IfErr};
-ghost use Rattle.rowan_cursor.specs.Preorder.{preorder, preorder_with_tokens, descendants};
-ghost use Rattle.rowan_cursor.specs.Preorder.{descendants_with_tokens};
+ghost use Rattle.rowan_table.specs.Preorder.{preorder, preorder_with_tokens, descendants};
+ghost use Rattle.rowan_table.specs.Preorder.{descendants_with_tokens};
 
 use super::SyntaxNode;
 use crate::cursor::traversal::Traversal;

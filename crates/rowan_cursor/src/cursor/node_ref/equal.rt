@@ -6,7 +6,7 @@ use std::hash::{Hash, Hasher};
 /// Two nodes are equal if they have equal green nodes and their texts start at the same offset.
 impl PartialEq for SyntaxNodeRef<'_> {
     ghost use Rattle.std.specs.Cmp.{on_equiv, partial_equiv_from_equiv};
-    ghost use Rattle.rowan_cursor.specs.Equal.{same_place, same_place-laws};
+    ghost use Rattle.rowan_table.specs.Equal.{same_place, same_place-laws};
     ghost use Rattle.rowan_cursor.specs.Refs.{node_place};
 
     ghost eq = { λ r s. same_place (node_place r) (node_place s) };
@@ -20,14 +20,14 @@ impl PartialEq for SyntaxNodeRef<'_> {
 
 impl Eq for SyntaxNodeRef<'_> {
     ghost use Rattle.std.specs.Cmp.{on_equiv};
-    ghost use Rattle.rowan_cursor.specs.Equal.{same_place-laws};
+    ghost use Rattle.rowan_table.specs.Equal.{same_place-laws};
     ghost use Rattle.rowan_cursor.specs.Refs.{node_place};
 
     ghost laws = { on_equiv node_place same_place-laws };
 }
 
 impl Hash for SyntaxNodeRef<'_> {
-    ghost use Rattle.rowan_cursor.specs.Equal.{fed_place, fed_place-same};
+    ghost use Rattle.rowan_table.specs.Equal.{fed_place, fed_place-same};
     ghost use Rattle.rowan_cursor.specs.Refs.{node_place};
 
     ghost hash_input = { λ r. fed_place (node_place r) };
@@ -41,7 +41,7 @@ impl Hash for SyntaxNodeRef<'_> {
 
 impl fmt::Display for SyntaxNodeRef<'_> {
     ghost use Rattle.std.specs.Prelude.{Some};
-    ghost use Rattle.rowan_cursor.specs.Cursor.{text_at};
+    ghost use Rattle.rowan_table.specs.Cursor.{text_at};
     ghost use Rattle.rowan_cursor.specs.Refs.{node_place};
 
     ghost output = { λ r. Some (text_at (node_place r)) };

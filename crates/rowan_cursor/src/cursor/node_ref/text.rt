@@ -1,6 +1,6 @@
 //! The text of a borrowed node.
 ghost use Rattle.std.specs.Prelude.{◌≡◌};
-ghost use Rattle.rowan_cursor.specs.SyntaxText.{whole_text};
+ghost use Rattle.rowan_table.specs.SyntaxText.{whole_text};
 
 use super::SyntaxNodeRef;
 use crate::syntax_text::SyntaxTextRef;

@@ -1,7 +1,7 @@
 //! Walks from a borrowed node.
 ghost use Rattle.std.specs.Prelude.{◌≡◌};
-ghost use Rattle.rowan_cursor.specs.Preorder.{preorder, preorder_with_tokens, descendants};
-ghost use Rattle.rowan_cursor.specs.Preorder.{descendants_with_tokens};
+ghost use Rattle.rowan_table.specs.Preorder.{preorder, preorder_with_tokens, descendants};
+ghost use Rattle.rowan_table.specs.Preorder.{descendants_with_tokens};
 
 use super::SyntaxNodeRef;
 use crate::cursor::traversal::Traversal;

@@ -1,7 +1,7 @@
 use Rattle.std.proofs.Common.{◌++◌, sym, ◌∙◌, ap}
 use Rattle.std.specs.Prelude.{reverse}
 use Rattle.rowan_cursor.specs.Refs.{node_place}
-use Rattle.rowan_edit.proofs.EditorLemmas.{parent-up, path-up, top-path}
+use Rattle.rowan_changes.proofs.ParentLemmas.{parent-up, path-up, top-path}
 use Rattle.rowan_edit.proofs.editor.path_to.Goals as goal
 
 pub loop-parent-smaller : goal.loop-parent-smaller

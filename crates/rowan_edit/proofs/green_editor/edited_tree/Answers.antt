@@ -1,8 +1,8 @@
 use Rattle.std.proofs.Common.{List, sym, ◌∙◌, ap, subst}
-use Rattle.rowan_edit.specs.declared.edit.Splice.{Splice}
-use Rattle.rowan_edit.specs.GreenEditor.{edits_of, ArePairs}
-use Rattle.rowan_edit.specs.Plan.{EndInTurn}
-use Rattle.rowan_edit.specs.Sites.{EditedPlaces, sites_of}
+use Rattle.rowan_changes.specs.declared.edit.Splice.{Splice}
+use Rattle.rowan_changes.specs.GreenEditor.{edits_of, ArePairs}
+use Rattle.rowan_changes.specs.Plan.{EndInTurn}
+use Rattle.rowan_changes.specs.Sites.{EditedPlaces, sites_of}
 use Rattle.rowan_edit.proofs.FinishLemmas.{whole-inside}
 use Rattle.rowan_edit.proofs.green_editor.edited_tree.Goals as goal
 

@@ -1,13 +1,13 @@
 use Rattle.std.proofs.Common.{◌≡◌, ◌≢◌, length, sym, ◌∙◌, ap, subst, arith}
 use Rattle.std.proofs.lemmas.Result.{err_from_is_err_and}
 use Rattle.rowan_green.specs.declared.fault.Fault.TheVariants.{Memory}
-use Rattle.rowan_edit.specs.Edit.{lies_before}
-use Rattle.rowan_edit.specs.GreenEditor.{edit_of, edits_of}
-use Rattle.rowan_edit.specs.Limits.{PassesLimitIn}
-use Rattle.rowan_edit.specs.Zipper.{path_of, place_of, Fork, HasPlace}
+use Rattle.rowan_changes.specs.Edit.{lies_before}
+use Rattle.rowan_changes.specs.GreenEditor.{edit_of, edits_of}
+use Rattle.rowan_changes.specs.Limits.{PassesLimitIn}
+use Rattle.rowan_changes.specs.Zipper.{path_of, place_of, Fork, HasPlace}
 use Rattle.rowan_edit.proofs.PlanLemmas.{left-first, last-left, next-left, all-made}
 use Rattle.rowan_edit.proofs.PlanLemmas.{fails-later}
-use Rattle.rowan_edit.proofs.Ways.{ok-from, err-from}
+use Rattle.rowan_changes.proofs.Ways.{ok-from, err-from}
 use Rattle.rowan_edit.proofs.green_editor.new_root.Goals as goal
 
 pub loop-edit-init : goal.loop-edit-init

@@ -1,6 +1,6 @@
 use Rattle.std.proofs.Common.{◌≡◌, length}
-use Rattle.rowan_edit.specs.GreenEditor.{edits_of}
-use Rattle.rowan_edit.specs.Zipper.{IsStanding}
+use Rattle.rowan_changes.specs.GreenEditor.{edits_of}
+use Rattle.rowan_changes.specs.Zipper.{IsStanding}
 use Rattle.rowan_edit.proofs.PlanLemmas.{AreLeft}
 use Rattle.rowan_edit.proofs.green_editor.new_root.Given as goal
 

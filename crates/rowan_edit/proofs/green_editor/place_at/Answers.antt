@@ -3,11 +3,11 @@ use Rattle.std.proofs.Common.{arith}
 use Rattle.std.specs.Prelude.{slice_index_or}
 use Rattle.rowan_green.specs.declared.utility_types.NodeOrToken.TheVariants.{Node}
 use Rattle.rowan_green.specs.Term.{node_children}
-use Rattle.rowan_edit.proofs.Untouched.{get-past}
+use Rattle.rowan_changes.proofs.Untouched.{get-past}
 use Rattle.rowan_green.specs.Lent.{pointee}
 use Rattle.rowan_green.specs.Span.{Span}
-use Rattle.rowan_edit.proofs.Ways.{get-index, no-step, leads-first, leads-limit, leads-next}
-use Rattle.rowan_edit.proofs.Ways.{leads-all, LeadsSoFar}
+use Rattle.rowan_changes.proofs.Ways.{get-index, no-step, leads-first, leads-limit, leads-next}
+use Rattle.rowan_changes.proofs.Ways.{leads-all, LeadsSoFar}
 use Rattle.rowan_edit.proofs.green_editor.place_at.Goals as goal
 
 pub returns-in_default-clause-none : goal.returns-in_default-clause-none

@@ -1,4 +1,4 @@
-use Rattle.rowan_edit.proofs.Ways.{LeadsSoFar}
+use Rattle.rowan_changes.proofs.Ways.{LeadsSoFar}
 use Rattle.rowan_edit.proofs.green_editor.place_at.Given as goal
 
 abbrev pub invariant-loop-index : goal.invariant-loop-index

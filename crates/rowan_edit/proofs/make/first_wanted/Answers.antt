@@ -1,5 +1,5 @@
 use Rattle.std.proofs.Common.{◌≡◌}
-use Rattle.rowan_cursor.specs.Preorder.{descendants}
+use Rattle.rowan_table.specs.Preorder.{descendants}
 use Rattle.rowan_api.specs.Refs.{node_place, rest_of_descendants}
 use Rattle.rowan_edit.proofs.FromTextLemmas.{first-along, unwanted-along, first-here}
 use Rattle.rowan_edit.proofs.make.first_wanted.Goals as goal

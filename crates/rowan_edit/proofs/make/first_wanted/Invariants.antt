@@ -1,5 +1,5 @@
 use Rattle.rowan_green.specs.Term.{NodeTerm}
-use Rattle.rowan_cursor.specs.Preorder.{descendants}
+use Rattle.rowan_table.specs.Preorder.{descendants}
 use Rattle.rowan_api.specs.Refs.{node_place, rest_of_descendants}
 use Rattle.rowan_edit.specs.FromText.{IsFirstWanted, AreUnwanted}
 use Rattle.rowan_edit.proofs.make.first_wanted.Given as goal

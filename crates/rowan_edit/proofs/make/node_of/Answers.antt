@@ -3,7 +3,7 @@ use Rattle.std.specs.Vec.Iter.{into_iter_items}
 use Rattle.std.proofs.lemmas.Result.{IfErr-weaker}
 use Rattle.rowan_green.specs.Fits.{PassesLimit, WhyNoNode}
 use Rattle.rowan_green.proofs.EditLemmas.{PassesLimit-append}
-use Rattle.rowan_edit.proofs.RunLemmas.{run-begins}
+use Rattle.rowan_changes.proofs.RunLemmas.{run-begins}
 use Rattle.rowan_edit.proofs.make.node_of.Goals as goal
 
 pub returns-clause-err : goal.returns-clause-err

@@ -1,8 +1,8 @@
 use Rattle.std.proofs.Common.{◌∙◌, ap}
 use Rattle.rowan_green.specs.declared.utility_types.NodeOrToken.TheVariants.{Node}
-use Rattle.rowan_edit.specs.Changes.{range_of}
+use Rattle.rowan_changes.specs.Changes.{range_of}
 use Rattle.rowan_edit.proofs.PlaceLemmas.{range-at}
-use Rattle.rowan_edit.proofs.Untouched.{edit_at}
+use Rattle.rowan_changes.proofs.Untouched.{edit_at}
 use Rattle.rowan_edit.proofs.plain_edits.arranged_splice.Goals as goal
 
 pub returns-clause-range : goal.returns-clause-range

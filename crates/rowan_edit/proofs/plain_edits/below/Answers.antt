@@ -1,6 +1,6 @@
 use Rattle.std.proofs.Common.{◌∙◌, ap, sym, arith, Some}
 use Rattle.rowan_edit.proofs.ExcludeLemmas.{fork-none, fork-rest}
-use Rattle.rowan_edit.proofs.SiteLemmas.{fork-within}
+use Rattle.rowan_changes.proofs.SiteLemmas.{fork-within}
 use Rattle.rowan_edit.proofs.plain_edits.below.Goals as goal
 
 pub returns-then-shared-path : goal.returns-then-shared-path

@@ -1,6 +1,6 @@
 use Rattle.std.proofs.Common.{refl, ◌∙◌}
 use Rattle.std.proofs.lemmas.Result.{err_from_is_err_and}
-use Rattle.rowan_edit.specs.GreenEditor.{edits_of}
+use Rattle.rowan_changes.specs.GreenEditor.{edits_of}
 use Rattle.rowan_edit.proofs.ArrangedPlanLemmas.{halfway-begins, halfway-last, halfway-next}
 use Rattle.rowan_edit.proofs.ArrangedPlanLemmas.{halfway-fails, path-ordered}
 use Rattle.rowan_edit.proofs.plain_edits.plain_edits.Goals as goal

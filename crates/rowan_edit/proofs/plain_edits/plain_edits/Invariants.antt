@@ -1,5 +1,5 @@
 use Rattle.std.proofs.Common.{length}
-use Rattle.rowan_edit.specs.GreenEditor.{edits_of}
+use Rattle.rowan_changes.specs.GreenEditor.{edits_of}
 use Rattle.rowan_edit.proofs.ArrangedPlanLemmas.{IsHalfway}
 use Rattle.rowan_edit.proofs.plain_edits.plain_edits.Given as goal
 

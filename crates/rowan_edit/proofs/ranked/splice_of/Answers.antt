@@ -1,6 +1,6 @@
 use Rattle.std.proofs.Common.{◌≡◌, [], ◌∷◌, ◌++◌, refl, sym, ◌∙◌, ap, arith}
 use Rattle.std.specs.Option.{option_to_list}
-use Rattle.rowan_cursor.specs.Cursor.{last_index}
+use Rattle.rowan_table.specs.Cursor.{last_index}
 use Rattle.rowan_edit.specs.Ranked.{without_last}
 use Rattle.rowan_edit.proofs.PlaceLemmas.{same-edit}
 use Rattle.rowan_edit.proofs.RankLemmas.{front-of, last-of}

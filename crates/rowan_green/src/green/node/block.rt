@@ -15,9 +15,10 @@ use std::mem::ManuallyDrop;
 
 /// The children of a node that has no head yet, those that wait for their nodes, or those that the
 /// last owner of a node left.
-pub(crate) struct ChildBlock {
-    pub(crate) block: Open<GreenNodeHead, GreenChild, Global>,
-    pub(crate) ghost shape: { IsOpen front_words child_words block },
+#[doc(hidden)]
+pub struct ChildBlock {
+    pub block: Open<GreenNodeHead, GreenChild, Global>,
+    pub ghost shape: { IsOpen front_words child_words block },
 }
 
 // A loop over a list of the blocks that are still to be dropped, so that a deep tree does not run

@@ -20,7 +20,8 @@ use std_alloc::vec::Lodged;
 
 impl GreenNode {
     // The node of a kind and these elements, which stay with the caller too.
-    pub(crate) fn from_shared(
+    #[doc(hidden)]
+    pub fn from_shared(
         alloc: Global,
         kind: SyntaxKind,
         elements: &[GreenChild],

@@ -1,5 +1,5 @@
 use Rattle.std.proofs.Common.{◌∙◌, sym, ap}
-use Rattle.rowan_green.proofs.Words.{node_word-injective}
+use Rattle.rowan_terms.proofs.Words.{node_word-injective}
 use Rattle.rowan_parser.specs.Events.{tree_word}
 use Rattle.rowan_parser.proofs.laws.equal_events_have_one_tree.Goals as goal
 

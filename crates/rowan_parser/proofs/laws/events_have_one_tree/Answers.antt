@@ -1,5 +1,5 @@
 use Rattle.std.proofs.Common.{sym, ◌∙◌}
-use Rattle.rowan_green.proofs.Words.{node_word-injective}
+use Rattle.rowan_terms.proofs.Words.{node_word-injective}
 use Rattle.rowan_parser.proofs.laws.events_have_one_tree.Goals as goal
 
 pub returns : goal.returns

@@ -1,6 +1,6 @@
 use Rattle.std.proofs.Common.{◌∙◌, ap}
 use Rattle.std.proofs.lemmas.Result.{err_from_is_err_and}
-use Rattle.rowan_parser.specs.Tokens.{tokens_text}
+use Rattle.rowan_events.specs.Tokens.{tokens_text}
 use Rattle.rowan_parser.proofs.Parses.{parsed, no_tree}
 use Rattle.rowan_parser.proofs.parsing.parse_with.Goals as goal
 

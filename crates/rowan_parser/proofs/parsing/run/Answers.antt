@@ -1,7 +1,7 @@
 use Rattle.std.proofs.Common.{◌∙◌, ◌++◌, subst, ap, map}
-use Rattle.rowan_parser.specs.Running.{Makes}
+use Rattle.rowan_events.specs.Running.{Makes}
 use Rattle.rowan_parser.specs.Parsing.{error_of, lexer_error, pieces}
-use Rattle.rowan_parser.specs.Seen.{started}
+use Rattle.rowan_events.specs.Seen.{started}
 use Rattle.rowan_parser.proofs.parsing.run.Goals as goal
 
 pub returns-clause-ran : goal.returns-clause-ran

@@ -1,8 +1,8 @@
 use Rattle.std.proofs.Common.{ap, sym, ◌∙◌, ◌++◌, ◌+◌, length, map, drop, arith}
 use Rattle.std.proofs.lemmas.List.{drop_more}
 use Rattle.rowan_parser.specs.Parsing.{pieces_since, pieces}
-use Rattle.rowan_parser.specs.Seen.{piece}
-use Rattle.rowan_parser.specs.Tokens.{tokens_text}
+use Rattle.rowan_events.specs.Seen.{piece}
+use Rattle.rowan_events.specs.Tokens.{tokens_text}
 use Rattle.rowan_parser.proofs.Pieces.{seen_all}
 use Rattle.rowan_parser.proofs.Ranges.{left_more}
 use Rattle.rowan_parser.proofs.parsing.seen_tokens.Goals as goal

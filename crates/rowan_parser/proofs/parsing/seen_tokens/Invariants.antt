@@ -1,7 +1,7 @@
 use Rattle.std.proofs.Common.{◌≡◌, ◌+◌, ◌++◌, length, map, drop}
 use Rattle.rowan_parser.specs.Parsing.{pieces_since, pieces}
-use Rattle.rowan_parser.specs.Seen.{piece}
-use Rattle.rowan_parser.specs.Tokens.{tokens_text}
+use Rattle.rowan_events.specs.Seen.{piece}
+use Rattle.rowan_events.specs.Tokens.{tokens_text}
 use Rattle.rowan_parser.proofs.parsing.seen_tokens.Given as goal
 
 abbrev pub invariant-loop-token : goal.invariant-loop-token

@@ -1,6 +1,6 @@
 use Rattle.std.proofs.Common.{◌≡◌, ◌+◌, ◌++◌, length, drop}
 use Rattle.rowan_parser.specs.Parsing.{ranges_from}
-use Rattle.rowan_parser.specs.Tokens.{tokens_text}
+use Rattle.rowan_events.specs.Tokens.{tokens_text}
 use Rattle.rowan_parser.proofs.places.token_ranges.Given as goal
 
 abbrev pub invariant-loop-token : goal.invariant-loop-token

@@ -1,7 +1,7 @@
 use Rattle.std.proofs.Common.{◌≡◌, ◌||◌, ℕ, length}
 use Rattle.std.specs.List.{list_any}
 use Rattle.rowan_parser.specs.Events.{is_pair}
-use Rattle.rowan_parser.specs.Seen.{has}
+use Rattle.rowan_events.specs.Seen.{has}
 use Rattle.rowan_parser.proofs.tree.attached_kinds.Given as goal
 
 abbrev pub invariant-loop-pair : goal.invariant-loop-pair

@@ -1,11 +1,11 @@
 use Rattle.std.proofs.Common.{◌≡◌, sym, ◌∙◌, ap, subst}
 use Rattle.std.specs.Result.{OnOk}
 use Rattle.rowan_green.specs.declared.utility_types.NodeOrToken.TheVariants.{Node}
-use Rattle.rowan_green.specs.Stream.{subterms}
+use Rattle.rowan_builder.specs.Stream.{subterms}
 use Rattle.rowan_green.specs.Word.{word_text, word_tokens}
-use Rattle.rowan_green.proofs.LeafLaws.{tokens-finished}
-use Rattle.rowan_green.proofs.StreamLemmas.{InternsWord-starts, InternsWord-finished, intern_all-first_seen}
-use Rattle.rowan_green.proofs.TextLemmas.{text-finished}
+use Rattle.rowan_terms.proofs.LeafLaws.{tokens-finished}
+use Rattle.rowan_builder.proofs.StreamLemmas.{InternsWord-starts, InternsWord-finished, intern_all-first_seen}
+use Rattle.rowan_builder.proofs.TextLemmas.{text-finished}
 use Rattle.rowan_parser.proofs.Leaves.{tree-text, tree-tokens}
 use Rattle.rowan_parser.proofs.Refusals.{IsBuilt-finishes}
 use Rattle.rowan_parser.proofs.Steps.{IsBuilt-kind, IsBuilt-word}

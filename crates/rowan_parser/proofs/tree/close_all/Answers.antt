@@ -1,6 +1,6 @@
 use Rattle.std.proofs.Common.{arith, ◌∙◌}
 use Rattle.std.proofs.lemmas.Result.{err_from_is_err_and}
-use Rattle.rowan_green.proofs.StreamLemmas.{BuildsOn-trans}
+use Rattle.rowan_builder.proofs.StreamLemmas.{BuildsOn-trans}
 use Rattle.rowan_parser.proofs.Spelling.{closings_more}
 use Rattle.rowan_parser.proofs.Refusals.{closing_refuses}
 use Rattle.rowan_parser.proofs.tree.close_all.Goals as goal

@@ -1,6 +1,6 @@
 use Rattle.std.proofs.Common.{◌≡◌, ◌++◌}
-use Rattle.rowan_green.specs.Loan.{value_of, word_of, loan_of}
-use Rattle.rowan_green.specs.Stream.{BuildsOn}
+use Rattle.rowan_builder.specs.Loan.{value_of, word_of, loan_of}
+use Rattle.rowan_builder.specs.Stream.{BuildsOn}
 use Rattle.rowan_parser.specs.Building.{IsBuilding}
 use Rattle.rowan_parser.specs.Events.{closings}
 use Rattle.rowan_parser.proofs.tree.close_all.Given as goal

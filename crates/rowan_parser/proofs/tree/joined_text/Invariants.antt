@@ -1,6 +1,6 @@
 use Rattle.std.proofs.Common.{◌≡◌, take}
 use Rattle.std.specs.Prelude.{string_bytes}
-use Rattle.rowan_parser.specs.Tokens.{tokens_text}
+use Rattle.rowan_events.specs.Tokens.{tokens_text}
 use Rattle.rowan_parser.proofs.tree.joined_text.Given as goal
 
 abbrev pub invariant-loop-token : goal.invariant-loop-token

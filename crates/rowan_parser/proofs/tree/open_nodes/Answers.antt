@@ -1,5 +1,5 @@
 use Rattle.std.proofs.Common.{◌∙◌}
-use Rattle.rowan_green.proofs.StreamLemmas.{BuildsOn-trans}
+use Rattle.rowan_builder.proofs.StreamLemmas.{BuildsOn-trans}
 use Rattle.rowan_parser.proofs.Spelling.{opening_more}
 use Rattle.rowan_parser.proofs.tree.open_nodes.Goals as goal
 

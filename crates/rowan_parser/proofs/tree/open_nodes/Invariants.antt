@@ -1,6 +1,6 @@
 use Rattle.std.proofs.Common.{◌≡◌, length}
-use Rattle.rowan_green.specs.Loan.{value_of, word_of, loan_of}
-use Rattle.rowan_green.specs.Stream.{BuildsOn}
+use Rattle.rowan_builder.specs.Loan.{value_of, word_of, loan_of}
+use Rattle.rowan_builder.specs.Stream.{BuildsOn}
 use Rattle.rowan_parser.specs.Building.{IsBuilding}
 use Rattle.rowan_parser.proofs.Spelling.{IsOpening}
 use Rattle.rowan_parser.proofs.tree.open_nodes.Given as goal

@@ -1,9 +1,9 @@
 use Rattle.std.proofs.Common.{◌≡◌, false, sym, ◌∙◌, ap}
 use Rattle.rowan_parser.specs.Events.{is_attached}
 use Rattle.rowan_parser.specs.Outside.{outside_of}
-use Rattle.rowan_parser.specs.Seen.{has}
-use Rattle.rowan_parser.specs.declared.lexer.Token.{Token}
-use Rattle.rowan_parser.proofs.Skipping.{none_in}
+use Rattle.rowan_events.specs.Seen.{has}
+use Rattle.rowan_events.specs.declared.lexer.Token.{Token}
+use Rattle.rowan_events.proofs.Skipping.{none_in}
 use Rattle.rowan_parser.proofs.Trivial.{outside-none, run-taken}
 use Rattle.rowan_parser.proofs.tree.outside_len.Goals as goal
 

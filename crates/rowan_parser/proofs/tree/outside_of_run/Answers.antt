@@ -1,5 +1,5 @@
 use Rattle.std.proofs.Common.{◌-◌, sym, ◌∙◌, arith}
-use Rattle.rowan_parser.specs.Seen.{has}
+use Rattle.rowan_events.specs.Seen.{has}
 use Rattle.rowan_parser.proofs.Trivial.{at_cut}
 use Rattle.rowan_parser.proofs.tree.outside_of_run.Goals as goal
 

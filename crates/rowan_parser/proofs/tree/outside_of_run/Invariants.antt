@@ -1,5 +1,5 @@
 use Rattle.std.proofs.Common.{◌≤◌, length, take}
-use Rattle.rowan_parser.specs.Seen.{has}
+use Rattle.rowan_events.specs.Seen.{has}
 use Rattle.rowan_parser.proofs.Trivial.{IsSeenBack}
 use Rattle.rowan_parser.proofs.tree.outside_of_run.Given as goal
 

@@ -1,6 +1,6 @@
 use Rattle.std.proofs.Common.{◌∷◌, sym, subst}
 use Rattle.std.specs.Prelude.{IfErr}
-use Rattle.rowan_green.specs.Loan.{word_of}
+use Rattle.rowan_builder.specs.Loan.{word_of}
 use Rattle.rowan_parser.specs.Building.{WhyRefused, to_come}
 use Rattle.rowan_parser.specs.Shape.{steps}
 use Rattle.rowan_parser.proofs.Refusals.{close_refuses_if}

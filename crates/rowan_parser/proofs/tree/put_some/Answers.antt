@@ -1,5 +1,5 @@
 use Rattle.std.proofs.Common.{◌∙◌, refl, arith}
-use Rattle.rowan_green.proofs.StreamLemmas.{BuildsOn-trans}
+use Rattle.rowan_builder.proofs.StreamLemmas.{BuildsOn-trans}
 use Rattle.rowan_parser.proofs.Passing.{some_more}
 use Rattle.rowan_parser.proofs.tree.put_some.Goals as goal
 

@@ -1,5 +1,5 @@
 use Rattle.std.proofs.Common.{◌≡◌, true, drop, sym, ◌∙◌}
-use Rattle.rowan_green.proofs.StreamLemmas.{BuildsOn-trans}
+use Rattle.rowan_builder.proofs.StreamLemmas.{BuildsOn-trans}
 use Rattle.rowan_parser.specs.Events.{is_trivia, begins_with}
 use Rattle.rowan_parser.proofs.Passing.{passing_more}
 use Rattle.rowan_parser.proofs.tree.put_trivia.Goals as goal

@@ -1,8 +1,8 @@
 use Rattle.std.proofs.Common.{List, ap, sym, ◌∙◌, ◌++◌, ◌∷◌, []}
 use Rattle.std.proofs.lemmas.List.{nil_from_length}
 use Rattle.std.proofs.lemmas.Result.{IfErr-weaker, on_ok_weaker, err_from_is_err_and}
-use Rattle.rowan_green.proofs.StreamLemmas.{BuildsOn-trans}
-use Rattle.rowan_green.specs.Loan.{word_of}
+use Rattle.rowan_builder.proofs.StreamLemmas.{BuildsOn-trans}
+use Rattle.rowan_builder.specs.Loan.{word_of}
 use Rattle.rowan_green.specs.Word.{Symbol, Open, Close, WhyNotClosed}
 use Rattle.rowan_parser.specs.Building.{WhyRefused, to_come}
 use Rattle.rowan_parser.specs.Events.{spelled_by, tree_word}

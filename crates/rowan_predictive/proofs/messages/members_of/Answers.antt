@@ -1,5 +1,5 @@
 use Rattle.std.proofs.Common.{◌-◌, ◌+◌, arith}
-use Rattle.rowan_parser.specs.Seen.{has}
+use Rattle.rowan_events.specs.Seen.{has}
 use Rattle.rowan_predictive.proofs.MessageLemmas.{members-more, members-end}
 use Rattle.rowan_predictive.proofs.messages.members_of.Goals as goal
 

@@ -2,9 +2,9 @@ use Rattle.std.proofs.Common.{◌++◌, Some, subst, ◌∙◌, ap}
 use Rattle.std.specs.Prelude.{string_bytes}
 use Rattle.rowan.specs.Ast.{YieldsWrappers}
 use Rattle.rowan_program.specs.Program.{value_line}
-use Rattle.rowan_tool.specs.Wrappers.{node_in}
+use Rattle.rowan_sexp.specs.Wrappers.{node_in}
 use Rattle.rowan_program.proofs.ValueLines.{lines-next, lines-end}
-use Rattle.rowan_tool.proofs.EvalLemmas.{is_sexp_at}
+use Rattle.rowan_sexp.proofs.EvalLemmas.{is_sexp_at}
 use Rattle.rowan_program.proofs.program.value_lines.Goals as goal
 
 pub loop-sexp-preserved-in_ok-push_value_line : goal.loop-sexp-preserved-in_ok-push_value_line

@@ -1,6 +1,6 @@
 use Rattle.std.proofs.Common.{length, refl}
 use Rattle.std.proofs.lemmas.Option.{slice_get_past, slice_get_read}
-use Rattle.rowan_green.specs.Loan.{value_of}
+use Rattle.rowan_builder.specs.Loan.{value_of}
 use Rattle.rowan_script.proofs.Calls.{advances-finish, advances-taken, advances-unknown}
 use Rattle.rowan_script.proofs.script.make_call.Goals as goal
 

@@ -1,7 +1,7 @@
 use Rattle.std.proofs.Common.{◌≡◌, [], ◌∷◌, ◌++◌, take, vec_len, vec_capacity, sym, ◌∙◌, ap, subst}
 use Rattle.std.proofs.Common.{arith}
 use Rattle.std.proofs.lemmas.List.{take_all}
-use Rattle.rowan_green.specs.Loan.{value_of}
+use Rattle.rowan_builder.specs.Loan.{value_of}
 use Rattle.rowan_script.specs.Rewriting.{with_mark}
 use Rattle.rowan_script.specs.Run.{Run}
 use Rattle.rowan_script.proofs.RunLaws.{builds-run}

@@ -1,5 +1,5 @@
 use Rattle.std.proofs.Common.{◌≡◌, ◌≤◌, [], length, take, vec_len, vec_capacity}
-use Rattle.rowan_green.specs.Loan.{value_of, loan_of}
+use Rattle.rowan_builder.specs.Loan.{value_of, loan_of}
 use Rattle.rowan_script.specs.Run.{Run}
 use Rattle.rowan_script.proofs.Runs.{with_marks}
 use Rattle.rowan_script.proofs.script.replay.Given as goal

@@ -1,6 +1,6 @@
 use Rattle.std.proofs.Common.{◌≡◌}
 use Rattle.std.specs.Prelude.{filter, slice_get}
-use Rattle.rowan_cursor.specs.Moves.{children}
+use Rattle.rowan_table.specs.Moves.{children}
 use Rattle.rowan_api.specs.Refs.{node_place, rest_of_nodes}
 use Rattle.rowan.specs.Ast.{has_one_of}
 use Rattle.rowan.proofs.ast.alike.nth_of_kinds.Given as goal

@@ -1,6 +1,6 @@
 use Rattle.std.proofs.Common.{◌≡◌}
 use Rattle.std.specs.Prelude.{filter, slice_get}
-use Rattle.rowan_cursor.specs.Moves.{children_with_tokens}
+use Rattle.rowan_table.specs.Moves.{children_with_tokens}
 use Rattle.rowan_api.specs.Refs.{node_place, rest_of_elements}
 use Rattle.rowan.specs.Ast.{is_token_of, means_one_of}
 use Rattle.rowan.proofs.ast.alike.nth_token_ref.Given as goal

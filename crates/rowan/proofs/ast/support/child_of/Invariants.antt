@@ -1,6 +1,6 @@
 use Rattle.std.proofs.Common.{◌≡◌}
 use Rattle.std.specs.List.{find}
-use Rattle.rowan_cursor.specs.Moves.{children}
+use Rattle.rowan_table.specs.Moves.{children}
 use Rattle.rowan_api.specs.Refs.{node_place, rest_of_nodes}
 use Rattle.rowan.specs.Ast.{casts_at}
 use Rattle.rowan.proofs.ast.support.child_of.Given as goal

@@ -1,7 +1,7 @@
 use Rattle.std.proofs.Common.{◌∙◌, ap}
 use Rattle.std.specs.Option.{option_map}
 use Rattle.rowan_green.specs.declared.utility_types.NodeOrToken.TheVariants.{Token}
-use Rattle.rowan_cursor.specs.Moves.{children_with_tokens}
+use Rattle.rowan_table.specs.Moves.{children_with_tokens}
 use Rattle.rowan_api.specs.Refs.{node_place}
 use Rattle.rowan.specs.Pointer.{means_kind}
 use Rattle.rowan.proofs.WrapperLemmas.{find-token}

@@ -1,10 +1,10 @@
 use Rattle.std.proofs.Common.{◌≡◌, ℕ}
 use Rattle.std.proofs.lemmas.Result.{err_from_is_err_and}
-use Rattle.rowan_green.specs.Path.{Path}
-use Rattle.rowan_cursor.specs.Moves.{place_of}
+use Rattle.rowan_terms.specs.Path.{Path}
+use Rattle.rowan_table.specs.Moves.{place_of}
 use Rattle.rowan_cursor.specs.Refs.{node_place}
-use Rattle.rowan_edit.specs.Edit.{Edit}
-use Rattle.rowan_edit.specs.Plan.{with_edit}
+use Rattle.rowan_changes.specs.Edit.{Edit}
+use Rattle.rowan_changes.specs.Plan.{with_edit}
 use Rattle.rowan_edit.proofs.EditorLemmas.{on-ok, if-err, at-child, why-at}
 use Rattle.rowan_edit.proofs.editor.Editor.insert_before.Goals as goal
 

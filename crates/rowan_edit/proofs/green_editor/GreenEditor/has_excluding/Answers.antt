@@ -2,12 +2,12 @@ use Rattle.std.proofs.Common.{◌≡◌, sym, ◌∙◌, ap, subst}
 use Rattle.std.proofs.lemmas.Result.{err_from_is_err_and}
 use Rattle.rowan_edit.specs.Arrangements.{gap, HasExcluding, AreFree}
 use Rattle.rowan_edit.specs.ArrangementsKept.{HasChildren}
-use Rattle.rowan_edit.specs.Plan.{Plan, HasConflict, WhyRefused}
+use Rattle.rowan_changes.specs.Plan.{Plan, HasConflict, WhyRefused}
 use Rattle.rowan_edit.specs.Ranked.{edit_in, edits_in, IsEditIn}
 use Rattle.rowan_edit.proofs.PlaceRankLemmas.{at-excluding, met-excluding, none-excluding}
 use Rattle.rowan_edit.proofs.PlaceRankLemmas.{gap-memory}
 use Rattle.rowan_edit.proofs.RankedLemmas.{is-next}
-use Rattle.rowan_edit.proofs.Untouched.{edit_at}
+use Rattle.rowan_changes.proofs.Untouched.{edit_at}
 use Rattle.rowan_edit.proofs.green_editor.GreenEditor.has_excluding.Goals as goal
 
 pub has_room-requires : goal.has_room-requires

@@ -1,7 +1,7 @@
 use Rattle.std.proofs.Common.{sym, ◌∙◌, ap}
 use Rattle.std.proofs.lemmas.Bool.{false≢true}
 use Rattle.rowan_green.specs.Same.{same_node-decides}
-use Rattle.rowan_edit.specs.Plan.{Plan}
+use Rattle.rowan_changes.specs.Plan.{Plan}
 use Rattle.rowan_edit.proofs.green_editor.GreenEditor.has_root.Goals as goal
 
 pub returns-clause-same : goal.returns-clause-same

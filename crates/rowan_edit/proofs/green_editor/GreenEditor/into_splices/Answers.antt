@@ -1,5 +1,5 @@
 use Rattle.std.proofs.Common.{ap}
-use Rattle.rowan_edit.specs.Plan.{Plan}
+use Rattle.rowan_changes.specs.Plan.{Plan}
 use Rattle.rowan_edit.proofs.RankedLemmas.{listed, seen-listed}
 use Rattle.rowan_edit.proofs.green_editor.GreenEditor.into_splices.Goals as goal
 

@@ -1,11 +1,11 @@
 use Rattle.std.proofs.Common.{◌≡◌, List, false, ◌∙◌, ap, subst}
 use Rattle.std.specs.List.{AllByRecursion}
 use Rattle.std.proofs.lemmas.Result.{err_from_is_err_and}
-use Rattle.rowan_edit.specs.Edit.{Edit, conflicts}
-use Rattle.rowan_edit.specs.Plan.{Plan, IsOf, WhyRefused, HasConflict, with_edit}
+use Rattle.rowan_changes.specs.Edit.{Edit, conflicts}
+use Rattle.rowan_changes.specs.Plan.{Plan, IsOf, WhyRefused, HasConflict, with_edit}
 use Rattle.rowan_edit.specs.Ranked.{edits_in, IsEditIn}
 use Rattle.rowan_edit.proofs.RankedLemmas.{is-next, put-ranked}
-use Rattle.rowan_edit.proofs.Untouched.{edit_at}
+use Rattle.rowan_changes.proofs.Untouched.{edit_at}
 use Rattle.rowan_edit.proofs.green_editor.GreenEditor.splice.Goals as goal
 
 pub has_room-requires : goal.has_room-requires

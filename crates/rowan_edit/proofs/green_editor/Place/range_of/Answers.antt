@@ -2,7 +2,7 @@ use Rattle.std.proofs.Common.{ap, arith}
 use Rattle.rowan_green.specs.Span.{Span}
 use Rattle.rowan_green.specs.Term.{node_children}
 use Rattle.rowan_green.proofs.Terms.{node_len-children}
-use Rattle.rowan_edit.proofs.ShiftLemmas.{starts-less, start-within}
+use Rattle.rowan_changes.proofs.ShiftLemmas.{starts-less, start-within}
 use Rattle.rowan_edit.proofs.green_editor.Place.range_of.Goals as goal
 
 pub at-requires : goal.at-requires

@@ -1,7 +1,7 @@
 use Rattle.std.proofs.Common.{◌≡◌, Some, refl, sym, ◌∙◌, ap}
-use Rattle.rowan_edit.specs.declared.edit.Splice.{Splice}
+use Rattle.rowan_changes.specs.declared.edit.Splice.{Splice}
 use Rattle.rowan_edit.specs.Inside.{rest_behind}
-use Rattle.rowan_edit.specs.Sites.{items_in}
+use Rattle.rowan_changes.specs.Sites.{items_in}
 use Rattle.rowan_edit.proofs.HalvesLemmas.{parting-next}
 use Rattle.rowan_edit.proofs.plain_edits.Halves.part.Goals as goal
 

@@ -1,5 +1,5 @@
 use Rattle.std.proofs.Common.{length, sym, ◌∙◌, ap, arith}
-use Rattle.rowan_edit.specs.Edit.{lies_before}
+use Rattle.rowan_changes.specs.Edit.{lies_before}
 use Rattle.rowan_edit.specs.Ranked.{without_last}
 use Rattle.rowan_edit.proofs.RankLemmas.{front-of, lies-nowhere}
 use Rattle.rowan_edit.proofs.ranked.Rank.ends_before.Goals as goal

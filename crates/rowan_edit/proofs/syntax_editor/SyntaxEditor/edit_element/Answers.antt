@@ -1,5 +1,5 @@
 use Rattle.std.proofs.lemmas.Result.{err_from_is_err_and}
-use Rattle.rowan_cursor.specs.Moves.{place_of}
+use Rattle.rowan_table.specs.Moves.{place_of}
 use Rattle.rowan_api.specs.Refs.{node_place, element_place}
 use Rattle.rowan_edit.specs.Edges.{at_edge}
 use Rattle.rowan_edit.proofs.EdgeLemmas.{edited-at-edge, why-at-edge}

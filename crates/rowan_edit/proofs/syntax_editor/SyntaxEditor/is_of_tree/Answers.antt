@@ -1,8 +1,8 @@
 use Rattle.std.proofs.Common.{sym, ◌∙◌, ap}
-use Rattle.rowan_cursor.specs.Moves.{place_of}
+use Rattle.rowan_table.specs.Moves.{place_of}
 use Rattle.rowan_api.specs.Refs.{node_place, element_place}
 use Rattle.rowan_edit.specs.Arrangements.{ArrangedPlan}
-use Rattle.rowan_edit.proofs.EdgeLemmas.{top-root}
+use Rattle.rowan_changes.proofs.ParentLemmas.{top-root}
 use Rattle.rowan_edit.proofs.syntax_editor.SyntaxEditor.is_of_tree.Goals as goal
 
 pub returns-clause-same : goal.returns-clause-same

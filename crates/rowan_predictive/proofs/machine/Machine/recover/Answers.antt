@@ -1,5 +1,5 @@
 use Rattle.std.proofs.Common.{◌≡◌, ℕ, ◌∷◌, ◌++◌, [], ◌+◌, List, refl, sym, ap, ◌∙◌, reverse, slice_get, true, false}
-use Rattle.rowan_parser.specs.Seen.{has}
+use Rattle.rowan_events.specs.Seen.{has}
 use Rattle.rowan_predictive.specs.declared.rules.Action.{Action}
 use Rattle.rowan_predictive.specs.declared.rules.Action.TheVariants.{Skip}
 use Rattle.rowan_predictive.specs.Machine.{State, is_anchor, skips}

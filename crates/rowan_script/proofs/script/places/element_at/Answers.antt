@@ -1,6 +1,6 @@
 use Rattle.std.proofs.Common.{◌++◌, ◌∷◌, take, drop, get_or, suc, sym, ◌∙◌, ap, Some}
 use Rattle.std.proofs.lemmas.List.{take_more}
-use Rattle.rowan_cursor.specs.Moves.{element_below}
+use Rattle.rowan_table.specs.Moves.{element_below}
 use Rattle.rowan_script.proofs.Places.{place-split, child-there, none-below, token-below}
 use Rattle.rowan_script.proofs.script.places.element_at.Goals as goal
 

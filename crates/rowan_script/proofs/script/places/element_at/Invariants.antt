@@ -1,5 +1,5 @@
 use Rattle.std.proofs.Common.{◌≡◌, take, Some}
-use Rattle.rowan_cursor.specs.Moves.{element_below}
+use Rattle.rowan_table.specs.Moves.{element_below}
 use Rattle.rowan_script.proofs.script.places.element_at.Given as goal
 
 abbrev pub invariant-loop-place : goal.invariant-loop-place

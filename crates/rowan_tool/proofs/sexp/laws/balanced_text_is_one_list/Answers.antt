@@ -1,4 +1,4 @@
-use Rattle.rowan_tool.proofs.LexedLemmas.{parse-exists}
+use Rattle.rowan_sexp.proofs.LexedLemmas.{parse-exists}
 use Rattle.rowan_tool.proofs.OneListLemmas.{balanced-is-one-list, one-list-is-balanced}
 use Rattle.rowan_tool.proofs.sexp.laws.balanced_text_is_one_list.Goals as goal
 

@@ -1,4 +1,4 @@
-use Rattle.rowan_tool.proofs.LexedLemmas.{lexed-exists, lexed-unique}
+use Rattle.rowan_sexp.proofs.LexedLemmas.{lexed-exists, lexed-unique}
 use Rattle.rowan_tool.proofs.sexp.laws.text_has_one_list_of_tokens.Goals as goal
 
 pub returns-clause-some : goal.returns-clause-some

@@ -1,5 +1,5 @@
-use Rattle.rowan_tool.proofs.GrammarLemmas.{sexp_exists, sexp-unique}
-use Rattle.rowan_tool.proofs.LexedLemmas.{parse-exists, parse-unique}
+use Rattle.rowan_sexp.proofs.GrammarLemmas.{sexp_exists, sexp-unique}
+use Rattle.rowan_sexp.proofs.LexedLemmas.{parse-exists, parse-unique}
 use Rattle.rowan_tool.proofs.sexp.laws.tokens_have_one_tree.Goals as goal
 
 pub returns-clause-some : goal.returns-clause-some

@@ -1,7 +1,7 @@
 use Rattle.std.proofs.Common.{◌≡◌, ◌+◌, ap, ◌∙◌}
 use Rattle.rowan_green.specs.Term.{node_len}
-use Rattle.rowan_tool.specs.Casts.{is_list}
-use Rattle.rowan_tool.specs.Sexp.{kind_of}
+use Rattle.rowan_sexp.specs.Casts.{is_list}
+use Rattle.rowan_sexp.specs.Sexp.{kind_of}
 use Rattle.rowan_tool.proofs.AncestorLemmas.{kind-tells, other-range}
 use Rattle.rowan_tool.proofs.sexp.reparse.is_list_at.Goals as goal
 

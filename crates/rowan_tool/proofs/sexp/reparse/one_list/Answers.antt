@@ -4,7 +4,7 @@ use Rattle.rowan_green.specs.declared.utility_types.NodeOrToken.TheVariants.{Nod
 use Rattle.rowan_green.specs.Term.{node_children}
 use Rattle.rowan_green.specs.Fits.{FitsNode}
 use Rattle.rowan_green.specs.Lent.{pointee}
-use Rattle.rowan_tool.specs.Grammar.{IsOneList, IsParse, IsBalanced}
+use Rattle.rowan_sexp.specs.Grammar.{IsOneList, IsParse, IsBalanced}
 use Rattle.rowan_tool.proofs.EditLemmas.{accepted-within}
 use Rattle.rowan_tool.proofs.FitLemmas.{parse-fits}
 use Rattle.rowan_tool.proofs.ListReparsed.{token-child, node-child, first-fits}

@@ -2,7 +2,7 @@ use Rattle.std.proofs.Common.{subst}
 use Rattle.std.proofs.lemmas.Result.{err_from_is_err_and, IfOk-weaker, IfErr-weaker}
 use Rattle.std.specs.Result.{IfOk, IfErr}
 use Rattle.rowan_green.specs.declared.utility_types.NodeOrToken.TheVariants.{Node}
-use Rattle.rowan_cursor.specs.Replacement.{IsReplacement, WhyNoReplacement}
+use Rattle.rowan_table.specs.Replacement.{IsReplacement, WhyNoReplacement}
 use Rattle.rowan_tool.proofs.ListReparsed.{HasList, has-list, no-list, no-replacement, new-text}
 use Rattle.rowan_tool.proofs.ListReparsed.{new-parse}
 use Rattle.rowan_tool.proofs.sexp.reparse.reparse_list.Goals as goal

@@ -1,7 +1,7 @@
 use Rattle.std.proofs.Common.{◌≡◌, ◌++◌, length}
 use denote.Shadow.{shadow}
 use denote.Text.{Utf8}
-use Rattle.rowan_green.specs.Loan.{text_so_far}
+use Rattle.rowan_builder.specs.Loan.{text_so_far}
 use Rattle.rowan_tool_tests.proofs.scripts.arithmetic.parse.Given as goal
 
 -- the tree has what was read, and the rest is still to come

@@ -1,5 +1,5 @@
 use Rattle.std.proofs.Common.{refl, ◌∙◌}
-use Rattle.rowan_green.proofs.Paths.{begins-self}
+use Rattle.rowan_terms.proofs.Paths.{begins-self}
 use Rattle.rowan_tree_cursor.proofs.TreeCursorSearchLemmas.{WentToChild, went, went-below, went-smaller}
 use Rattle.rowan_tree_cursor.proofs.TreeCursorSearchLemmas.{covers-on, ended}
 use Rattle.rowan_tree_cursor.proofs.tree_cursor.TreeCursor.descend.Goals as goal

@@ -1,6 +1,6 @@
 use Rattle.std.proofs.Common.{◌≡◌, true}
-use Rattle.rowan_green.specs.Path.{Path, begins}
-use Rattle.rowan_cursor.specs.Search.{Covers}
+use Rattle.rowan_terms.specs.Path.{Path, begins}
+use Rattle.rowan_table.specs.Search.{Covers}
 use Rattle.rowan_tree_cursor.proofs.TreeCursorSearchLemmas.{size_at}
 use Rattle.rowan_tree_cursor.proofs.tree_cursor.TreeCursor.descend.Given as goal
 

@@ -5,8 +5,8 @@ use Rattle.rowan_green.specs.Lent.{pointee}
 use Rattle.rowan_green.specs.Search.{child_start}
 use Rattle.rowan_green.specs.Span.{Span}
 use Rattle.rowan_green.specs.Term.{node_children}
-use Rattle.rowan_cursor.specs.Cursor.{Cursor, term_at}
-use Rattle.rowan_cursor.specs.Moves.{cursor_at}
+use Rattle.rowan_table.specs.Cursor.{Cursor, term_at}
+use Rattle.rowan_table.specs.Moves.{cursor_at}
 use Rattle.rowan_tree_cursor.specs.declared.tree_cursor.Frame.{Frame}
 use Rattle.rowan_tree_cursor.specs.TreeCursor.{path_of, IsPlaced}
 use Rattle.rowan_tree_cursor.proofs.TreeCursorLemmas.{path-more, placed-child, child-limit, get-within}

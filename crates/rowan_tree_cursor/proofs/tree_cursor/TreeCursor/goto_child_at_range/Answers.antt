@@ -1,12 +1,12 @@
 use Rattle.std.proofs.Common.{◌≡◌, ◌-◌, ◌≤◌, Some, ◌∙◌, ap, subst, arith, rules}
 use Rattle.std.proofs.lemmas.Result.{IfOk-weaker}
 use Rattle.rowan_green.specs.declared.utility_types.NodeOrToken.TheVariants.{Node}
-use Rattle.rowan_green.specs.Path.{offset}
+use Rattle.rowan_terms.specs.Path.{offset}
 use Rattle.rowan_green.specs.Search.{IsChildAt}
 use Rattle.rowan_green.specs.Span.{Span}
 use Rattle.rowan_green.specs.Term.{node_children}
-use Rattle.rowan_cursor.specs.Cursor.{term_at}
-use Rattle.rowan_cursor.specs.Moves.{child_or_token_at_index}
+use Rattle.rowan_table.specs.Cursor.{term_at}
+use Rattle.rowan_table.specs.Moves.{child_or_token_at_index}
 use Rattle.rowan_tree_cursor.specs.TreeCursorMoves.{GoesTo, GoesToChild}
 use Rattle.rowan_tree_cursor.proofs.TreeCursorMoveLemmas.{range-some}
 use Rattle.rowan_tree_cursor.proofs.tree_cursor.TreeCursor.goto_child_at_range.Goals as goal

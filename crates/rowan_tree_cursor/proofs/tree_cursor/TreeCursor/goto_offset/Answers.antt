@@ -1,6 +1,6 @@
 use Rattle.std.proofs.Common.{◌≡◌, ◌+◌, ◌≤◌, refl, ◌∙◌, ap, arith, rules}
 use Rattle.rowan_green.specs.Span.{Span}
-use Rattle.rowan_cursor.proofs.CoverLemmas.{byte_at}
+use Rattle.rowan_table.proofs.CoverLemmas.{byte_at}
 use Rattle.rowan_tree_cursor.proofs.TreeCursorSearchLemmas.{byte-absent, byte-covered}
 use Rattle.rowan_tree_cursor.proofs.tree_cursor.TreeCursor.goto_offset.Goals as goal
 

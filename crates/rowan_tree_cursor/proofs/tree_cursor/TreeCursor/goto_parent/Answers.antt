@@ -1,6 +1,6 @@
 use Rattle.std.proofs.Common.{refl, sym, ◌∙◌, ap}
 use Rattle.rowan_green.specs.Lent.{pointee}
-use Rattle.rowan_cursor.specs.Moves.{parent, cursor_at}
+use Rattle.rowan_table.specs.Moves.{parent, cursor_at}
 use Rattle.rowan_tree_cursor.specs.TreeCursor.{path_of}
 use Rattle.rowan_tree_cursor.proofs.TreeCursorLemmas.{path-more, placed-parent}
 use Rattle.rowan_tree_cursor.proofs.TreeCursorMoveLemmas.{goes, parent-some}

@@ -6,7 +6,7 @@ use Rattle.rowan_green.specs.Lent.{pointee}
 use Rattle.rowan_green.specs.Search.{child_start}
 use Rattle.rowan_green.specs.Span.{Span}
 use Rattle.rowan_green.specs.Term.{node_children}
-use Rattle.rowan_cursor.specs.Moves.{prev_sibling_or_token, cursor_at, place_of}
+use Rattle.rowan_table.specs.Moves.{prev_sibling_or_token, cursor_at, place_of}
 use Rattle.rowan_tree_cursor.specs.declared.tree_cursor.Frame.{Frame}
 use Rattle.rowan_tree_cursor.specs.TreeCursor.{path_of}
 use Rattle.rowan_tree_cursor.proofs.TreeCursorLemmas.{ends-with, placed-parent, placed-sibling}

@@ -1,7 +1,7 @@
 use Rattle.std.proofs.Common.{◌≡◌, ◌-◌, length, Some, sym, ◌∙◌, ap}
 use Rattle.std.specs.Prelude.{slice_get}
-use Rattle.rowan_cursor.specs.Cursor.{index, last_index}
-use Rattle.rowan_cursor.proofs.PathLemmas.{last_index-child}
+use Rattle.rowan_table.specs.Cursor.{index, last_index}
+use Rattle.rowan_table.proofs.PathLemmas.{last_index-child}
 use Rattle.rowan_tree_cursor.specs.TreeCursor.{path_of}
 use Rattle.rowan_tree_cursor.proofs.TreeCursorLemmas.{ends-with, path-ends}
 use Rattle.rowan_tree_cursor.proofs.tree_cursor.TreeCursor.index.Goals as goal

@@ -1,7 +1,7 @@
 use Rattle.std.proofs.Common.{[], sym, ◌∙◌, ap, subst, rules}
 use Rattle.rowan_green.specs.declared.utility_types.NodeOrToken.TheVariants.{Node}
-use Rattle.rowan_green.specs.Path.{subterm, offset}
-use Rattle.rowan_green.proofs.Paths.{offset-empty}
+use Rattle.rowan_terms.specs.Path.{subterm, offset}
+use Rattle.rowan_terms.proofs.Paths.{offset-empty}
 use Rattle.rowan_tree_cursor.specs.TreeCursor.{path_of, AreFrames}
 use Rattle.rowan_tree_cursor.proofs.tree_cursor.TreeCursor.new.Goals as goal
 

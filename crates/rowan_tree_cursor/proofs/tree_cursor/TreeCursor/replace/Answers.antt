@@ -6,11 +6,11 @@ use Rattle.rowan_green.specs.declared.fault.Fault.TheVariants.{Memory}
 use Rattle.rowan_green.specs.declared.utility_types.NodeOrToken.TheVariants.{Node}
 use Rattle.rowan_green.specs.Fits.{Fits}
 use Rattle.rowan_green.specs.Lent.{pointee}
-use Rattle.rowan_green.specs.Path.{put}
+use Rattle.rowan_terms.specs.Path.{put}
 use Rattle.rowan_green.specs.Term.{term_kind}
-use Rattle.rowan_cursor.specs.Cursor.{Cursor, kind}
-use Rattle.rowan_cursor.specs.Replacement.{with_replacement}
-use Rattle.rowan_cursor.proofs.ReplaceLemmas.{keeps, put-own}
+use Rattle.rowan_table.specs.Cursor.{Cursor, kind}
+use Rattle.rowan_table.specs.Replacement.{with_replacement}
+use Rattle.rowan_table.proofs.ReplaceLemmas.{keeps, put-own}
 use Rattle.rowan_tree_cursor.proofs.TreeCursorLemmas.{IsLast, frame-at, put-up, unfit-up}
 use Rattle.rowan_tree_cursor.proofs.TreeCursorReplaceLemmas.{put-top, why}
 use Rattle.rowan_tree_cursor.proofs.tree_cursor.TreeCursor.replace.Goals as goal

@@ -1,7 +1,7 @@
 use Rattle.std.proofs.Common.{◌≡◌, ◌≤◌, [], length, take}
 use Rattle.rowan_green.specs.declared.utility_types.NodeOrToken.TheVariants.{Node, Token}
 use Rattle.rowan_green.specs.Fits.{Fits}
-use Rattle.rowan_green.specs.Path.{put}
+use Rattle.rowan_terms.specs.Path.{put}
 use Rattle.rowan_green.specs.Term.{TokenTerm}
 use Rattle.rowan_tree_cursor.specs.TreeCursor.{path_of, AreFrames}
 use Rattle.rowan_tree_cursor.proofs.tree_cursor.TreeCursor.replace.Given as goal

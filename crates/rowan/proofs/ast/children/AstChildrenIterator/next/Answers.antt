@@ -1,5 +1,5 @@
 use Rattle.std.proofs.Common.{subst, Some, Ok, Err}
-use Rattle.rowan_cursor.specs.Yields.{YieldsOrRefuses}
+use Rattle.rowan_table.specs.Yields.{YieldsOrRefuses}
 use Rattle.rowan.specs.Ast.{casts_at}
 use Rattle.rowan.proofs.WrapperLemmas.{yields-wrapper, yields-refusal, makes-progress}
 use Rattle.rowan.proofs.ast.children.AstChildrenIterator.next.Goals as goal

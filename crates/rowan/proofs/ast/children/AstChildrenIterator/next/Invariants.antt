@@ -1,8 +1,8 @@
 use Rattle.std.proofs.Common.{Option}
 use Rattle.std.specs.Prelude.{Result}
 use Rattle.rowan_green.specs.declared.fault.Fault.{Fault}
-use Rattle.rowan_cursor.specs.Cursor.{Cursor}
-use Rattle.rowan_cursor.specs.Yields.{Rest, count_of}
+use Rattle.rowan_table.specs.Cursor.{Cursor}
+use Rattle.rowan_table.specs.Yields.{Rest, count_of}
 use Rattle.rowan.specs.Ast.{casts_at, YieldsWrappers}
 use Rattle.rowan.proofs.ast.children.AstChildrenIterator.next.Given as goal
 

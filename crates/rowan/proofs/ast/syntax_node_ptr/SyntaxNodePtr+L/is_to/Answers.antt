@@ -1,7 +1,7 @@
 use Rattle.std.proofs.Common.{rules, sym, ◌∙◌}
 use Rattle.std.specs.Option.{option_map}
 use Rattle.rowan_green.specs.declared.utility_types.NodeOrToken.TheVariants.{Node}
-use Rattle.rowan_green.specs.Path.{subterm}
+use Rattle.rowan_terms.specs.Path.{subterm}
 use Rattle.rowan_api.specs.Refs.{node_place}
 use Rattle.rowan.specs.Pointer.{means_kind}
 use Rattle.rowan.proofs.PointerLemmas.{kind-meant, range-meant}

@@ -1,7 +1,7 @@
 use Rattle.std.proofs.Common.{◌≡◌, ◌≤◌, true, Option}
 use Rattle.rowan_green.specs.Steps.{Tally}
-use Rattle.rowan_cursor.specs.Cursor.{Cursor}
-use Rattle.rowan_cursor.specs.Moves.{is_node_at}
+use Rattle.rowan_table.specs.Cursor.{Cursor}
+use Rattle.rowan_table.specs.Moves.{is_node_at}
 use Rattle.rowan_api.specs.Refs.{node_place}
 use Rattle.rowan.specs.Pointer.{means_kind}
 use Rattle.rowan.proofs.ChainLemmas.{size_at}

@@ -1,8 +1,8 @@
 use Rattle.std.proofs.Common.{string_bytes, sym, ◌∙◌, ap, subst}
 use Rattle.rowan_green.specs.declared.utility_types.NodeOrToken.TheVariants.{Node}
 use Rattle.rowan_green.specs.Span.{Span}
-use Rattle.rowan_green.proofs.Paths.{offset-empty}
-use Rattle.rowan_api.specs.Printed.{raw_name, AreNodeLines}
+use Rattle.rowan_terms.proofs.Paths.{offset-empty}
+use Rattle.rowan_print.specs.Printed.{raw_name, AreNodeLines}
 use Rattle.rowan_api.proofs.api.node.SyntaxNode.debug_tree_of.Goals as goal
 
 pub returns-clause-ok : goal.returns-clause-ok

@@ -1,9 +1,9 @@
 use Rattle.std.proofs.Common.{sym, ◌∙◌, ap}
 use Rattle.serde_json.specs.Written.{compact_text}
 use Rattle.rowan_green.specs.declared.utility_types.NodeOrToken.TheVariants.{Node}
-use Rattle.rowan_green.specs.Path.{offset}
+use Rattle.rowan_terms.specs.Path.{offset}
 use Rattle.rowan_green.specs.Span.{Span}
-use Rattle.rowan_api.specs.Printed.{raw_name, node_json, json_of, term_json}
+use Rattle.rowan_print.specs.Printed.{raw_name, node_json, json_of, term_json}
 use Rattle.rowan_api.proofs.api.node.SyntaxNode.to_json_string.Goals as goal
 
 pub returns-clause-ok : goal.returns-clause-ok

@@ -2,8 +2,8 @@ use Rattle.std.proofs.Common.{sym, ◌∙◌, ap}
 use Rattle.serde_json.specs.Written.{compact_text}
 use Rattle.rowan_green.specs.declared.utility_types.NodeOrToken.TheVariants.{Node}
 use Rattle.rowan_green.specs.Span.{Span}
-use Rattle.rowan_green.proofs.Paths.{offset-empty}
-use Rattle.rowan_api.specs.Printed.{raw_name, node_json}
+use Rattle.rowan_terms.proofs.Paths.{offset-empty}
+use Rattle.rowan_print.specs.Printed.{raw_name, node_json}
 use Rattle.rowan_api.proofs.api.node.SyntaxNode.to_json_string_of.Goals as goal
 
 pub returns-clause-ok : goal.returns-clause-ok

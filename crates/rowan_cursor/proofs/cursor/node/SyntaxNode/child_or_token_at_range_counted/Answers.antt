@@ -1,6 +1,6 @@
 use Rattle.std.proofs.Common.{None, subst}
-use Rattle.rowan_cursor.specs.Cursor.{Cursor}
-use Rattle.rowan_cursor.specs.Search.{FindsChild}
+use Rattle.rowan_table.specs.Cursor.{Cursor}
+use Rattle.rowan_table.specs.Search.{FindsChild}
 use Rattle.rowan_cursor.proofs.cursor.node.SyntaxNode.child_or_token_at_range_counted.Goals as goal
 
 pub returns-in-None-clause-ok : goal.returns-in-None-clause-ok

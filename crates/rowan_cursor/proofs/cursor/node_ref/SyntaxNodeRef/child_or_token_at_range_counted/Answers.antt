@@ -1,12 +1,12 @@
 use Rattle.std.proofs.Common.{subst}
 use Rattle.std.specs.Prelude.{IfSome, IsNone}
 use Rattle.std.specs.Option.{option_map}
-use Rattle.rowan_green.specs.Path.{Path}
-use Rattle.rowan_cursor.specs.declared.table.Table.{Table}
+use Rattle.rowan_terms.specs.Path.{Path}
+use Rattle.rowan_table.specs.declared.table.Table.{Table}
 use Rattle.rowan_cursor.specs.Refs.{element_place}
-use Rattle.rowan_cursor.specs.Search.{IsRangeChild}
-use Rattle.rowan_cursor.specs.TableView.{root_of, path_at}
-use Rattle.rowan_cursor.proofs.SearchLemmas.{finds-answer}
+use Rattle.rowan_table.specs.Search.{IsRangeChild}
+use Rattle.rowan_table.specs.TableView.{root_of, path_at}
+use Rattle.rowan_table.proofs.SearchLemmas.{finds-answer}
 use Rattle.rowan_cursor.proofs.cursor.node_ref.SyntaxNodeRef.child_or_token_at_range_counted.Goals as goal
 
 pub returns-clause-found : goal.returns-clause-found

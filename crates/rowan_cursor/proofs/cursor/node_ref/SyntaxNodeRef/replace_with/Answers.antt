@@ -2,9 +2,9 @@ use Rattle.std.proofs.Common.{◌≡◌, ◌∙◌, ap}
 use Rattle.std.proofs.lemmas.Result.{IfOk-weaker}
 use Rattle.rowan_green.specs.declared.utility_types.NodeOrToken.TheVariants.{Node}
 use Rattle.rowan_cursor.specs.Refs.{node_place}
-use Rattle.rowan_cursor.specs.Replacement.{with_replacement, KeepsTheRest}
-use Rattle.rowan_cursor.specs.TableView.{cursor_of}
-use Rattle.rowan_cursor.proofs.ReplaceLemmas.{keeps, put-own}
+use Rattle.rowan_table.specs.Replacement.{with_replacement, KeepsTheRest}
+use Rattle.rowan_table.specs.TableView.{cursor_of}
+use Rattle.rowan_table.proofs.ReplaceLemmas.{keeps, put-own}
 use Rattle.rowan_cursor.proofs.cursor.node_ref.SyntaxNodeRef.replace_with.Goals as goal
 
 pub returns-clause-rest : goal.returns-clause-rest

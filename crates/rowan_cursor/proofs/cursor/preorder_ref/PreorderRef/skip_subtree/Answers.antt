@@ -1,7 +1,7 @@
 use Rattle.std.proofs.Common.{◌≡◌, ◌≤◌, length, sym, subst}
-use Rattle.rowan_cursor.specs.declared.table.Table.{Table}
-use Rattle.rowan_cursor.specs.Events.{LeavesNoToken}
-use Rattle.rowan_cursor.specs.Preorder.{skip}
+use Rattle.rowan_table.specs.declared.table.Table.{Table}
+use Rattle.rowan_table.specs.Events.{LeavesNoToken}
+use Rattle.rowan_table.specs.Preorder.{skip}
 use Rattle.rowan_cursor.specs.RefWalks.{rest_of_node_events}
 use Rattle.rowan_cursor.specs.TraversalView.{traversal_node_events}
 use Rattle.rowan_cursor.proofs.FewerLemmas.{skip-fewer}

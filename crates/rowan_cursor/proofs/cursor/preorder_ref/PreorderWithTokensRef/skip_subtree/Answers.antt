@@ -1,6 +1,6 @@
 use Rattle.std.proofs.Common.{◌≡◌, ◌≤◌, length, sym, subst}
-use Rattle.rowan_cursor.specs.declared.table.Table.{Table}
-use Rattle.rowan_cursor.specs.Preorder.{skip}
+use Rattle.rowan_table.specs.declared.table.Table.{Table}
+use Rattle.rowan_table.specs.Preorder.{skip}
 use Rattle.rowan_cursor.specs.RefWalks.{rest_of_events}
 use Rattle.rowan_cursor.specs.TraversalView.{traversal_events}
 use Rattle.rowan_cursor.proofs.FewerLemmas.{skip-fewer}

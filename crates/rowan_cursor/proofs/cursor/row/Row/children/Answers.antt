@@ -1,6 +1,6 @@
 use Rattle.std.proofs.Common.{◌-◌}
-use Rattle.rowan_cursor.specs.Moves.{numbers, child_paths}
-use Rattle.rowan_cursor.specs.TableView.{root_of, path_at}
+use Rattle.rowan_table.specs.Moves.{numbers, child_paths}
+use Rattle.rowan_table.specs.TableView.{root_of, path_at}
 use Rattle.rowan_cursor.specs.Walks.{row_numbers}
 use Rattle.rowan_cursor.proofs.RowViews.{elements-left, nodes-left}
 use Rattle.rowan_cursor.proofs.cursor.row.Row.children.Goals as goal

@@ -1,6 +1,6 @@
 use Rattle.std.proofs.Common.{◌+◌}
-use Rattle.rowan_cursor.specs.Moves.{sibling_paths}
-use Rattle.rowan_cursor.specs.TableView.{root_of, path_at}
+use Rattle.rowan_table.specs.Moves.{sibling_paths}
+use Rattle.rowan_table.specs.TableView.{root_of, path_at}
 use Rattle.rowan_cursor.specs.Walks.{row_numbers, numbers_between}
 use Rattle.rowan_cursor.proofs.RowViews.{elements-left, nodes-left, siblings-next, siblings-prev}
 use Rattle.rowan_cursor.proofs.cursor.row.Row.siblings.Goals as goal

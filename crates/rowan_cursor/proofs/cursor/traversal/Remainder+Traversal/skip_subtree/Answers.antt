@@ -1,5 +1,5 @@
 use Rattle.std.proofs.Common.{Ok, sym, ◌∙◌, ap, subst}
-use Rattle.rowan_cursor.specs.Preorder.{skip_rest}
+use Rattle.rowan_table.specs.Preorder.{skip_rest}
 use Rattle.rowan_cursor.specs.TraversalView.{traversal_events, traversal_node_events}
 use Rattle.rowan_cursor.specs.TraversalView.{HasNodeTraversal}
 use Rattle.rowan_cursor.specs.Walks.{rest_of, IfWalk}

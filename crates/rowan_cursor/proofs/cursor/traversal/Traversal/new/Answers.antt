@@ -1,7 +1,7 @@
 use Rattle.std.proofs.Common.{ap, map}
-use Rattle.rowan_cursor.specs.Moves.{cursor_at, element_at, nodes_at}
-use Rattle.rowan_cursor.specs.TableView.{root_of}
-use Rattle.rowan_cursor.proofs.EventLemmas.{start-inside}
+use Rattle.rowan_table.specs.Moves.{cursor_at, element_at, nodes_at}
+use Rattle.rowan_table.specs.TableView.{root_of}
+use Rattle.rowan_table.proofs.EventLemmas.{start-inside}
 use Rattle.rowan_cursor.proofs.TraversalLemmas.{start-entered}
 use Rattle.rowan_cursor.proofs.cursor.traversal.Traversal.new.Goals as goal
 

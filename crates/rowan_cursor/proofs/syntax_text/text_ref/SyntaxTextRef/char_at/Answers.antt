@@ -2,7 +2,7 @@ use Rattle.std.proofs.Common.{◌∙◌, sym, subst}
 use Rattle.std.proofs.lemmas.Bool.{false≢true}
 use Rattle.std.specs.Str.Iter.{chars_rest}
 use Rattle.rowan_cursor.specs.RefTexts.{text_slice}
-use Rattle.rowan_cursor.specs.SyntaxText.{slice_text, ReadsChar}
+use Rattle.rowan_table.specs.SyntaxText.{slice_text, ReadsChar}
 use Rattle.rowan_cursor.proofs.CharLemmas.{char_past, char_border, char_read}
 use Rattle.rowan_cursor.proofs.syntax_text.text_ref.SyntaxTextRef.char_at.Goals as goal
 

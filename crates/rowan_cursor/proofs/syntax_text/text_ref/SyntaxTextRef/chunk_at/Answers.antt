@@ -2,9 +2,9 @@ use Rattle.std.proofs.Common.{◌<◌, ◌≤◌, ◌++◌, length, sym, ◌∙�
 use Rattle.std.proofs.Common.{length-append}
 use Rattle.std.specs.List.{concat}
 use Rattle.rowan_cursor.specs.RefTexts.{text_slice, rest_of_chunks}
-use Rattle.rowan_cursor.specs.SyntaxText.{slice_text}
+use Rattle.rowan_table.specs.SyntaxText.{slice_text}
 use Rattle.std.proofs.lemmas.List.Folds.{concat-append}
-use Rattle.rowan_cursor.specs.Chunks.{remaining_chunks, WalksOver}
+use Rattle.rowan_table.specs.Chunks.{remaining_chunks, WalksOver}
 use Rattle.rowan_cursor.proofs.RefTextLemmas.{text_joined, read_on, all_read}
 use Rattle.rowan_cursor.proofs.syntax_text.text_ref.SyntaxTextRef.chunk_at.Goals as goal
 

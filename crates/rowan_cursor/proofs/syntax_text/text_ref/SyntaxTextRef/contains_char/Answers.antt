@@ -2,7 +2,7 @@ use Rattle.std.proofs.Common.{ℕ, ◌↔◌, IsTrue, List, Option, Some, None, 
 use Rattle.std.specs.Prelude.{is_some}
 use Rattle.std.proofs.lemmas.Bool.{false≢true}
 use Rattle.rowan_cursor.specs.RefTexts.{text_slice}
-use Rattle.rowan_cursor.specs.SyntaxText.{slice_text, HasChar, FindsChar}
+use Rattle.rowan_table.specs.SyntaxText.{slice_text, HasChar, FindsChar}
 use Rattle.rowan_cursor.proofs.syntax_text.text_ref.SyntaxTextRef.contains_char.Goals as goal
 
 contained : (text : List ℕ) (c : ℕ) (found : Option ℕ) → FindsChar text c found

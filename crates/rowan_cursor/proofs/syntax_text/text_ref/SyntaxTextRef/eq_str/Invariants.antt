@@ -3,7 +3,7 @@ use Rattle.std.specs.List.{concat}
 use denote.Text.{Utf8}
 use denote.Shadow.{shadow}
 use Rattle.rowan_cursor.specs.RefTexts.{text_slice, rest_of_chunks}
-use Rattle.rowan_cursor.specs.SyntaxText.{slice_text}
+use Rattle.rowan_table.specs.SyntaxText.{slice_text}
 use Rattle.rowan_cursor.proofs.syntax_text.text_ref.SyntaxTextRef.eq_str.Given as goal
 
 -- both texts begin alike

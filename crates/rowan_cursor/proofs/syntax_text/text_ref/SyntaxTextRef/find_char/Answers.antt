@@ -1,7 +1,7 @@
 use Rattle.std.proofs.Common.{◌+◌, length, ap, subst, rules, arith}
 use Rattle.std.specs.List.{concat}
 use Rattle.rowan_cursor.specs.RefTexts.{text_slice, rest_of_chunks}
-use Rattle.rowan_cursor.specs.SyntaxText.{slice_text}
+use Rattle.rowan_table.specs.SyntaxText.{slice_text}
 use Rattle.rowan_cursor.proofs.CharLemmas.{HasPassed, nothing_passed, next_fits, pass_chunk}
 use Rattle.rowan_cursor.proofs.CharLemmas.{first_in_chunk, all_passed}
 use Rattle.rowan_cursor.proofs.RefTextLemmas.{text_fits, all_left}

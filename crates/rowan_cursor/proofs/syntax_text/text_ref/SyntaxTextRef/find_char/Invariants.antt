@@ -1,6 +1,6 @@
 use Rattle.std.specs.List.{concat}
 use Rattle.rowan_cursor.specs.RefTexts.{text_slice, rest_of_chunks}
-use Rattle.rowan_cursor.specs.SyntaxText.{slice_text}
+use Rattle.rowan_table.specs.SyntaxText.{slice_text}
 use Rattle.rowan_cursor.proofs.CharLemmas.{HasPassed}
 use Rattle.rowan_cursor.proofs.syntax_text.text_ref.SyntaxTextRef.find_char.Given as goal
 

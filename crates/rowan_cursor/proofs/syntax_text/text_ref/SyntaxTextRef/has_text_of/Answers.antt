@@ -3,7 +3,7 @@ use Rattle.std.proofs.Common.{append_assoc, length-append}
 use Rattle.std.proofs.lemmas.List.{append_cancel_left, nil_from_length}
 use Rattle.std.specs.List.{concat}
 use Rattle.rowan_cursor.specs.RefTexts.{text_slice, rest_of_chunks}
-use Rattle.rowan_cursor.specs.SyntaxText.{slice_text}
+use Rattle.rowan_table.specs.SyntaxText.{slice_text}
 use Rattle.rowan_cursor.proofs.RefTextLemmas.{text_joined, text_len, all_left, all_read}
 use Rattle.rowan_cursor.proofs.SameLemmas.{same, differ, fronts, longer, all_alike}
 use Rattle.rowan_cursor.proofs.syntax_text.text_ref.SyntaxTextRef.has_text_of.Goals as goal

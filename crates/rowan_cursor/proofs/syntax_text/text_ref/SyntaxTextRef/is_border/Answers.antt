@@ -3,7 +3,7 @@ use Rattle.std.specs.Str.{IsCharBoundary}
 use Rattle.std.proofs.lemmas.Bool.Decides.{Decides-eqb}
 use Rattle.std.proofs.lemmas.Str.{IsCharBoundary-end}
 use Rattle.rowan_cursor.specs.RefTexts.{text_slice}
-use Rattle.rowan_cursor.specs.SyntaxText.{slice_text}
+use Rattle.rowan_table.specs.SyntaxText.{slice_text}
 use Rattle.rowan_cursor.proofs.CharLemmas.{byte_within}
 use Rattle.rowan_cursor.proofs.RefTextLemmas.{text_len}
 use Rattle.rowan_cursor.proofs.syntax_text.text_ref.SyntaxTextRef.is_border.Goals as goal

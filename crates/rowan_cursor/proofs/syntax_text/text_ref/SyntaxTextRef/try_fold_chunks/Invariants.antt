@@ -1,6 +1,6 @@
 use Rattle.rowan_cursor.specs.Folds.{FoldsUntilErr}
 use Rattle.rowan_cursor.specs.RefTexts.{text_slice, rest_of_chunks}
-use Rattle.rowan_cursor.specs.SyntaxText.{chunks}
+use Rattle.rowan_table.specs.SyntaxText.{chunks}
 use Rattle.rowan_cursor.proofs.syntax_text.text_ref.SyntaxTextRef.try_fold_chunks.Given as goal
 
 -- the calls that are still to come end as all calls do

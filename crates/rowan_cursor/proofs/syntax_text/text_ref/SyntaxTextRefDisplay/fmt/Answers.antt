@@ -1,7 +1,7 @@
 use Rattle.std.proofs.Common.{◌++◌, [], true, refl}
 use Rattle.std.proofs.Output.{has_written_append, writes_in_calls_nil}
 use Rattle.rowan_cursor.specs.RefTexts.{text_slice}
-use Rattle.rowan_cursor.specs.SyntaxText.{slice_text}
+use Rattle.rowan_table.specs.SyntaxText.{slice_text}
 use Rattle.rowan_cursor.proofs.RefTextLemmas.{all_left, read_on}
 use Rattle.rowan_cursor.proofs.syntax_text.text_ref.SyntaxTextRefDisplay.fmt.Goals as goal
 

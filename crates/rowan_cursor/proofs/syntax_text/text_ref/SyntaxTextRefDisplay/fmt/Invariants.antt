@@ -2,7 +2,7 @@ use Rattle.std.proofs.Common.{◌≡◌, ℕ, List, ◌++◌}
 use Rattle.std.specs.Fmt.{HasWritten, IsPlainFormatter}
 use Rattle.std.specs.List.{concat}
 use Rattle.rowan_cursor.specs.RefTexts.{text_slice, rest_of_chunks}
-use Rattle.rowan_cursor.specs.SyntaxText.{slice_text}
+use Rattle.rowan_table.specs.SyntaxText.{slice_text}
 use Rattle.rowan_cursor.proofs.syntax_text.text_ref.SyntaxTextRefDisplay.fmt.Given as goal
 
 -- what was written, and the chunks that are left

@@ -1,0 +1,5 @@
+pub mod Casts
+pub mod Kinds
+pub mod Layout
+pub mod NodeIn
+pub mod Places

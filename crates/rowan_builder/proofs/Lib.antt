@@ -1,0 +1,12 @@
+pub mod BuilderLemmas
+pub mod ByteLemmas
+pub mod CacheLemmas
+pub mod ChainLemmas
+pub mod ChainWalks
+pub mod CountLemmas
+pub mod NumberLemmas
+pub mod StreamLemmas
+pub mod TableLemmas
+pub mod TextLemmas
+pub mod WeaveLemmas
+pub mod WrapLemmas

@@ -1,0 +1,10 @@
+pub mod Builder
+pub mod BuilderCoding
+pub mod Bytes
+pub mod Cache
+pub mod CacheCoding
+pub mod Chains
+pub mod Loan
+pub mod Stream
+pub mod Tables
+pub mod Weave

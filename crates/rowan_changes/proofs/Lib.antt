@@ -1,0 +1,16 @@
+pub mod ChangeLemmas
+pub mod EditedLemmas
+pub mod ElementLemmas
+pub mod OpenNodeLemmas
+pub mod ParentLemmas
+pub mod PlacedLaw
+pub mod Places
+pub mod PointerLemmas
+pub mod RunLemmas
+pub mod ShiftLemmas
+pub mod SiteLemmas
+pub mod SiteListLemmas
+pub mod TextLaw
+pub mod Untouched
+pub mod Ways
+pub mod ZipperLemmas

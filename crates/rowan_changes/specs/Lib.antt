@@ -1,0 +1,17 @@
+pub mod Changes
+pub mod ChangesCode
+pub mod ChangesKept
+pub mod Edit
+pub mod EditErrors
+pub mod GreenEditor
+pub mod Limits
+pub mod Moved
+pub mod OpenNode
+pub mod Plan
+pub mod Pointers
+pub mod Sites
+pub mod SitesCode
+pub mod SitesKept
+pub mod TextEdits
+pub mod TextWith
+pub mod Zipper

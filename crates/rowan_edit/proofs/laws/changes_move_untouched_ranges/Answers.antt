@@ -1,5 +1,0 @@
-use Rattle.rowan_edit.proofs.RangeLaw.{changes-move}
-use Rattle.rowan_edit.proofs.laws.changes_move_untouched_ranges.Goals as goal
-
-pub returns : goal.returns
-returns c = changes-move

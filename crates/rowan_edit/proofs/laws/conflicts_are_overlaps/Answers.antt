@@ -1,5 +1,0 @@
-use Rattle.rowan_edit.proofs.OverlapLemmas.{conflict-overlaps}
-use Rattle.rowan_edit.proofs.laws.conflicts_are_overlaps.Goals as goal
-
-pub returns : goal.returns
-returns c = conflict-overlaps

@@ -1,5 +1,0 @@
-use Rattle.rowan_edit.proofs.SiteLaw.{node-edited}
-use Rattle.rowan_edit.proofs.laws.edited_nodes_keep_their_kind.Goals as goal
-
-pub returns : goal.returns
-returns c = node-edited

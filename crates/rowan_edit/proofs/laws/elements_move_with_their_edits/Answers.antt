@@ -1,5 +1,0 @@
-use Rattle.rowan_edit.proofs.SiteLaw.{elements-moved}
-use Rattle.rowan_edit.proofs.laws.elements_move_with_their_edits.Goals as goal
-
-pub returns : goal.returns
-returns c = elements-moved

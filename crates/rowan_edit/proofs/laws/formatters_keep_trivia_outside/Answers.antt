@@ -1,5 +1,0 @@
-use Rattle.rowan_edit.proofs.KeptTokens.{formatted-calls}
-use Rattle.rowan_edit.proofs.laws.formatters_keep_trivia_outside.Goals as goal
-
-pub returns : goal.returns
-returns g c = formatted-calls g.F.FnMut

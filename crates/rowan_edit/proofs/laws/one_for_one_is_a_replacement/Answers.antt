@@ -1,5 +1,0 @@
-use Rattle.rowan_edit.proofs.KeptLemmas.{one-put}
-use Rattle.rowan_edit.proofs.laws.one_for_one_is_a_replacement.Goals as goal
-
-pub returns : goal.returns
-returns c = one-put

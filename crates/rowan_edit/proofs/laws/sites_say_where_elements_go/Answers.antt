@@ -1,5 +1,0 @@
-use Rattle.rowan_edit.proofs.SiteLaw.{by-sites}
-use Rattle.rowan_edit.proofs.laws.sites_say_where_elements_go.Goals as goal
-
-pub returns : goal.returns
-returns c = by-sites

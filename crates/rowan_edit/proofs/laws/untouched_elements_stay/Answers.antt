@@ -1,5 +1,0 @@
-use Rattle.rowan_edit.proofs.KeptLemmas.{elements-kept}
-use Rattle.rowan_edit.proofs.laws.untouched_elements_stay.Goals as goal
-
-pub returns : goal.returns
-returns c = elements-kept

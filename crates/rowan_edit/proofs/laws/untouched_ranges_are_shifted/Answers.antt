@@ -1,5 +1,0 @@
-use Rattle.rowan_edit.proofs.RangeLaw.{range-moved}
-use Rattle.rowan_edit.proofs.laws.untouched_ranges_are_shifted.Goals as goal
-
-pub returns : goal.returns
-returns c = range-moved

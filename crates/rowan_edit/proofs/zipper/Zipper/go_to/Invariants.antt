@@ -1,5 +1,0 @@
-use Rattle.rowan_edit.proofs.Ways.{IsOnWay}
-use Rattle.rowan_edit.proofs.zipper.Zipper.go_to.Given as goal
-
-abbrev pub invariant-loop-depth : goal.invariant-loop-depth
-invariant-loop-depth l = IsOnWay l.fn.self l.zipper l.path l.end l.depth

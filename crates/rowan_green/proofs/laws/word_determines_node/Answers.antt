@@ -1,5 +1,0 @@
-use Rattle.rowan_green.proofs.Words.{node_word-injective}
-use Rattle.rowan_green.proofs.laws.word_determines_node.Goals as goal
-
-pub returns : goal.returns
-returns c = node_word-injective

@@ -1,5 +1,0 @@
-use Rattle.rowan_green.proofs.Words.{parts-unique}
-use Rattle.rowan_green.proofs.laws.word_has_one_reading.Goals as goal
-
-pub returns : goal.returns
-returns c = parts-unique

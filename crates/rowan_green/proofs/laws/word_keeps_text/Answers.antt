@@ -1,5 +1,0 @@
-use Rattle.rowan_green.proofs.Words.{word_text-terms}
-use Rattle.rowan_green.proofs.laws.word_keeps_text.Goals as goal
-
-pub returns : goal.returns
-returns c = word_text-terms

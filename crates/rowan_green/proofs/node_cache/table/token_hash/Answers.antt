@@ -1,7 +1,0 @@
-use Rattle.std.proofs.Common.{rules}
-use Rattle.rowan_green.specs.Tables.{token_hash}
-use Rattle.rowan_green.proofs.node_cache.table.token_hash.Goals as goal
-
-pub returns : goal.returns
-unfolding token_hash
-returns c = search rules

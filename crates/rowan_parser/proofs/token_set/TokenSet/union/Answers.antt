@@ -1,5 +1,0 @@
-use Rattle.rowan_parser.proofs.Sets.{has-or}
-use Rattle.rowan_parser.proofs.token_set.TokenSet.union.Goals as goal
-
-pub returns : goal.returns
-returns c = λ k. has-or c.args.self.0 c.args.other.0 k

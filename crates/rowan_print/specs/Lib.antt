@@ -1,0 +1,4 @@
+pub mod Opened
+pub mod Printed
+pub mod Spelled
+pub mod Unfinished

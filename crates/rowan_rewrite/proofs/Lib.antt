@@ -1,0 +1,6 @@
+pub mod LeafOffsets
+pub mod PassLemmas
+pub mod PassSteps
+pub mod RewriteChangeLemmas
+pub mod RewritingCallLemmas
+pub mod RewritingLemmas

@@ -1,0 +1,5 @@
+pub mod Drafts
+pub mod Rewriting
+pub mod RewritingCalls
+pub mod TokenAts
+pub mod Trivia

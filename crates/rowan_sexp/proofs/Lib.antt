@@ -1,0 +1,9 @@
+pub mod AskedLemmas
+pub mod BalanceLemmas
+pub mod EvalLemmas
+pub mod GrammarLemmas
+pub mod LexedLemmas
+pub mod NumberLemmas
+pub mod ParsingLemmas
+pub mod SexpRuns
+pub mod WordLemmas

@@ -1,0 +1,13 @@
+pub mod EditLaws
+pub mod ItemLemmas
+pub mod LeafLaws
+pub mod Lists
+pub mod OffsetLemmas
+pub mod Paths
+pub mod PutLemmas
+pub mod PutLimits
+pub mod PutOrders
+pub mod PutRanges
+pub mod PutText
+pub mod SeparateLemmas
+pub mod Words

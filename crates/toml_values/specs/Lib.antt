@@ -1,0 +1,4 @@
+pub mod Find
+pub mod Shown
+pub mod Strings
+pub mod Tables
