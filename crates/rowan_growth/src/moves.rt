@@ -1,19 +1,24 @@
 //! Moves of cursors from place to place, and searches by place.
 use crate::trees::Tree;
-use rowan::{Fault, TextRange, TextSize, TypedElementCalls};
+use rowan::{Fault, NodeOrToken, SyntaxElement, TextRange, TextSize, TypedElementCalls};
+use rowan_moves::{MOVES, Move, typed};
+use rowan_tool::sexp::Lang;
+
+type Element = SyntaxElement<Lang>;
 
 pub fn make(call: &str, tree: &Tree) -> Result<Option<u64>, Fault> {
     let number = match call {
-        "first_token" => first_token(tree),
-        "last_token" => last_token(tree),
-        "next_token" => next_token(tree),
-        "prev_token" => prev_token(tree),
-        "next_sibling" => next_sibling(tree),
-        "prev_sibling" => prev_sibling(tree),
-        "next_sibling_or_token" => next_sibling_or_token(tree),
-        "prev_sibling_or_token" => prev_sibling_or_token(tree),
-        "first_child" => first_child(tree),
-        "last_child" => last_child(tree),
+        "first_token" => index_at(tree, Move::FirstToken),
+        "last_token" => index_at(tree, Move::LastToken),
+        "next_token" => moves(tree, Move::FirstToken, Move::NextToken),
+        "prev_token" => moves(tree, Move::LastToken, Move::PrevToken),
+        "next_sibling" => moves(tree, Move::FirstChild, Move::NextSibling),
+        "prev_sibling" => moves(tree, Move::LastChild, Move::PrevSibling),
+        "next_sibling_or_token" => moves(tree, Move::FirstChildOrToken, Move::NextSiblingOrToken),
+        "prev_sibling_or_token" => moves(tree, Move::LastChildOrToken, Move::PrevSiblingOrToken),
+        "first_child" => moves(tree, Move::FirstChild, Move::FirstChild),
+        "last_child" => moves(tree, Move::LastChild, Move::LastChild),
+        "each_move" => each_move(tree),
         "tree_top" => tree_top(tree),
         "child_or_token_at_index" => child_or_token_at_index(tree),
         "child_or_token_at_range" => child_or_token_at_range(tree),
@@ -24,123 +29,52 @@ pub fn make(call: &str, tree: &Tree) -> Result<Option<u64>, Fault> {
     Ok(Some(number?))
 }
 
-fn first_token(tree: &Tree) -> Result<u64, Fault> {
-    match tree.root.first_token()? {
-        Some(token) => Ok(token.index() as u64),
+/// Where a move from the root leads.
+fn target(tree: &Tree, way: Move) -> Result<Option<Element>, Fault> {
+    typed::target(way, &NodeOrToken::Node(tree.root.clone()?))
+}
+
+/// The index of the element to which a move from the root leads.
+fn index_at(tree: &Tree, way: Move) -> Result<u64, Fault> {
+    match target(tree, way)? {
+        Some(element) => Ok(element.index() as u64),
         None => Ok(0),
     }
 }
 
-fn last_token(tree: &Tree) -> Result<u64, Fault> {
-    match tree.root.last_token()? {
-        Some(token) => Ok(token.index() as u64),
-        None => Ok(0),
-    }
-}
-
-fn next_token(tree: &Tree) -> Result<u64, Fault> {
-    let mut next = tree.root.first_token()?;
-    let mut tokens: u64 = 0;
-    for _ in 0..u64::MAX {
-        let Some(token) = next else {
-            break;
-        };
-        tokens = tokens.wrapping_add(1);
-        next = token.next_token()?;
-    }
-    Ok(tokens)
-}
-
-fn prev_token(tree: &Tree) -> Result<u64, Fault> {
-    let mut next = tree.root.last_token()?;
-    let mut tokens: u64 = 0;
-    for _ in 0..u64::MAX {
-        let Some(token) = next else {
-            break;
-        };
-        tokens = tokens.wrapping_add(1);
-        next = token.prev_token()?;
-    }
-    Ok(tokens)
-}
-
-fn next_sibling(tree: &Tree) -> Result<u64, Fault> {
-    let mut next = tree.root.first_child()?;
-    let mut nodes: u64 = 0;
-    for _ in 0..u64::MAX {
-        let Some(node) = next else {
-            break;
-        };
-        nodes = nodes.wrapping_add(1);
-        next = node.next_sibling()?;
-    }
-    Ok(nodes)
-}
-
-fn prev_sibling(tree: &Tree) -> Result<u64, Fault> {
-    let mut next = tree.root.last_child()?;
-    let mut nodes: u64 = 0;
-    for _ in 0..u64::MAX {
-        let Some(node) = next else {
-            break;
-        };
-        nodes = nodes.wrapping_add(1);
-        next = node.prev_sibling()?;
-    }
-    Ok(nodes)
-}
-
-fn next_sibling_or_token(tree: &Tree) -> Result<u64, Fault> {
-    let mut next = tree.root.first_child_or_token()?;
+/// How many elements there are on the way from the root by one move, and from there by the other,
+/// as often as that leads anywhere.
+fn moves(tree: &Tree, first: Move, further: Move) -> Result<u64, Fault> {
+    let mut next = target(tree, first)?;
     let mut elements: u64 = 0;
     for _ in 0..u64::MAX {
         let Some(element) = next else {
             break;
         };
         elements = elements.wrapping_add(1);
-        next = element.next_sibling_or_token()?;
+        next = typed::target(further, &element)?;
     }
     Ok(elements)
 }
 
-fn prev_sibling_or_token(tree: &Tree) -> Result<u64, Fault> {
-    let mut next = tree.root.last_child_or_token()?;
-    let mut elements: u64 = 0;
-    for _ in 0..u64::MAX {
-        let Some(element) = next else {
-            break;
-        };
-        elements = elements.wrapping_add(1);
-        next = element.prev_sibling_or_token()?;
+/// Each move once, from each child of the root.
+fn each_move(tree: &Tree) -> Result<u64, Fault> {
+    let mut sum: u64 = 0;
+    for element in tree.root.children_with_tokens() {
+        sum = sum.wrapping_add(each_move_from(&element?)?);
     }
-    Ok(elements)
+    Ok(sum)
 }
 
-/// From the root to the first child of it, and on as deep as that goes.
-fn first_child(tree: &Tree) -> Result<u64, Fault> {
-    let mut next = tree.root.first_child()?;
-    let mut nodes: u64 = 0;
-    for _ in 0..u64::MAX {
-        let Some(node) = next else {
-            break;
-        };
-        nodes = nodes.wrapping_add(1);
-        next = node.first_child()?;
+/// Each move once, from an element.
+fn each_move_from(element: &Element) -> Result<u64, Fault> {
+    let mut sum: u64 = 0;
+    for way in MOVES {
+        if let Some(found) = typed::target(way, element)? {
+            sum = sum.wrapping_add(found.index() as u64);
+        }
     }
-    Ok(nodes)
-}
-
-fn last_child(tree: &Tree) -> Result<u64, Fault> {
-    let mut next = tree.root.last_child()?;
-    let mut nodes: u64 = 0;
-    for _ in 0..u64::MAX {
-        let Some(node) = next else {
-            break;
-        };
-        nodes = nodes.wrapping_add(1);
-        next = node.last_child()?;
-    }
-    Ok(nodes)
+    Ok(sum)
 }
 
 /// The root, from the last token.

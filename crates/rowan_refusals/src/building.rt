@@ -1,10 +1,9 @@
 //! Trees that are built call by call.
 
 use crate::calls::{Call, Way};
-use crate::shape::Shape;
-use crate::transcript::{Stop, Transcript};
 use rowan::builder::CacheHome;
 use rowan::{Checkpoint, Fault, GreenNode, GreenNodeBuilder, NodeCache};
+use rowan_transcript::{Shape, Stop, Transcript};
 
 /// Makes the calls, one after the other. One that is refused for memory is made once more.
 pub fn make_all<H: CacheHome>(

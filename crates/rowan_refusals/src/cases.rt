@@ -4,13 +4,12 @@ use crate::calls::Call::{Finish, Start};
 use crate::calls::Way;
 use crate::edits::{Edit, Source};
 use crate::making::Make;
-use crate::moving::{Listing, Move};
+use crate::moving::Listing;
 use crate::searches::Search;
 use crate::sessions::Playing;
 use crate::step::{Case, Step};
 use crate::texts::{Question, Slice};
 use crate::traces::Stride;
-use crate::transcript::Phase;
 use crate::trees::{
     A, AMONG_TOKENS, AROUND_EMPTY, AROUND_EMPTY_TOKEN, ATOM, ATOM_B, ATOM_SEVEN, B, BEFORE, IN_ONE,
     IN_THREE, LIST_AND_TOKEN, LIST_BEFORE_ATOM, LIST_BETWEEN, LIST_FIRST, MATH, PAST, PAST_ASCII,
@@ -19,6 +18,8 @@ use crate::trees::{
 use crate::walks::Walk;
 use crate::walks::WalkCall::{Next, Skip};
 use rowan::Direction;
+use rowan_moves::Move;
+use rowan_transcript::Phase;
 
 pub const SUM: &str = "(+ (* 15 2) 62)";
 
@@ -153,10 +154,10 @@ pub const CASES: [Case; 43] = [
             MOVING,
             Step::GoToRoot(0),
             Step::List(Listing::ChildrenWithTokens),
-            Step::Look(Move::ElementAt(&[3, 0])),
-            Step::Look(Move::ElementAt(&[])),
-            Step::Look(Move::ElementAt(&[4])),
-            Step::Look(Move::ElementAt(&[0, 0])),
+            Step::LookAt(&[3, 0]),
+            Step::LookAt(&[]),
+            Step::LookAt(&[4]),
+            Step::LookAt(&[0, 0]),
             Step::Go(Move::FirstToken),
             Step::List(Listing::SiblingsWithTokens(Direction::Next)),
             Step::Go(Move::Parent),
@@ -503,7 +504,7 @@ pub const CASES: [Case; 43] = [
             Step::GoToRoot(0),
             Step::Make(Make::Line),
             Step::Make(Make::Json),
-            Step::Go(Move::ElementAt(&[0, 3])),
+            Step::GoTo(&[0, 3]),
             Step::Make(Make::Line),
             Step::Make(Make::Json),
             Step::Make(Make::JsonText),
@@ -522,7 +523,7 @@ pub const CASES: [Case; 43] = [
             Step::Make(Make::Printed),
             Step::GoToRoot(0),
             Step::Make(Make::Json),
-            Step::Go(Move::ElementAt(&[0, 1])),
+            Step::GoTo(&[0, 1]),
             Step::Make(Make::Line),
             Step::Make(Make::Json),
             Step::Go(Move::NextSiblingOrToken),
@@ -540,7 +541,7 @@ pub const CASES: [Case; 43] = [
             Step::Make(Make::Syntax),
             MOVING,
             Step::GoToRoot(0),
-            Step::Go(Move::ElementAt(&[0, 3, 3, 0])),
+            Step::GoTo(&[0, 3, 3, 0]),
             MAKING,
             Step::Make(Make::Token(WORD, "7")),
             Step::Make(Make::Replaced),
@@ -571,12 +572,12 @@ pub const CASES: [Case; 43] = [
             Step::Make(Make::Token(WORD, "b")),
             MOVING,
             Step::GoToRoot(0),
-            Step::Go(Move::ElementAt(&NEST_TOKEN)),
+            Step::GoTo(&NEST_TOKEN),
             MAKING,
             Step::Make(Make::Replaced),
             MOVING,
             Step::GoToRoot(0),
-            Step::Go(Move::ElementAt(&NEST_ATOM)),
+            Step::GoTo(&NEST_ATOM),
             MAKING,
             Step::Make(Make::Tree(&ATOM_B)),
             Step::Make(Make::Replaced),
@@ -671,7 +672,7 @@ pub const CASES: [Case; 43] = [
             Step::Look(Move::TreeTop),
             Step::Look(Move::FirstChildOrToken),
             Step::Look(Move::LastChildOrToken),
-            Step::Go(Move::ElementAt(&[0, 3])),
+            Step::GoTo(&[0, 3]),
             Step::Look(Move::PrevSibling),
             Step::Look(Move::NextSiblingOrToken),
             Step::Go(Move::LastToken),
@@ -691,7 +692,7 @@ pub const CASES: [Case; 43] = [
             Step::TypedMoves,
             Step::TypedSearch(Search::TokensAt(3)),
             Step::TypedSearch(Search::Covering(6, 9)),
-            Step::Go(Move::ElementAt(&[0, 3])),
+            Step::GoTo(&[0, 3]),
             Step::TypedMoves,
             Step::TypedSearch(Search::ChildAt(6, 8)),
             Step::Conversions,
@@ -717,7 +718,7 @@ pub const CASES: [Case; 43] = [
             Step::GoToRoot(0),
             Step::Pointer(6, 8, 1),
             Step::Wrappers,
-            Step::Go(Move::ElementAt(&[0, 3])),
+            Step::GoTo(&[0, 3]),
             Step::Pointer(6, 8, 1),
             Step::Wrappers,
             MAKING,

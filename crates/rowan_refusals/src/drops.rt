@@ -3,9 +3,8 @@
 use crate::building::make_all;
 use crate::calls::Call::{self, Finish, Start, Token};
 use crate::calls::{Way, tree_of};
-use crate::parses::ask;
-use crate::transcript::{Phase, Stop, Transcript};
 use rowan::{Fault, GreenNode, GreenNodeBuilder, SyntaxKind};
+use rowan_transcript::{Phase, Stop, Transcript, ask};
 use std::alloc::Global;
 
 /// How many nodes a parent has: more than a list has room for at first.

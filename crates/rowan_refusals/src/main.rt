@@ -13,36 +13,28 @@ mod cases;
 mod drops;
 mod edits;
 mod making;
-mod many_edits;
 mod moving;
-mod parses;
 mod pointers;
 mod refs;
 mod reparses;
 mod searches;
 mod sessions;
-mod shape;
 mod state;
 mod step;
 mod texts;
 mod traces;
-mod transcript;
 mod trees;
 mod typed;
-mod typed_edits;
 mod typed_refs;
 mod walks;
 
 use cases::CASES;
 use drops::run_drops;
-use many_edits::run_edits;
-use parses::run_parses;
 use reparses::REPARSES;
+use rowan_transcript::{Phase, Stop, Transcript};
 use state::State;
 use std::process::ExitCode;
 use step::Case;
-use transcript::{Phase, Stop, Transcript};
-use typed_edits::run_typed_edits;
 
 fn main(rt: HostRuntime) -> ExitCode {
     match run_cases(&Transcript::new(&rt)) {
@@ -55,13 +47,16 @@ fn main(rt: HostRuntime) -> ExitCode {
 }
 
 fn run_cases(log: &Transcript<'_>) -> Result<(), Stop> {
-    for case in CASES.into_iter().chain(REPARSES) {
-        run_case(log, case)?;
-    }
-    run_parses(log)?;
-    run_edits(log)?;
-    run_typed_edits(log)?;
+    run_each(log, CASES.as_slice())?;
+    run_each(log, REPARSES.as_slice())?;
     run_drops(log)
+}
+
+fn run_each(log: &Transcript<'_>, cases: &[Case]) -> Result<(), Stop> {
+    for case in cases {
+        run_case(log, *case)?;
+    }
+    Ok(())
 }
 
 fn run_case(log: &Transcript<'_>, case: Case) -> Result<(), Stop> {

@@ -2,12 +2,11 @@
 
 use crate::calls::Call;
 use crate::edits::{Edit, Source};
-use crate::shape::Shape;
 use crate::traces::Stride;
-use crate::transcript::{Stop, Transcript};
 use rowan::cursor::SyntaxNode;
 use rowan::{GreenNode, GreenToken};
 use rowan_tool::sexp::{Lang, Parse};
+use rowan_transcript::{Shape, Stop, Transcript};
 use serde_json::Value;
 
 /// What is to be made. The tree, the token, the parse and so on is the last one that was made.

@@ -1,105 +1,12 @@
-//! Moves of cursors, and lists of what is around them.
+//! Lists of what is around cursors, and how two of them are alike.
 ghost use Rattle.std.specs.Iterator.{IsFinite};
 
 use crate::refs;
-use crate::transcript::{Stop, Transcript};
 use rowan::cursor::{ElementCalls, SyntaxElement, SyntaxNode, SyntaxToken};
-use rowan::script::element_at;
 use rowan::{Direction, Fault, NodeOrToken};
+use rowan_transcript::{Stop, Transcript};
 use std::fmt::Debug;
 use std::hash::{DefaultHasher, Hash, Hasher};
-
-/// A move from an element to another one.
-#[derive(Clone, Copy)]
-pub enum Move {
-    TreeTop,
-    Parent,
-    FirstChild,
-    LastChild,
-    FirstChildOrToken,
-    LastChildOrToken,
-    NextSibling,
-    PrevSibling,
-    NextSiblingOrToken,
-    PrevSiblingOrToken,
-    FirstToken,
-    LastToken,
-    NextToken,
-    PrevToken,
-    ElementAt(&'static [usize]),
-}
-
-impl Move {
-    /// The name of the call.
-    pub fn name(self) -> &'static str {
-        match self {
-            Move::TreeTop => "tree_top",
-            Move::Parent => "parent",
-            Move::FirstChild => "first_child",
-            Move::LastChild => "last_child",
-            Move::FirstChildOrToken => "first_child_or_token",
-            Move::LastChildOrToken => "last_child_or_token",
-            Move::NextSibling => "next_sibling",
-            Move::PrevSibling => "prev_sibling",
-            Move::NextSiblingOrToken => "next_sibling_or_token",
-            Move::PrevSiblingOrToken => "prev_sibling_or_token",
-            Move::FirstToken => "first_token",
-            Move::LastToken => "last_token",
-            Move::NextToken => "next_token",
-            Move::PrevToken => "prev_token",
-            Move::ElementAt(_) => "element_at",
-        }
-    }
-
-    /// Where the move leads. It leads nowhere from an element that has no such call.
-    pub fn make(self, from: &SyntaxElement) -> Result<Option<SyntaxElement>, Fault> {
-        match from {
-            NodeOrToken::Node(node) => self.at_node(node),
-            NodeOrToken::Token(token) => self.at_token(token),
-        }
-    }
-
-    fn at_node(self, node: &SyntaxNode) -> Result<Option<SyntaxElement>, Fault> {
-        match self {
-            Move::TreeTop => Ok(Some(NodeOrToken::Node(node.tree_top()?))),
-            Move::Parent => Ok(as_node(node.parent()?)),
-            Move::FirstChild => Ok(as_node(node.first_child()?)),
-            Move::LastChild => Ok(as_node(node.last_child()?)),
-            Move::FirstChildOrToken => node.first_child_or_token(),
-            Move::LastChildOrToken => node.last_child_or_token(),
-            Move::NextSibling => Ok(as_node(node.next_sibling()?)),
-            Move::PrevSibling => Ok(as_node(node.prev_sibling()?)),
-            Move::NextSiblingOrToken => node.next_sibling_or_token(),
-            Move::PrevSiblingOrToken => node.prev_sibling_or_token(),
-            Move::FirstToken => Ok(as_token(node.first_token()?)),
-            Move::LastToken => Ok(as_token(node.last_token()?)),
-            Move::ElementAt(path) => element_at(node, path),
-            Move::NextToken | Move::PrevToken => Ok(None),
-        }
-    }
-
-    fn at_token(self, token: &SyntaxToken) -> Result<Option<SyntaxElement>, Fault> {
-        match self {
-            Move::TreeTop => Ok(Some(NodeOrToken::Node(token.tree_top()?))),
-            Move::Parent => Ok(as_node(token.parent()?)),
-            Move::NextSiblingOrToken => token.next_sibling_or_token(),
-            Move::PrevSiblingOrToken => token.prev_sibling_or_token(),
-            Move::NextToken => Ok(as_token(token.next_token()?)),
-            Move::PrevToken => Ok(as_token(token.prev_token()?)),
-            _ => Ok(None),
-        }
-    }
-}
-
-/// A node that was found, as an element.
-pub fn as_node(node: Option<SyntaxNode>) -> Option<SyntaxElement> {
-    node.map(NodeOrToken::Node)
-}
-
-/// A token that was found, as an element.
-pub fn as_token(token: Option<SyntaxToken>) -> Option<SyntaxElement> {
-    token.map(NodeOrToken::Token)
-}
 
 /// A list of elements, in order.
 #[derive(Clone, Copy)]

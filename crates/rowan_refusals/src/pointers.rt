@@ -1,9 +1,9 @@
 //! Pointers to nodes, and wrappers of nodes. None of these calls asks for memory.
 
-use crate::transcript::{Stop, Transcript};
 use rowan::ast::{AstChildren, AstNode, AstPtr, SyntaxNodePtr, support};
 use rowan::{Steps, SyntaxNode, SyntaxNodeRef, TextRange, TextSize};
 use rowan_tool::sexp::{Atom, Lang, List, Root, Sexp, SyntaxKind};
+use rowan_transcript::{Stop, Transcript};
 
 /// Says where the pointer to a node leads, and where it is once so many bytes stand in place of a
 /// range of the text.
@@ -15,15 +15,32 @@ pub fn tell_pointer(
 ) -> Result<(), Stop> {
     let root = node.tree_top()?;
     let pointer = SyntaxNodePtr::new(node);
-    log.tell("pointer", &pointer)?;
-    log.tell("try_to_node", &pointer.try_to_node(&root))?;
-    log.tell("to_node", &pointer.to_node(&root))?;
-    log.tell("to_node from the node", &pointer.to_node(node))?;
+    tell_pointer_in(log, &root, node, &pointer)?;
     log.tell("after_edit", &pointer.after_edit(replaced, new_len))?;
-    let mut steps = Steps::new();
-    let found = pointer.try_to_node_counted(&root, &mut steps)?;
-    log.tell("visits", &(found.is_some(), steps.visits()))?;
+    tell_visits(log, &root, &pointer)?;
     tell_pointer_of_ref(log, node.as_ref())
+}
+
+fn tell_pointer_in(
+    log: &Transcript<'_>,
+    root: &SyntaxNode<Lang>,
+    node: &SyntaxNode<Lang>,
+    pointer: &SyntaxNodePtr<Lang>,
+) -> Result<(), Stop> {
+    log.tell("pointer", pointer)?;
+    log.tell("try_to_node", &pointer.try_to_node(root))?;
+    log.tell("to_node", &pointer.to_node(root))?;
+    log.tell("to_node from the node", &pointer.to_node(node))
+}
+
+fn tell_visits(
+    log: &Transcript<'_>,
+    root: &SyntaxNode<Lang>,
+    pointer: &SyntaxNodePtr<Lang>,
+) -> Result<(), Stop> {
+    let mut steps = Steps::new();
+    let found = pointer.try_to_node_counted(root, &mut steps)?;
+    log.tell("visits", &(found.is_some(), steps.visits()))
 }
 
 /// Says where the pointer to a borrowed node leads.

@@ -1,14 +1,13 @@
 //! The calls of borrowed cursors, none of which asks for memory.
 ghost use Rattle.std.specs.Iterator.{IsFinite};
 
-use crate::moving::{Listing, Move, hash_of};
+use crate::moving::{Listing, hash_of};
 use crate::searches::{Search, range};
-use crate::transcript::{Stop, Transcript};
 use crate::walks::{Walk, WalkCall};
-use rowan::cursor::{
-    ElementRefCalls, SyntaxElement, SyntaxElementRef, SyntaxNodeRef, SyntaxTokenRef,
-};
+use rowan::cursor::{SyntaxElement, SyntaxElementRef, SyntaxNodeRef, SyntaxTokenRef};
 use rowan::{NodeOrToken, Steps, TextSize};
+use rowan_moves::{Move, raw_refs};
+use rowan_transcript::{Stop, Transcript};
 use std::fmt::Debug;
 
 /// The element, borrowed from its tree.
@@ -21,43 +20,16 @@ pub fn borrowed(element: &SyntaxElement) -> SyntaxElementRef<'_> {
 
 /// Says where a move leads.
 pub fn tell_move(log: &Transcript<'_>, way: Move, from: &SyntaxElement) -> Result<(), Stop> {
-    log.tell("by ref", &target(borrowed(from), way))
+    log.tell("by ref", &raw_refs::target(way, borrowed(from)))
 }
 
-fn target<'t>(from: SyntaxElementRef<'t>, way: Move) -> Option<SyntaxElementRef<'t>> {
-    match way {
-        Move::TreeTop => Some(NodeOrToken::Node(from.tree_top())),
-        Move::Parent => as_node(from.parent()),
-        Move::NextSiblingOrToken => from.next_sibling_or_token(),
-        Move::PrevSiblingOrToken => from.prev_sibling_or_token(),
-        _ => match from {
-            NodeOrToken::Node(node) => at_node(way, node),
-            NodeOrToken::Token(token) => at_token(way, token),
-        },
-    }
-}
-
-fn at_node<'t>(way: Move, node: SyntaxNodeRef<'t>) -> Option<SyntaxElementRef<'t>> {
-    match way {
-        Move::FirstChild => as_node(node.first_child()),
-        Move::LastChild => as_node(node.last_child()),
-        Move::FirstChildOrToken => node.first_child_or_token(),
-        Move::LastChildOrToken => node.last_child_or_token(),
-        Move::NextSibling => as_node(node.next_sibling()),
-        Move::PrevSibling => as_node(node.prev_sibling()),
-        Move::FirstToken => as_token(node.first_token()),
-        Move::LastToken => as_token(node.last_token()),
-        Move::ElementAt(path) => element_at(node, path),
-        _ => None,
-    }
-}
-
-fn at_token<'t>(way: Move, token: SyntaxTokenRef<'t>) -> Option<SyntaxElementRef<'t>> {
-    match way {
-        Move::NextToken => as_token(token.next_token()),
-        Move::PrevToken => as_token(token.prev_token()),
-        _ => None,
-    }
+/// Says what is at a path of indexes of children, from a node.
+pub fn tell_element_at(
+    log: &Transcript<'_>,
+    from: SyntaxNodeRef<'_>,
+    path: &[usize],
+) -> Result<(), Stop> {
+    log.tell("by ref", &element_at(from, path))
 }
 
 fn element_at<'t>(node: SyntaxNodeRef<'t>, path: &[usize]) -> Option<SyntaxElementRef<'t>> {
@@ -69,14 +41,6 @@ fn element_at<'t>(node: SyntaxNodeRef<'t>, path: &[usize]) -> Option<SyntaxEleme
         };
     }
     Some(here)
-}
-
-fn as_node<'t>(found: Option<SyntaxNodeRef<'t>>) -> Option<SyntaxElementRef<'t>> {
-    Some(NodeOrToken::Node(found?))
-}
-
-fn as_token<'t>(found: Option<SyntaxTokenRef<'t>>) -> Option<SyntaxElementRef<'t>> {
-    Some(NodeOrToken::Token(found?))
 }
 
 /// Says which elements a list has.

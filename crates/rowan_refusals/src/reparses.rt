@@ -2,8 +2,8 @@
 
 use crate::cases::{MAKING, MOVING, SUM};
 use crate::making::Make;
-use crate::moving::Move;
 use crate::step::{Case, Step};
+use rowan_moves::Move;
 
 pub const REPARSES: [Case; 7] = [
     Case {
@@ -13,7 +13,7 @@ pub const REPARSES: [Case; 7] = [
             Step::Make(Make::Root),
             MOVING,
             Step::GoToRoot(0),
-            Step::Go(Move::ElementAt(&[0, 3])),
+            Step::GoTo(&[0, 3]),
             Step::NotOneList("(* 7"),
             Step::NotOneList("(a) (b)"),
             MAKING,
@@ -45,7 +45,7 @@ pub const REPARSES: [Case; 7] = [
             Step::Make(Make::Root),
             MOVING,
             Step::GoToRoot(0),
-            Step::Go(Move::ElementAt(&[0, 3])),
+            Step::GoTo(&[0, 3]),
             MAKING,
             Step::Make(Make::Reparsed("()")),
             Step::Make(Make::Parsed("(+ () 62)")),
@@ -53,7 +53,7 @@ pub const REPARSES: [Case; 7] = [
             Step::Make(Make::Root),
             MOVING,
             Step::GoToRoot(1),
-            Step::Go(Move::ElementAt(&[0, 3])),
+            Step::GoTo(&[0, 3]),
             MAKING,
             Step::Make(Make::Reparsed("(* 15 2)")),
             Step::Make(Make::Parsed(SUM)),
@@ -67,7 +67,7 @@ pub const REPARSES: [Case; 7] = [
             Step::Make(Make::Root),
             MOVING,
             Step::GoToRoot(0),
-            Step::Go(Move::ElementAt(&[0, 3])),
+            Step::GoTo(&[0, 3]),
             MAKING,
             Step::Make(Make::Reparsed("(c)")),
             Step::Make(Make::Parsed("(a (c)")),

@@ -1,10 +1,10 @@
 //! Searches by place, in green nodes and from cursors.
 
-use crate::transcript::{Stop, Transcript};
 use crate::{refs, typed_refs};
 use rowan::cursor::{SyntaxElement, SyntaxNode};
 use rowan::{Fault, GreenNode, NodeOrToken, Steps, TextRange, TextSize};
 use rowan_tool::sexp::Lang;
+use rowan_transcript::{Stop, Transcript};
 
 type TypedNode = rowan::SyntaxNode<Lang>;
 

@@ -1,11 +1,10 @@
 //! Sessions of builder calls and steps, of which a single call may be refused.
 
 use crate::calls::Call;
-use crate::shape::Shape;
-use crate::transcript::{Part, Stop, Transcript};
 use rowan::cursor::SyntaxNode;
 use rowan::script::{self, Outcome, Report, Session, Step, replay, session, trace};
 use rowan::{Fault, GreenNode, GreenNodeBuilder, NodeCache};
+use rowan_transcript::{Part, Shape, Stop, Transcript};
 use std::alloc::Global;
 
 /// How the calls are made, and then two steps from the root of their tree: to its first token, and

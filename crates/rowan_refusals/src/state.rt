@@ -4,25 +4,26 @@ use crate::building::{build, build_on, build_over};
 use crate::calls::{Call, script_of, tree_of};
 use crate::edits::{Edit, leaf};
 use crate::making::{Made, Make};
-use crate::moving::{Move, compare, hash_of};
+use crate::moving::{compare, hash_of};
 use crate::pointers::{tell_pointer, tell_wrappers};
 use crate::searches::{index_at, range, tell_lengths};
 use crate::sessions::{Playing, tell_session};
-use crate::shape::Shape;
 use crate::step::Step;
 use crate::texts::Slice;
 use crate::traces::{Stride, tell_trace};
-use crate::transcript::{Stop, Transcript};
 use crate::typed::{tell_conversions, tell_moves};
 use crate::walks::{tell_clones, tell_typed};
 use crate::{refs, typed_refs};
 use rowan::ast::AstNode;
 use rowan::cursor::{SyntaxElement, SyntaxNode};
+use rowan::script::element_at;
 use rowan::{
     Fault, GreenNode, GreenToken, NodeCache, NodeOrToken, SyntaxKind, SyntaxText, TextRange,
     TextSize, TypedElementCalls, script,
 };
+use rowan_moves::{Move, raw};
 use rowan_tool::sexp::{Lang, List, Parse, lex, parse, parse_with, reparse_all, reparse_list};
+use rowan_transcript::{Shape, Stop, Transcript};
 use serde_json::Value;
 use std::alloc::Global;
 
@@ -79,6 +80,8 @@ impl State {
             }
             Step::Look(way) => self.look(log, way),
             Step::Go(way) => self.go(log, way),
+            Step::LookAt(path) => self.look_at(log, path),
+            Step::GoTo(path) => self.go_to(log, path),
             Step::GoToRoot(number) => self.go_to_root(log, number),
             Step::Text => self.read(log),
             Step::Slice(slice) => self.cut(log, slice),
@@ -410,8 +413,23 @@ impl State {
 
     /// Says where a move leads.
     fn look(&self, log: &Transcript<'_>, way: Move) -> Result<(), Stop> {
-        log.tell(way.name(), &way.make(self.place()?))?;
+        log.tell(way.name(), &raw::target(way, self.place()?))?;
         refs::tell_move(log, way, self.place()?)
+    }
+
+    /// Says what is at a path of indexes of children.
+    fn look_at(&self, log: &Transcript<'_>, path: &[usize]) -> Result<(), Stop> {
+        let node = self.node_here()?;
+        log.tell("element_at", &element_at(node, path))?;
+        refs::tell_element_at(log, node.as_ref(), path)
+    }
+
+    /// Goes there.
+    fn go_to(&mut self, log: &Transcript<'_>, path: &[usize]) -> Result<(), Stop> {
+        let found = element_at(self.node_here()?, path)?.ok_or(Fault::NotFound)?;
+        log.tell("element_at", &found)?;
+        self.place = Some(found);
+        Ok(())
     }
 
     /// Goes where a move leads.
@@ -459,7 +477,7 @@ impl State {
 
     /// Where a move from the place leads.
     fn target_of(&self, way: Move) -> Result<SyntaxElement, Fault> {
-        way.make(self.place()?)?.ok_or(Fault::NotFound)
+        raw::target(way, self.place()?)?.ok_or(Fault::NotFound)
     }
 
     /// The cursor of that number of all that were made.

@@ -2,13 +2,14 @@
 
 use crate::calls::{Call, Way};
 use crate::making::Make;
-use crate::moving::{Listing, Move};
+use crate::moving::Listing;
 use crate::searches::Search;
 use crate::sessions::Playing;
 use crate::texts::{Question, Slice};
 use crate::traces::Stride;
-use crate::transcript::Phase;
 use crate::walks::Walk;
+use rowan_moves::Move;
+use rowan_transcript::Phase;
 
 /// A step of a case. The tree, the parse and so on is the last one that was made; the place is
 /// where the last step went.
@@ -44,6 +45,10 @@ pub enum Step {
     Look(Move),
     /// Goes there.
     Go(Move),
+    /// What is at a path of indexes of children, from the place.
+    LookAt(&'static [usize]),
+    /// Goes there.
+    GoTo(&'static [usize]),
     /// Goes to the cursor of that number, from 0, of all that were made.
     GoToRoot(usize),
     /// The elements around the place.

@@ -2,9 +2,9 @@
 
 use crate::refs::tell_all;
 use crate::searches::range;
-use crate::transcript::{Stop, Transcript};
 use rowan::syntax_text::{SyntaxTextRange, SyntaxTextRef};
 use rowan::{Fault, SyntaxText, TextRange, TextSize};
+use rowan_transcript::{Stop, Transcript};
 
 /// A part of a text, by a range of each kind. Offsets count from the start of the text.
 #[derive(Clone, Copy)]

@@ -1,11 +1,10 @@
 //! Traces of steps, of which a single one may be refused.
 
 use crate::calls::{Call, tree_of};
-use crate::shape::Shape;
-use crate::transcript::{Part, Stop, Transcript};
 use rowan::cursor::SyntaxNode;
 use rowan::script::{Report, Step, trace};
 use rowan::{Fault, GreenToken, SyntaxKind, TextSize};
+use rowan_transcript::{Part, Shape, Stop, Transcript};
 use std::alloc::Global;
 
 /// A step of a trace, as a constant can hold it.

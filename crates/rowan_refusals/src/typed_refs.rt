@@ -1,19 +1,18 @@
 //! The calls of typed cursors that are borrowed, none of which asks for memory.
 
-use crate::moving::{Move, hash_of};
+use crate::moving::hash_of;
 use crate::refs::tell_all;
 use crate::searches::{Search, range};
-use crate::transcript::{Stop, Transcript};
-use crate::typed::MOVES;
+use crate::typed::moves;
 use rowan::{
-    Direction, NodeOrToken, Steps, SyntaxElement, SyntaxElementRef, SyntaxNodeRef, SyntaxTokenRef,
-    TextSize, TypedElementRefCalls,
+    Direction, NodeOrToken, Steps, SyntaxElement, SyntaxElementRef, SyntaxNodeRef, TextSize,
+    TypedElementRefCalls,
 };
+use rowan_moves::typed_refs;
 use rowan_tool::sexp::Lang;
+use rowan_transcript::{Stop, Transcript};
 
 type Node<'t> = SyntaxNodeRef<'t, Lang>;
-
-type Token<'t> = SyntaxTokenRef<'t, Lang>;
 
 type Element<'t> = SyntaxElementRef<'t, Lang>;
 
@@ -28,8 +27,8 @@ pub fn borrowed(element: &SyntaxElement<Lang>) -> Element<'_> {
 /// Says where the moves from an element lead.
 pub fn tell_moves(log: &Transcript<'_>, element: &SyntaxElement<Lang>) -> Result<(), Stop> {
     let element = borrowed(element);
-    for way in MOVES {
-        log.tell("by ref", &target(element, way))?;
+    for way in moves() {
+        log.tell("by ref", &typed_refs::target(*way, element))?;
     }
     tell_all(log, element.ancestors())?;
     tell_beside_parent(log, element)?;
@@ -42,55 +41,13 @@ pub fn tell_moves(log: &Transcript<'_>, element: &SyntaxElement<Lang>) -> Result
 
 /// Says how an element and its parent are alike.
 fn tell_beside_parent(log: &Transcript<'_>, element: Element<'_>) -> Result<(), Stop> {
-    let Some(parent) = as_node(element.parent()) else {
+    let Some(parent) = element.parent() else {
         return Ok(());
     };
+    let parent = NodeOrToken::Node(parent);
     log.tell("by ref, equal", &(element == parent))?;
     let alike = hash_of(&element) == hash_of(&parent);
     log.tell("by ref, hashed equally", &alike)
-}
-
-fn target<'t>(from: Element<'t>, way: Move) -> Option<Element<'t>> {
-    match way {
-        Move::TreeTop => Some(NodeOrToken::Node(from.tree_top())),
-        Move::Parent => as_node(from.parent()),
-        Move::NextSiblingOrToken => from.next_sibling_or_token(),
-        Move::PrevSiblingOrToken => from.prev_sibling_or_token(),
-        _ => match from {
-            NodeOrToken::Node(node) => at_node(way, node),
-            NodeOrToken::Token(token) => at_token(way, token),
-        },
-    }
-}
-
-fn at_node<'t>(way: Move, node: Node<'t>) -> Option<Element<'t>> {
-    match way {
-        Move::FirstChild => as_node(node.first_child()),
-        Move::LastChild => as_node(node.last_child()),
-        Move::FirstChildOrToken => node.first_child_or_token(),
-        Move::LastChildOrToken => node.last_child_or_token(),
-        Move::NextSibling => as_node(node.next_sibling()),
-        Move::PrevSibling => as_node(node.prev_sibling()),
-        Move::FirstToken => as_token(node.first_token()),
-        Move::LastToken => as_token(node.last_token()),
-        _ => None,
-    }
-}
-
-fn at_token<'t>(way: Move, token: Token<'t>) -> Option<Element<'t>> {
-    match way {
-        Move::NextToken => as_token(token.next_token()),
-        Move::PrevToken => as_token(token.prev_token()),
-        _ => None,
-    }
-}
-
-fn as_node<'t>(found: Option<Node<'t>>) -> Option<Element<'t>> {
-    Some(NodeOrToken::Node(found?))
-}
-
-fn as_token<'t>(found: Option<Token<'t>>) -> Option<Element<'t>> {
-    Some(NodeOrToken::Token(found?))
 }
 
 /// Says what the iterators at a node give, and the walks after a skip behind their second event.
@@ -103,6 +60,10 @@ pub fn tell_lists(log: &Transcript<'_>, node: Node<'_>) -> Result<(), Stop> {
     tell_all(log, node.siblings_with_tokens(Direction::Next))?;
     tell_all(log, node.descendants())?;
     tell_all(log, node.descendants_with_tokens())?;
+    tell_walks(log, node)
+}
+
+fn tell_walks(log: &Transcript<'_>, node: Node<'_>) -> Result<(), Stop> {
     let mut walk = node.preorder();
     log.tell("by ref", &(walk.next(), walk.next()))?;
     walk.skip_subtree();

@@ -1,11 +1,11 @@
 //! Walks, call by call, and clones of iterators.
 
 use crate::moving::tell_each;
-use crate::transcript::{Stop, Transcript};
 use crate::{refs, typed_refs};
 use rowan::cursor::{SyntaxElement, SyntaxNode};
 use rowan::{Direction, Fault, NodeOrToken};
 use rowan_tool::sexp::Lang;
+use rowan_transcript::{Stop, Transcript};
 
 /// A call of a walk.
 #[derive(Clone, Copy)]
@@ -111,6 +111,14 @@ fn tell_clones_of_walks(log: &Transcript<'_>, node: &SyntaxNode) -> Result<(), S
 /// Says what the typed iterators at a node give, each to its end, and the walks after a skip behind
 /// their second event.
 pub fn tell_typed(log: &Transcript<'_>, node: &rowan::SyntaxNode<Lang>) -> Result<(), Stop> {
+    tell_typed_around(log, node)?;
+    tell_typed_below(log, node)?;
+    tell_typed_walk(log, node)?;
+    tell_typed_walk_with_tokens(log, node)?;
+    typed_refs::tell_lists(log, node.as_ref())
+}
+
+fn tell_typed_around(log: &Transcript<'_>, node: &rowan::SyntaxNode<Lang>) -> Result<(), Stop> {
     tell_each(log, "child", node.children())?;
     tell_each(log, "child_with_tokens", node.children_with_tokens())?;
     tell_each(log, "ancestor", node.ancestors())?;
@@ -119,22 +127,33 @@ pub fn tell_typed(log: &Transcript<'_>, node: &rowan::SyntaxNode<Lang>) -> Resul
         log,
         "sibling_with_tokens",
         node.siblings_with_tokens(Direction::Next),
-    )?;
+    )
+}
+
+fn tell_typed_below(log: &Transcript<'_>, node: &rowan::SyntaxNode<Lang>) -> Result<(), Stop> {
     tell_each(log, "descendant", node.descendants())?;
     tell_each(
         log,
         "descendant_with_tokens",
         node.descendants_with_tokens(),
-    )?;
+    )
+}
+
+fn tell_typed_walk(log: &Transcript<'_>, node: &rowan::SyntaxNode<Lang>) -> Result<(), Stop> {
     let mut walk = node.preorder();
     log.tell("next", &walk.next())?;
     log.tell("next", &walk.next())?;
     walk.skip_subtree();
-    tell_each(log, "rest", walk)?;
+    tell_each(log, "rest", walk)
+}
+
+fn tell_typed_walk_with_tokens(
+    log: &Transcript<'_>,
+    node: &rowan::SyntaxNode<Lang>,
+) -> Result<(), Stop> {
     let mut walk = node.preorder_with_tokens();
     log.tell("next", &walk.next())?;
     log.tell("next", &walk.next())?;
     walk.skip_subtree();
-    tell_each(log, "rest", walk)?;
-    typed_refs::tell_lists(log, node.as_ref())
+    tell_each(log, "rest", walk)
 }

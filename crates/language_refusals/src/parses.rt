@@ -1,12 +1,11 @@
 //! Cases of parses by events, of their errors and of lines.
 
-use crate::shape::Shape;
-use crate::transcript::{Phase, Stop, Transcript};
 use json_syntax::{Json, Options, parse_with_options};
 use little_syntax::{Little, LittleParser};
 use rowan::{Fault, Language, SyntaxNode, TextSize};
 use rowan_parser::{LineColumn, LineIndex, Parse, render_up_to};
 use rowan_predictive::{Rule, conflicts_of};
+use rowan_transcript::{Phase, Shape, Stop, Transcript, ask};
 use script_syntax::Script;
 use std::alloc::Global;
 
@@ -180,24 +179,6 @@ fn make<L: Language>(log: &Transcript<'_>, case: ParseCase) -> Result<Made<L>, S
         root,
         printed,
     })
-}
-
-/// Calls once more where the call is refused for memory, and says what it answers.
-pub fn ask<T: Drop, F: Fn() -> Result<T, Fault>>(
-    log: &Transcript<'_>,
-    name: &str,
-    call: F,
-) -> Result<T, Stop>
-    requires { F.IsAlwaysCallable call }
-{
-    if let Ok(value) = call() {
-        log.tell_answer(name, Ok(()))?;
-        return Ok(value);
-    }
-    log.tell_answer(name, Err(Fault::Memory))?;
-    let value = call()?;
-    log.tell_answer(name, Ok(()))?;
-    Ok(value)
 }
 
 fn tell_place(log: &Transcript<'_>, index: &LineIndex<'_>, offset: u32) -> Result<(), Stop> {

@@ -1,11 +1,9 @@
 //! Cases of edits by typed cursors, and of new elements for them.
 
-use crate::parses::ask;
-use crate::shape::Shape;
-use crate::transcript::{Phase, Stop, Transcript};
 use json_syntax::{Json, Kind};
 use rowan::{Fault, GreenElement, GreenNode, SyntaxNode, SyntaxNodeRef};
 use rowan_edit::{EditError, Edited, Make, Piece, Position, Refusal, SyntaxEditor};
+use rowan_transcript::{Phase, Shape, Stop, Transcript, ask};
 use std::alloc::Global;
 
 /// What is edited.

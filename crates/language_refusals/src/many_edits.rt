@@ -1,19 +1,16 @@
 //! Cases of many edits of one tree in one pass, and of a cursor that costs no table.
 
-use crate::cases::SUM;
-use crate::edits::leaf;
-use crate::parses::ask;
-use crate::searches::range;
-use crate::shape::Shape;
-use crate::transcript::{Phase, Stop, Transcript};
 use rowan::cursor::{SyntaxElement, SyntaxNode};
-use rowan::{Fault, GreenElement, GreenNode, GreenToken, SyntaxKind, TextSize};
+use rowan::{Fault, GreenElement, GreenNode, GreenToken, SyntaxKind, TextRange, TextSize};
 use rowan_edit::{
     Edited, Editor, GreenEditor, Refusal, Rewrite, Rewritten, TreeCursor, rewrite_tokens,
 };
 use rowan_tool::sexp::parse;
+use rowan_transcript::{Phase, Shape, Stop, Transcript, ask};
 use std::alloc::Global;
 use std::ops::Range;
+
+const SUM: &str = "(+ (* 15 2) 62)";
 
 /// What is edited, and the token that is put there.
 #[derive(Drop)]
@@ -53,8 +50,10 @@ fn tell_others(log: &Transcript<'_>, subject: &Subject) -> Result<(Rewritten, Gr
 }
 
 fn tell_moved(log: &Transcript<'_>, edited: &Edited) -> Result<(), Stop> {
-    log.tell("moved", &edited.changes.moved(range(3, 11)?))?;
-    log.tell("moved", &edited.changes.moved(range(12, 14)?))
+    let list = TextRange::new(TextSize::from(3), TextSize::from(11));
+    log.tell("moved", &edited.changes.moved(list))?;
+    let atom = TextRange::new(TextSize::from(12), TextSize::from(14));
+    log.tell("moved", &edited.changes.moved(atom))
 }
 
 fn tell(log: &Transcript<'_>, edited: &Edited) -> Result<(), Stop> {
@@ -96,6 +95,10 @@ fn by_paths(subject: &Subject) -> Result<Edited, Fault> {
 fn put(editor: &mut GreenEditor, subject: &Subject, children: Range<usize>) -> Result<(), Fault> {
     let new = vec![in subject.alloc; leaf(&subject.token)?, leaf(&subject.token)?]?;
     taken(editor.splice(&[0], children, new))
+}
+
+fn leaf(token: &GreenToken) -> Result<GreenElement, Fault> {
+    Ok(GreenElement::from(token.clone()?))
 }
 
 fn taken(answer: Result<(), Refusal>) -> Result<(), Fault> {

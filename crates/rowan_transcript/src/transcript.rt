@@ -1,4 +1,5 @@
-//! What the program prints: a line for each call, with its answer.
+//! The lines: a case, a phase, a value, a call with its answer.
+ghost use Rattle.std.specs.Prelude.{IfOk};
 
 use rowan::Fault;
 use std::alloc::{AllocError, Global};
@@ -29,8 +30,11 @@ impl Display for Phase {
 /// Which part of a trace, a replay or a session was refused for memory.
 #[derive(Clone, Copy, PartialEq)]
 pub enum Part {
+    /// All of it: it answered `Memory`.
     Whole,
+    /// The call of that number, from 0.
     Call(usize),
+    /// The step of that number, from 0.
     Step(usize),
     /// The root of a session's tree, or the room for its reports.
     End,
@@ -144,4 +148,28 @@ impl<'a> Transcript<'a> {
         }
         Ok(())
     }
+}
+
+/// Makes a call, once more where it is refused for memory, and says what it answers. The name of a
+/// call that drops large values, too, ends in `with drops`, for these requests need no answer. That
+/// of a call on TOML's numbers with underscores ends in `with underscores`: where room for their
+/// digits is refused it does without.
+///
+/// Errors: what the call answers the second time; `Unprinted` where a line is not printed.
+pub fn ask<T: Drop, F: Fn() -> Result<T, Fault>>(
+    log: &Transcript<'_>,
+    name: &str,
+    call: F,
+) -> Result<T, Stop>
+    requires { F.IsAlwaysCallable call }
+    ensures made { IfOk result (λ value. F.post call (Ok value)) }
+{
+    if let Ok(value) = call() {
+        log.tell_answer(name, Ok(()))?;
+        return Ok(value);
+    }
+    log.tell_answer(name, Err(Fault::Memory))?;
+    let value = call()?;
+    log.tell_answer(name, Ok(()))?;
+    Ok(value)
 }

@@ -1,7 +1,7 @@
 use Rattle.std.proofs.Common.{Some, ap, ◌∙◌, arith}
 use Rattle.rowan_green.specs.Lent.{pointee}
-use Rattle.rowan_refusals.proofs.Children.{node_size-child}
-use Rattle.rowan_refusals.proofs.shape.+write_node.Goals as goal
+use Rattle.rowan_transcript.proofs.Children.{node_size-child}
+use Rattle.rowan_transcript.proofs.shape.+write_node.Goals as goal
 
 pub write_node-requires : goal.write_node-requires
 write_node-requires g t c κs within =
