@@ -1,11 +1,11 @@
 -- What keys and strings stand for.
-use Rattle.std.specs.Prelude.{◌≡◌, ℕ, List, Some, None, ⊤, if◌then◌else◌, string_bytes}
+use Rattle.std.specs.Prelude.{◌≡◌, ℕ, List, ⊤, if◌then◌else◌, string_bytes}
 use Rattle.std.specs.Option.{option_map_or}
 use Rattle.toml_parser.specs.Strings.{quoted, starts_string}
 use Rattle.toml_values.specs.declared.scalars.Shape.{Shape}
 use Rattle.toml_values.specs.declared.scalars.Shape.TheVariants as shape
 use Rattle.toml_values.specs.declared.strings.Decoded.{Decoded}
-use Rattle.toml_values.specs.declared.strings.Decoded.TheVariants.{Text, Wrong, Open}
+use Rattle.toml_values.specs.declared.strings.Decoded.TheVariants.{Text}
 use Rattle.toml_values.specs.declared.value.Item.{Item}
 use Rattle.toml_values.specs.declared.value.Item.TheVariants as item
 

@@ -1,6 +1,6 @@
 -- Where the parts of headers and of dotted keys lead.
-use Rattle.std.specs.Prelude.{ℕ, List, Option, Some, None, length, ◌-◌, slice_get}
-use Rattle.std.specs.Option.{option_and_then}
+use Rattle.std.specs.Prelude.{ℕ, List, Option, Some, None, length, ◌+◌, ◌-◌, slice_get}
+use Rattle.std.specs.Option.{option_and_then, option_map_or, unwrap_or}
 use Rattle.toml_values.specs.Find.{asked_at, entry_of}
 use Rattle.toml_values.specs.declared.keys.Way.{Way}
 use Rattle.toml_values.specs.declared.keys.Way.TheVariants as way
@@ -26,6 +26,11 @@ on_by_header place _ (Table _) = Some place
 on_by_header place _ (Array elements) = last_of elements.items
 on_by_header place _ _ = None
 
+-- a header may be that of a table that stood only on the way of others
+abbrev pub by_own_header : ℕ → Made → Item → Option ℕ
+by_own_header place made.OnTheWay (Table _) = Some place
+by_own_header place _ _ = None
+
 -- a dotted key goes on from a table that no header made and that is no value
 abbrev pub on_by_dots : ℕ → Made → Item → Option ℕ
 on_by_dots place made.OnTheWay (Table _) = Some place
@@ -43,3 +48,26 @@ part_leads slots on table key = led (asked_at slots (entry_of key) table) where
   led : Option ℕ → Option ℕ
   led (Some place) = goes_on slots on place
   led None = Some (length slots)
+
+-- where a part of a header leads
+abbrev pub header_leads : List Slot → ℕ → List ℕ → Option ℕ
+header_leads slots = part_leads slots on_by_header
+
+-- where a part of a dotted key leads
+abbrev pub dots_lead : List Slot → ℕ → List ℕ → Option ℕ
+dots_lead slots = part_leads slots on_by_dots
+
+-- the place of the value that the table at a place has for a key
+abbrev pub of_key : List Slot → ℕ → List ℕ → Option ℕ
+of_key slots table key = asked_at slots (entry_of key) table
+
+-- the place of the table whose header ends in a key of the table at a place: that of the one which
+-- stood on the way of others, and else a new one behind all values
+abbrev pub header_table : List Slot → ℕ → List ℕ → ℕ
+header_table slots table key =
+    unwrap_or (option_and_then (goes_on slots by_own_header) (of_key slots table key)) (length slots)
+
+-- the place of the element of a header of two brackets: behind all values, and behind the array,
+-- where that is new
+abbrev pub header_element : List Slot → ℕ → List ℕ → ℕ
+header_element slots table key = option_map_or (λ _. length slots) (of_key slots table key) (length slots + 1)

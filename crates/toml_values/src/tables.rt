@@ -1,7 +1,7 @@
 //! Which tables headers and dotted keys make, and which they may not.
-ghost use Rattle.std.specs.Prelude.{◌≡◌, IfOk, length, string_bytes};
-ghost use Rattle.toml_values.specs.Find.{asked_at, entry_of};
-ghost use Rattle.toml_values.specs.Tables.{goes_on, on_by_dots, on_by_header, part_leads, table_of};
+ghost use Rattle.std.specs.Prelude.{◌≡◌, ◌+◌, IfOk, None, Some, cond, is_none, length, string_bytes};
+ghost use Rattle.toml_values.specs.Tables.{by_own_header, dots_lead, goes_on, header_element, header_leads, header_table};
+ghost use Rattle.toml_values.specs.Tables.{of_key, on_by_dots, on_by_header, table_of};
 
 use crate::keys::{KeyPart, Way};
 use crate::problem::{Problem, ProblemKind};
@@ -50,7 +50,11 @@ impl Tables {
     }
 
     /// Whether a key may be added to a table. Where it stands there already, that is noted.
-    pub fn is_free(&mut self, table: usize, key: &KeyPart) -> Result<bool, AllocError> {
+    pub fn is_free(&mut self, table: usize, key: &KeyPart) -> Result<bool, AllocError>
+        ensures answer { IfOk result (λ free.
+            free ≡ is_none (of_key self.old.values.slots.items table (string_bytes key.now.name))) }
+        ensures values { self.new.values ≡ self.old.values }
+    {
         match self.place_of(table, key.name.as_str()) {
             Some(old) => {
                 self.note(ProblemKind::DuplicateKey, key.range, old)?;
@@ -62,8 +66,7 @@ impl Tables {
 
     /// A step of a header to a table that is not its own.
     fn through_header(&mut self, table: usize, part: &KeyPart) -> Result<Option<usize>, AllocError>
-        ensures { IfOk result (λ next.
-            next ≡ part_leads self.old.values.slots.items on_by_header table (string_bytes part.now.name)) }
+        ensures { IfOk result (λ next. next ≡ header_leads self.old.values.slots.items table (string_bytes part.now.name)) }
     {
         let Some(place) = self.place_of(table, part.name.as_str()) else {
             return self.add_way(table, part, Made::OnTheWay).map(Some);
@@ -97,8 +100,7 @@ impl Tables {
 
     /// A step of a dotted key to a table.
     fn through_dotted(&mut self, table: usize, part: &KeyPart) -> Result<Option<usize>, AllocError>
-        ensures { IfOk result (λ next.
-            next ≡ part_leads self.old.values.slots.items on_by_dots table (string_bytes part.now.name)) }
+        ensures { IfOk result (λ next. next ≡ dots_lead self.old.values.slots.items table (string_bytes part.now.name)) }
     {
         let Some(place) = self.place_of(table, part.name.as_str()) else {
             return self.add_way(table, part, Made::Dotted).map(Some);
@@ -140,7 +142,10 @@ impl Tables {
         table: usize,
         last: &KeyPart,
         range: TextRange,
-    ) -> Result<usize, AllocError> {
+    ) -> Result<usize, AllocError>
+        ensures { IfOk result (λ place.
+            place ≡ header_table self.old.values.slots.items table (string_bytes last.now.name)) }
+    {
         let place = match self.place_of(table, last.name.as_str()) {
             None => self.add_table(table, last, Made::Header)?,
             Some(place) => match self.table_problem(place) {
@@ -157,7 +162,9 @@ impl Tables {
     }
 
     /// Why a header can't be that of a value that is there, if it can't.
-    fn table_problem(&self, place: usize) -> Option<ProblemKind> {
+    fn table_problem(&self, place: usize) -> Option<ProblemKind>
+        ensures { cond (is_none result) (Some place) None ≡ goes_on self.now.values.slots.items by_own_header place }
+    {
         let Some(slot) = self.values.slots.get(place) else {
             return Some(ProblemKind::DuplicateKey);
         };
@@ -185,7 +192,10 @@ impl Tables {
         table: usize,
         last: &KeyPart,
         range: TextRange,
-    ) -> Result<usize, AllocError> {
+    ) -> Result<usize, AllocError>
+        ensures { IfOk result (λ place.
+            place ≡ header_element self.old.values.slots.items table (string_bytes last.now.name)) }
+    {
         let array = match self.place_of(table, last.name.as_str()) {
             None => {
                 let item = Item::Array(Vec::new(self.alloc));
@@ -215,7 +225,9 @@ impl Tables {
     }
 
     /// A table that stands in no other one.
-    pub fn nowhere(&mut self, range: TextRange) -> Result<usize, AllocError> {
+    pub fn nowhere(&mut self, range: TextRange) -> Result<usize, AllocError>
+        ensures { IfOk result (λ place. place ≡ length self.old.values.slots.items) }
+    {
         let origin = Origin {
             made: Made::Header,
             key: range,
@@ -248,7 +260,8 @@ impl Tables {
         item: Item,
         made: Made,
     ) -> Result<usize, AllocError>
-        ensures { IfOk result (λ place. place ≡ length self.old.values.slots.items) }
+        ensures place { IfOk result (λ place. place ≡ length self.old.values.slots.items) }
+        ensures count { IfOk result (λ place. length self.new.values.slots.items ≡ place + 1) }
     {
         let range = key.range;
         let name = String::from_str(self.alloc, key.name.as_str())?;
@@ -264,7 +277,8 @@ impl Tables {
         made: Made,
         range: TextRange,
     ) -> Result<usize, AllocError>
-        ensures { IfOk result (λ place. place ≡ length self.old.values.slots.items) }
+        ensures place { IfOk result (λ place. place ≡ length self.old.values.slots.items) }
+        ensures count { IfOk result (λ place. length self.new.values.slots.items ≡ place + 1) }
     {
         let KeyPart { name, range: key } = key;
         let place = self.values.add(item, Origin { made, key, range })?;
@@ -285,7 +299,7 @@ impl Tables {
 
     /// The place of the value of a key in a table.
     fn place_of(&self, table: usize, name: &str) -> Option<usize>
-        ensures { result ≡ asked_at self.now.values.slots.items (entry_of name.now) table }
+        ensures { result ≡ of_key self.now.values.slots.items table name.now }
     {
         match &self.values.slots.get(table)?.item {
             Item::Table(entries) => entries.get(name).copied(),
@@ -294,7 +308,9 @@ impl Tables {
     }
 
     /// Notes what is wrong at a range, and where what is in the way stands.
-    fn note(&mut self, kind: ProblemKind, range: TextRange, old: usize) -> Result<(), AllocError> {
+    fn note(&mut self, kind: ProblemKind, range: TextRange, old: usize) -> Result<(), AllocError>
+        ensures { self.new.values ≡ self.old.values }
+    {
         let first = self.values.slots.get(old).map(key_range);
         self.problems.push(Problem { kind, range, first })?;
         Ok(())

@@ -1,9 +1,10 @@
 //! The values of a document. All of them stand in one list and name each other by their places
 //! there, so that no nesting, however deep, needs a recursion.
-ghost use Rattle.std.specs.Prelude.{◌≡◌, ◌++◌, ◌∷◌, [], IfOk, IfSome, OnOk, length, slice_get};
-ghost use Rattle.std.specs.Option.{option_map};
+ghost use Rattle.std.specs.Prelude.{◌≡◌, ◌++◌, ◌∷◌, [], IfOk, IfSome, None, OnErr, OnOk, Some, length, slice_get, slice_set};
+ghost use Rattle.std.specs.Option.{option_and_then, option_copied, option_map};
 ghost use Rattle.indexmap.specs.IndexMap.{get_by_text};
-ghost use Rattle.toml_values.specs.Shown.{Shows};
+ghost use Rattle.toml_values.specs.Keys.{key_ranges_of, with_key};
+ghost use Rattle.toml_values.specs.Shown.{Shows, as_shown, slot_of};
 
 use indexmap::IndexMap;
 use rowan_green::{TextRange, TextSize};
@@ -127,32 +128,55 @@ impl Values {
     }
 
     /// Adds a value that stands in no other one, and gives its place.
+    ///
+    /// Errors: only when an allocation failed; then no value is added.
     pub fn add(&mut self, item: Item, origin: Origin) -> Result<usize, AllocError>
         ensures place { IfOk result (λ place. place ≡ length self.old.slots.items) }
         ensures added { OnOk result (self.new.slots.items
             ≡ self.old.slots.items ++ record { item = item; origin = origin } ∷ []) }
+        ensures unnamed { OnOk result (self.new.last_keys.items ≡ self.old.last_keys.items ++ None ∷ []) }
+        ensures keys { self.new.keys ≡ self.old.keys }
+        ensures err { OnErr result (self.new.slots.items ≡ self.old.slots.items) }
     {
         let place = self.slots.len();
+        self.last_keys.reserve(1)?;
         self.slots.push(Slot { item, origin })?;
         self.last_keys.push(None)?;
         Ok(place)
     }
 
     /// Notes a part of a key that leads to the value at a place.
+    ///
+    /// Errors: only when an allocation failed; then nothing is noted.
     pub fn add_key(&mut self, place: usize, range: TextRange) -> Result<(), AllocError>
-        ensures { self.new.slots ≡ self.old.slots }
+        ensures slots { self.new.slots ≡ self.old.slots }
+        ensures keys { OnOk result (self.new.keys.items
+            ≡ with_key self.old.keys.items self.old.last_keys.items place range) }
+        ensures last { OnOk result (self.new.last_keys.items
+            ≡ slice_set self.old.last_keys.items place (Some (length self.old.keys.items))) }
+        ensures err { OnErr result (self.new.keys.items ≡ self.old.keys.items) }
     {
         let number = self.keys.len();
         if let Some(last) = self.last_keys.get_mut(place) {
-            let earlier = *last;
+            self.keys.push(Key {
+                range,
+                earlier: *last,
+            })?;
             *last = Some(number);
-            self.keys.push(Key { range, earlier })?;
         }
         Ok(())
     }
 
+    fn key_at(&self, number: Option<usize>) -> Option<&Key>
+        ensures { option_copied result ≡ option_and_then (slice_get self.now.keys.items) number }
+    {
+        self.keys.get(number?)
+    }
+
     /// How many values there are, with the tables and arrays around them.
-    pub fn count(&self) -> usize {
+    pub fn count(&self) -> usize
+        ensures { result ≡ length self.now.slots.items }
+    {
         self.slots.len()
     }
 
@@ -171,7 +195,7 @@ impl Values {
 impl<'a> ValueRef<'a> {
     /// The value.
     pub fn value(self) -> Value<'a>
-        ensures { IfSome (slice_get self.entry.values.now.slots.items self.entry.place) (λ slot. Shows slot.item result) }
+        ensures { IfSome (slot_of self.entry) (λ slot. Shows slot.item result) }
     {
         let values = self.values;
         match values.slots.get(self.place) {
@@ -184,7 +208,7 @@ impl<'a> ValueRef<'a> {
     /// key of the header, and of one that only keys and headers of other tables name the first of
     /// their parts that does. The document's table has an empty range at 0.
     pub fn range(self) -> TextRange
-        ensures { IfSome (slice_get self.entry.values.now.slots.items self.entry.place) (λ slot. result ≡ slot.origin.range) }
+        ensures { IfSome (slot_of self.entry) (λ slot. result ≡ slot.origin.range) }
     {
         match self.values.slots.get(self.place) {
             Some(slot) => slot.origin.range,
@@ -195,7 +219,9 @@ impl<'a> ValueRef<'a> {
 
 impl ValueRef<'_> {
     /// How it was made. The document's table is one with a header.
-    pub fn made(self) -> Made {
+    pub fn made(self) -> Made
+        ensures { IfSome (slot_of self.entry) (λ slot. result ≡ slot.origin.made) }
+    {
         match self.values.slots.get(self.place) {
             Some(slot) => slot.origin.made,
             None => Made::Value,
@@ -203,7 +229,9 @@ impl ValueRef<'_> {
     }
 
     /// Where the last part of its key stands first, in bytes; of an element of an array the element.
-    pub fn key_range(self) -> TextRange {
+    pub fn key_range(self) -> TextRange
+        ensures { IfSome (slot_of self.entry) (λ slot. result ≡ slot.origin.key) }
+    {
         match self.values.slots.get(self.place) {
             Some(slot) => slot.origin.key,
             None => nowhere(),
@@ -214,11 +242,13 @@ impl ValueRef<'_> {
     /// keys of what is in it. The last one in the text comes first.
     ///
     /// Errors: only when an allocation failed.
-    pub fn key_ranges(self, alloc: Global) -> Result<Vec<TextRange>, AllocError> {
+    pub fn key_ranges(self, alloc: Global) -> Result<Vec<TextRange>, AllocError>
+        ensures { IfOk result (λ ranges. ranges.items ≡ key_ranges_of self.entry) }
+    {
         let mut ranges = Vec::new(alloc);
         let mut next = self.values.last_keys.get(self.place).copied().flatten();
-        for _key in 0..self.values.keys.len() {
-            let Some(key) = next.and_then(|number| self.values.keys.get(number)) else {
+        for _turn in self.values.keys.iter() {
+            let Some(key) = self.values.key_at(next) else {
                 break;
             };
             ranges.push(key.range)?;
@@ -247,7 +277,9 @@ fn value_of<'a>(values: &'a Values, item: &'a Item) -> Value<'a>
 
 impl<'a> TableRef<'a> {
     /// How many keys it has.
-    pub fn len(self) -> usize {
+    pub fn len(self) -> usize
+        ensures { result ≡ length self.entry.entries.now.entries }
+    {
         self.entries.len()
     }
 
@@ -268,7 +300,10 @@ impl<'a> TableRef<'a> {
     }
 
     /// The key and the value at a place in the order of the text, the first at 0.
-    pub fn at(self, index: usize) -> Option<(&'a str, ValueRef<'a>)> {
+    pub fn at(self, index: usize) -> Option<(&'a str, ValueRef<'a>)>
+        ensures entry { option_map (λ entry. (entry.0.now, entry.1.place)) result ≡ as_shown self.entry.entries.now.entries index }
+        ensures document { IfSome result (λ entry. entry.1.values.now ≡ self.entry.values.now) }
+    {
         let (key, place) = self.entries.get_index(index)?;
         let value = ValueRef {
             values: self.values,
