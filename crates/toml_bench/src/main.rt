@@ -1,5 +1,7 @@
-//! Measures what is read of TOML. Without arguments it prints how it is called.
+//! Measures what is read of TOML, edited and formatted. Without arguments it prints how it is called.
 #![tactic(auto)]
+
+mod edits;
 
 use anyhow::{Result, bail};
 use rowan::SyntaxNode;
@@ -7,15 +9,20 @@ use std::alloc::Global;
 use std::time::Instant;
 use std::{env, io};
 use toml_document::{Reading, Version, read};
+use toml_format::{Style, format};
 use toml_syntax::{Toml, TomlParser};
 
 const HELP: &str = "\
-usage: toml_bench parse|read|kit TURNS
+usage: toml_bench parse|read|kit|print|fmt|set|sets TURNS
 
 Reads TOML from standard input, and then makes that many turns, in each of which
   parse  the text is parsed by toml_syntax, of which a parser was made before
   read   the same, and toml_document reads the values
   kit    the kit's toml reads the values
+  print  the same as parse, and the text of the tree is made
+  fmt    the text is formatted by toml_format, and the text of the tree is made
+  set    the same as read and print, and between them the key `key0` gets another value
+  sets   the same with a thousand keys, `key0` to `key999`, in one pass
 It prints the time of all turns, and the number of bytes, of values or of keys that the last one
 came to";
 
@@ -43,6 +50,10 @@ fn turn(alloc: Global, parser: &TomlParser, command: &str, text: &str) -> Result
         "parse" => parse(alloc, parser, text),
         "read" => read_values(alloc, parser, text),
         "kit" => Ok(toml::table_from_str(alloc, text)?.len()),
+        "print" => print(alloc, parser, text),
+        "fmt" => print_formatted(alloc, parser, text),
+        "set" => edits::set(alloc, parser, text, 1),
+        "sets" => edits::set(alloc, parser, text, 1_000),
         _ => bail!("there is no such command"),
     }
 }
@@ -59,4 +70,14 @@ fn read_values(alloc: Global, parser: &TomlParser, text: &str) -> Result<usize> 
         problems: _,
     } = read(alloc, root.as_ref(), Version::V1_0)?;
     Ok(values.count())
+}
+
+fn print(alloc: Global, parser: &TomlParser, text: &str) -> Result<usize> {
+    let green = parser.parse(alloc, text)?.green;
+    Ok(green.to_string(alloc)?.len())
+}
+
+fn print_formatted(alloc: Global, parser: &TomlParser, text: &str) -> Result<usize> {
+    let green = format(alloc, parser, text, Style::default())?.green;
+    Ok(green.to_string(alloc)?.len())
 }

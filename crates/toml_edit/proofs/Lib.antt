@@ -1,0 +1,2 @@
+mod HoldingLemmas
+mod ReplacedLemmas
