@@ -66,7 +66,8 @@ impl Tables {
 
     /// A step of a header to a table that is not its own.
     fn through_header(&mut self, table: usize, part: &KeyPart) -> Result<Option<usize>, AllocError>
-        ensures { IfOk result (λ next. next ≡ header_leads self.old.values.slots.items table (string_bytes part.now.name)) }
+        ensures { IfOk result (λ next.
+            next ≡ header_leads self.old.values.slots.items table (string_bytes part.now.name)) }
     {
         let Some(place) = self.place_of(table, part.name.as_str()) else {
             return self.add_way(table, part, Made::OnTheWay).map(Some);
@@ -100,7 +101,8 @@ impl Tables {
 
     /// A step of a dotted key to a table.
     fn through_dotted(&mut self, table: usize, part: &KeyPart) -> Result<Option<usize>, AllocError>
-        ensures { IfOk result (λ next. next ≡ dots_lead self.old.values.slots.items table (string_bytes part.now.name)) }
+        ensures { IfOk result (λ next.
+            next ≡ dots_lead self.old.values.slots.items table (string_bytes part.now.name)) }
     {
         let Some(place) = self.place_of(table, part.name.as_str()) else {
             return self.add_way(table, part, Made::Dotted).map(Some);
@@ -163,7 +165,8 @@ impl Tables {
 
     /// Why a header can't be that of a value that is there, if it can't.
     fn table_problem(&self, place: usize) -> Option<ProblemKind>
-        ensures { cond (is_none result) (Some place) None ≡ goes_on self.now.values.slots.items by_own_header place }
+        ensures { cond (is_none result) (Some place) None
+            ≡ goes_on self.now.values.slots.items by_own_header place }
     {
         let Some(slot) = self.values.slots.get(place) else {
             return Some(ProblemKind::DuplicateKey);

@@ -134,7 +134,8 @@ impl Values {
         ensures place { IfOk result (λ place. place ≡ length self.old.slots.items) }
         ensures added { OnOk result (self.new.slots.items
             ≡ self.old.slots.items ++ record { item = item; origin = origin } ∷ []) }
-        ensures unnamed { OnOk result (self.new.last_keys.items ≡ self.old.last_keys.items ++ None ∷ []) }
+        ensures unnamed { OnOk result (self.new.last_keys.items
+            ≡ self.old.last_keys.items ++ None ∷ []) }
         ensures keys { self.new.keys ≡ self.old.keys }
         ensures err { OnErr result (self.new.slots.items ≡ self.old.slots.items) }
     {
@@ -301,7 +302,8 @@ impl<'a> TableRef<'a> {
 
     /// The key and the value at a place in the order of the text, the first at 0.
     pub fn at(self, index: usize) -> Option<(&'a str, ValueRef<'a>)>
-        ensures entry { option_map (λ entry. (entry.0.now, entry.1.place)) result ≡ as_shown self.entry.entries.now.entries index }
+        ensures entry { option_map (λ entry. (entry.0.now, entry.1.place)) result
+            ≡ as_shown self.entry.entries.now.entries index }
         ensures document { IfSome result (λ entry. entry.1.values.now ≡ self.entry.values.now) }
     {
         let (key, place) = self.entries.get_index(index)?;
